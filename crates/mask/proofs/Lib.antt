@@ -1,0 +1,2 @@
+-- The laws on bit masks, for any width.
+pub mod Laws

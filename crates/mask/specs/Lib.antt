@@ -1,0 +1,2 @@
+-- What a bit mask means.
+pub mod Mask
