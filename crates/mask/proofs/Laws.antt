@@ -3,7 +3,7 @@
 -- Assumes nothing.
 use mathlib.Core.Path.{_≡_, refl, sym, ap, ap₂, _∙_, subst}
 use mathlib.Core.Logic.{_⊎_, inl, inr, ⊎-elim, _≢_}
-use mathlib.Core.Bool.{Bool, true, false, not, cond, _&&_, _||_, xor}
+use mathlib.Core.Bool.{Bool, true, false, not, cond, _&&_, _||_, xor, and-true, and-false, or-false}
 use mathlib.Core.List.{List, [], _∷_}
 use Prim.Native.Nat.{ℕ, zero, suc, _+_, _-_, _*_, _^_, _/_, _%_, _≤_, _<_}
 use native.Mathlib.Nat.{mod-lt, pow-suc, zero-lt-suc, one-mul}
@@ -14,8 +14,8 @@ use lib.Arith.{bin-ind}
 use lib.Pow.{shr-shr, shl-exact, pow-pos}
 use lib.Bits.{bitAnd, bitOr, bitXor, and-shr, or-shr, xor-shr, and-mod, or-mod, xor-mod, and-comm}
 use lib.Count.{ones, ones-step}
-use borrow.Author.Tests.{eqb-true, eqb-false, eq-eqb, ne-eqb, lt-ltb, le-ltb, not-true, not-false}
-use Rattle.mask.specs.Mask.{has, bit, below, without, within, meets, membersFrom, members, count}
+use borrow.Author.Tests.{eqb-true, eqb-false, eq-eqb, ne-eqb, lt-ltb, le-ltb, not-true, not-false, ltb-true, ltb-false}
+use Rattle.mask.specs.Mask.{has, bit, below, without, within, meets, membersFrom, members, count, collect}
 
 -- ---- a mask's lowest bit and its other bits
 
@@ -202,6 +202,30 @@ xor-assoc a b c = has-ext (bitXor (bitXor a b) c) (bitXor a (bitXor b c)) (λ v.
     table false true false = refl
     table false false true = refl
     table false false false = refl
+
+-- ---- the set of those that pass a test
+
+pub has-collect : (f : ℕ → Bool) (n v : ℕ) → has (collect f n) v ≡ (ltb v n && f v)
+unfolding collect
+has-collect f zero v = has-zero v ∙ ap (λ (t : Bool). t && f v) (sym (le-ltb v 0 (omega arith)))
+has-collect f (suc n) v = has-or (collect f n) (cond (f n) (bit n) 0) v ∙ ap₂ (λ (x y : Bool). x || y) (has-collect f n v) (one (f n)) ∙ near (ltb v n) refl
+  where
+    one : (t : Bool) → has (cond t (bit n) 0) v ≡ (t && eqb v n)
+    one true = has-bit n v
+    one false = has-zero v
+    here : (t : Bool) → eqb v n ≡ t → ltb v n ≡ false → (f n && t) ≡ (ltb v (suc n) && f v)
+    here true e h =
+        let v=n : v ≡ n = eqb-true v n e in
+        and-true (f n) ∙ ap f (sym v=n) ∙ ap (λ (t : Bool). t && f v) (sym (lt-ltb v (suc n) (omega arith)))
+    here false e h =
+        let far : (v ≡ n) → ⊥ = eqb-false v n e in
+        let above : n ≤ v = ltb-false v n h in
+        and-false (f n) ∙ ap (λ (t : Bool). t && f v) (sym (le-ltb v (suc n) (omega arith)))
+    near : (t : Bool) → ltb v n ≡ t → (t && f v || (f n && eqb v n)) ≡ (ltb v (suc n) && f v)
+    near true h =
+        let under : v < n = ltb-true v n h in
+        ap (λ (t : Bool). f v || (f n && t)) (ne-eqb v n (omega arith)) ∙ ap (λ (t : Bool). f v || t) (and-false (f n)) ∙ or-false (f v) ∙ ap (λ (t : Bool). t && f v) (sym (lt-ltb v (suc n) (omega arith)))
+    near false h = here (eqb v n) refl h
 
 -- ---- the members in turn, and their number
 

@@ -4,7 +4,7 @@ use mathlib.Core.Bool.{Bool, true, false, not, cond}
 use mathlib.Core.List.{List, [], _∷_}
 use lib.Dec.{eqb}
 use lib.ListN.{length}
-use lib.Bits.{bitAnd, bitXor}
+use lib.Bits.{bitAnd, bitOr, bitXor}
 
 -- v is in m: bit v is set
 unfoldable pub has : ℕ → ℕ → Bool
@@ -38,6 +38,11 @@ membersFrom v (suc k) m = cond (has m v) (v ∷ membersFrom (suc v) k m) (member
 -- the members of m below w, rising
 unfoldable pub members : ℕ → ℕ → List ℕ
 members w m = membersFrom 0 w m
+
+-- the set of those below n that pass a test
+unfoldable pub collect : (ℕ → Bool) → ℕ → ℕ
+collect f zero = 0
+collect f (suc n) = bitOr (collect f n) (cond (f n) (bit n) 0)
 
 -- how many members m has below w
 unfoldable pub count : ℕ → ℕ → ℕ

@@ -59,7 +59,7 @@ pub fn bit64(v: usize) -> u64
     1 << v
 }
 
-pub fn below64(n: u32) -> u64
+pub fn below64(n: u64) -> u64
     requires { ⌜ n ≤ 64 ⌝ }
     ensures { λ r. ⌜ r ≡ below n ⌝ }
 {

@@ -1,0 +1,6 @@
+-- Laws on steps and firing, which proofs of this crate and of those above it cite.
+pub mod Full
+pub mod StepList
+pub mod Lookup
+pub mod Toggle
+pub mod RowList

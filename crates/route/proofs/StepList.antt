@@ -1,0 +1,64 @@
+-- The list of a route's steps, element by element: what a loop over the array meets. The stored records come first, so below 64 the list
+-- and the array agree.
+use mathlib.Core.Path.{_≡_, refl, sym, ap, ap₂, _∙_}
+use mathlib.Core.List.{List, [], _∷_, _++_, append-nil}
+use Prim.Native.Nat.{ℕ, zero, suc, _+_, _-_, _≤_, _<_, min}
+use native.Mathlib.Omega.{arith}
+use native.Mathlib.Numerals.{add-one}
+use lib.ListN.{length, take, drop, getD, set, replicate, length-append, length-take, length-replicate, length-map, List·getD-append, drop-of-length-le}
+use lib.Seq.{drop-cons, getD-take, take-suc-set, append-snoc}
+use lib.Bits.{bitOr, or-zero-r}
+use Rattle.mask.proofs.Laws.{or-assoc}
+use Rattle.route.specs.Steps.{blank, stepsOf, union, names}
+use Rattle.route.specs.declared.Step.{Step}
+use Rattle.route.specs.declared.Route.{Route}
+
+module _ (r : Route) (full : length (r .steps) ≡ 64) where
+  pub length-steps : length (stepsOf r) ≡ r .len
+  unfolding stepsOf
+  length-steps =
+      length-append (take (r .len) (r .steps)) (replicate (r .len - 64) blank)
+      ∙ ap₂ (λ (a b : ℕ). a + b) (length-take (r .len) (r .steps) ∙ ap (λ (n : ℕ). min (r .len) n) full) (length-replicate (r .len - 64) blank)
+      ∙ omega arith
+
+  -- the record at i, and those after it
+  pub steps-on : (i : ℕ) → i < r .len → i < 64 → drop i (stepsOf r) ≡ getD (r .steps) i blank ∷ drop (i + 1) (stepsOf r)
+  unfolding stepsOf
+  steps-on i h k =
+      drop-cons (stepsOf r) i blank (omega (arith, length-steps))
+      ∙ ap₂ {C = List Step} (λ (s : Step) (n : ℕ). s ∷ drop n (stepsOf r)) here (sym (add-one i))
+    where
+      short : i < length (take (r .len) (r .steps))
+      short = omega (arith, length-take (r .len) (r .steps), full)
+      here : getD (stepsOf r) i blank ≡ getD (r .steps) i blank
+      here = List·getD-append (take (r .len) (r .steps)) (replicate (r .len - 64) blank) blank i short ∙ getD-take (r .len) (r .steps) i blank h
+
+  pub steps-end : (i : ℕ) → r .len ≤ i → drop i (stepsOf r) ≡ []
+  steps-end i h = drop-of-length-le (stepsOf r) {i = i} (omega (arith, length-steps))
+
+-- a union that is taken along: one more step, and the end
+pub union-more : (f : Step → ℕ) (acc whole : ℕ) (s : Step) (l k : List Step) → l ≡ s ∷ k → bitOr acc (union f l) ≡ whole → bitOr (bitOr acc (f s)) (union f k) ≡ whole
+unfolding union
+union-more f acc whole s l k e h = or-assoc acc (f s) (union f k) ∙ ap (λ (x : List Step). bitOr acc (union f x)) (sym e) ∙ h
+
+pub union-done : (f : Step → ℕ) (acc whole : ℕ) (l : List Step) → l ≡ [] → bitOr acc (union f l) ≡ whole → acc ≡ whole
+unfolding union
+union-done f acc whole l e h = sym (or-zero-r acc) ∙ ap (λ (x : List Step). bitOr acc (union f x)) (sym e) ∙ h
+
+-- a column of names that is filled in turn: one more, and the end
+pub names-more : (column whole : List ℕ) (i : ℕ) (s : Step) (l k : List Step) → i < length column → l ≡ s ∷ k → take i column ++ names l ≡ whole → take (i + 1) (set column i (s .name)) ++ names k ≡ whole
+unfolding names
+names-more column whole i s l k h e inv =
+    ap (λ (n : ℕ). take n (set column i (s .name)) ++ names k) (add-one i)
+    ∙ ap (λ (x : List ℕ). x ++ names k) (take-suc-set column i (s .name) h)
+    ∙ append-snoc (take i column) (s .name) (names k)
+    ∙ ap (λ (x : List Step). take i column ++ names x) (sym e)
+    ∙ inv
+
+pub names-done : (column whole : List ℕ) (i : ℕ) (l : List Step) → l ≡ [] → take i column ++ names l ≡ whole → take i column ≡ whole
+unfolding names
+names-done column whole i l e inv = sym (append-nil (take i column)) ∙ ap (λ (x : List Step). take i column ++ names x) (sym e) ∙ inv
+
+pub length-names : (l : List Step) → length (names l) ≡ length l
+unfolding names
+length-names l = length-map l (λ (s : Step). s .name)

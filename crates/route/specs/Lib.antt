@@ -1,0 +1,5 @@
+-- What a route is and how it fires.
+pub mod Steps
+pub mod Firing
+pub mod Rows
+pub mod Ends

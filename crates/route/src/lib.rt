@@ -1,0 +1,56 @@
+// A route by value, its marking, and the rows that speak of a route as a whole.
+pub mod firing;
+pub mod net;
+pub mod rows;
+pub mod steps;
+
+// Places and variables are bit masks: place p at bit p.
+pub struct Step {
+    pub name: u32,
+    pub ins: u64,
+    pub outs: u64,
+    pub reads: u32,
+    pub writes: u32,
+}
+
+// The first `len` of the steps. A length over 64 is that of a list that was too long.
+pub struct Route {
+    pub places: u64,
+    pub len: usize,
+    pub steps: [Step; 64],
+}
+
+// The places with a token.
+pub struct Marking {
+    pub tokens: u64,
+}
+
+// A refusal and its second number; 0 and 0 where nothing is refused.
+pub struct Outcome {
+    pub number: u32,
+    pub second: u64,
+}
+
+pub struct Fired {
+    pub number: u32,
+    pub second: u64,
+    pub marking: Marking,
+}
+
+// The places that some step takes from, and those that some step puts to.
+pub struct Ends {
+    pub ins: u64,
+    pub outs: u64,
+}
+
+// What rows 6 and 7 say of a route, and its start.
+pub struct Opened {
+    pub outcome: Outcome,
+    pub marking: Marking,
+}
+
+// Where a name stands.
+pub enum Found {
+    At(usize),
+    Nothing,
+}
