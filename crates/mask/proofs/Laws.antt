@@ -15,6 +15,7 @@ use lib.Pow.{shr-shr, shl-exact, pow-pos}
 use lib.Bits.{bitAnd, bitOr, bitXor, and-shr, or-shr, xor-shr, and-mod, or-mod, xor-mod, and-comm}
 use lib.Count.{ones, ones-step}
 use borrow.Author.Tests.{eqb-true, eqb-false, eq-eqb, ne-eqb, lt-ltb, le-ltb, not-true, not-false, ltb-true, ltb-false}
+use Rattle.mask.proofs.Truth.{both}
 use Rattle.mask.specs.Mask.{has, bit, below, without, within, meets, membersFrom, members, count, collect}
 
 -- ---- a mask's lowest bit and its other bits
@@ -59,6 +60,7 @@ has-ext = bin-ind (λ (a : ℕ). (b : ℕ) → ((v : ℕ) → has a v ≡ has b 
     same a b e (inr p) (inr q) = p ∙ sym q
     same a b e (inl p) (inr q) = let z : eqb 0 1 ≡ eqb 1 1 = rw (p, q) at e in absurd (eqb-false 1 1 (sym z) refl)
     same a b e (inr p) (inl q) = let z : eqb 1 1 ≡ eqb 0 1 = rw (p, q) at e in absurd (eqb-false 1 1 z refl)
+
     step : (a : ℕ) → ((b : ℕ) → ((v : ℕ) → has (a / 2) v ≡ has b v) → a / 2 ≡ b) → (b : ℕ) → ((v : ℕ) → has a v ≡ has b v) → a ≡ b
     step a ih b h =
         let half : a / 2 ≡ b / 2 = ih (b / 2) (λ v. has-half a v ∙ h (suc v) ∙ sym (has-half b v)) in
@@ -150,22 +152,17 @@ member-of = bin-ind (λ (m : ℕ). (m ≡ 0 → ⊥) → (v : ℕ) × (has m v �
   where
     up : (n : ℕ) → (v : ℕ) × (has (n / 2) v ≡ true) → (v : ℕ) × (has n v ≡ true)
     up n found = (suc (found .0), sym (has-half n (found .0)) ∙ found .1)
+
     step : (n : ℕ) → ((n / 2 ≡ 0 → ⊥) → (v : ℕ) × (has (n / 2) v ≡ true)) → (n ≡ 0 → ⊥) → (v : ℕ) × (has n v ≡ true)
     step n ih h = ⊎-elim (λ e. up n (ih (λ z. h (omega arith)))) (λ o. (0, has-low n ∙ eq-eqb (n % 2) 1 o)) (parity n)
 
 pub meets-some : (a b : ℕ) → meets a b ≡ true → (v : ℕ) × (has a v ≡ true) × (has b v ≡ true)
 meets-some a b h = go (member-of (bitAnd a b) (eqb-false (bitAnd a b) 0 (not-true (eqb (bitAnd a b) 0) h)))
   where
-    left : (x y : Bool) → (x && y) ≡ true → x ≡ true
-    left true y e = refl
-    left false y e = e
-    right : (x y : Bool) → (x && y) ≡ true → y ≡ true
-    right true y e = e
-    right false y e = cc
     go : (v : ℕ) × (has (bitAnd a b) v ≡ true) → (v : ℕ) × (has a v ≡ true) × (has b v ≡ true)
     go found =
-        let both : (has a (found .0) && has b (found .0)) ≡ true = sym (has-and a b (found .0)) ∙ found .1 in
-        (found .0, left (has a (found .0)) (has b (found .0)) both, right (has a (found .0)) (has b (found .0)) both)
+        let sides = both (has a (found .0)) (has b (found .0)) (sym (has-and a b (found .0)) ∙ found .1) in
+        (found .0, sides .0, sides .1)
 
 pub meets-none : (a b : ℕ) → meets a b ≡ false → (v : ℕ) → (has a v && has b v) ≡ false
 meets-none a b h v = sym (has-and a b v) ∙ ap (λ (n : ℕ). has n v) (eqb-true (bitAnd a b) 0 (not-false (eqb (bitAnd a b) 0) h)) ∙ has-zero v
@@ -213,6 +210,7 @@ has-collect f (suc n) v = has-or (collect f n) (cond (f n) (bit n) 0) v ∙ ap�
     one : (t : Bool) → has (cond t (bit n) 0) v ≡ (t && eqb v n)
     one true = has-bit n v
     one false = has-zero v
+
     here : (t : Bool) → eqb v n ≡ t → ltb v n ≡ false → (f n && t) ≡ (ltb v (suc n) && f v)
     here true e h =
         let v=n : v ≡ n = eqb-true v n e in
@@ -221,6 +219,7 @@ has-collect f (suc n) v = has-or (collect f n) (cond (f n) (bit n) 0) v ∙ ap�
         let far : (v ≡ n) → ⊥ = eqb-false v n e in
         let above : n ≤ v = ltb-false v n h in
         and-false (f n) ∙ ap (λ (t : Bool). t && f v) (sym (le-ltb v (suc n) (omega arith)))
+
     near : (t : Bool) → ltb v n ≡ t → (t && f v || (f n && eqb v n)) ≡ (ltb v (suc n) && f v)
     near true h =
         let under : v < n = ltb-true v n h in
@@ -228,11 +227,6 @@ has-collect f (suc n) v = has-or (collect f n) (cond (f n) (bit n) 0) v ∙ ap�
     near false h = here (eqb v n) refl h
 
 -- ---- the members in turn, and their number
-
--- what follows of a test from either answer
-pub split {ℓ} : (P : Bool → Type ℓ) (t : Bool) → (t ≡ true → P true) → (t ≡ false → P false) → P t
-split P true h k = h refl
-split P false h k = k refl
 
 length-cond : (t : Bool) (v : ℕ) (l : List ℕ) → length (cond t (v ∷ l) l) ≡ cond t 1 0 + length l
 length-cond true v l = omega arith

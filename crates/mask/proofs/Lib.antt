@@ -1,2 +1,3 @@
--- The laws on bit masks, for any width.
+-- The laws on bit masks, for any width, and on truth values.
 pub mod Laws
+pub mod Truth

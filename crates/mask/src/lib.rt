@@ -63,5 +63,9 @@ pub fn below64(n: u64) -> u64
     requires { ⌜ n ≤ 64 ⌝ }
     ensures { λ r. ⌜ r ≡ below n ⌝ }
 {
-    if n < 64 { (1 << n) - 1 } else { 18446744073709551615 }
+    if n < 64 {
+        (1 << n) - 1
+    } else {
+        18446744073709551615
+    }
 }

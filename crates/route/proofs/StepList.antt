@@ -30,6 +30,7 @@ module _ (r : Route) (full : length (r .steps) ≡ 64) where
     where
       short : i < length (take (r .len) (r .steps))
       short = omega (arith, length-take (r .len) (r .steps), full)
+
       here : getD (stepsOf r) i blank ≡ getD (r .steps) i blank
       here = List·getD-append (take (r .len) (r .steps)) (replicate (r .len - 64) blank) blank i short ∙ getD-take (r .len) (r .steps) i blank h
 

@@ -1,6 +1,9 @@
 // A route as a whole: the places that its steps take from and put to, its start, and rows 6 and 7.
-use crate::{Ends, Marking, Opened, Outcome, Route};
-
+use crate::Ends;
+use crate::Marking;
+use crate::Opened;
+use crate::Outcome;
+use crate::Route;
 ghost use mathlib.Core.Path.{_≡_};
 ghost use Prim.Native.Nat.{_≤_};
 ghost use Rattle.route.specs.Steps.{stepsOf};

@@ -1,6 +1,5 @@
 // What a row says.
 use crate::Outcome;
-
 ghost use mathlib.Core.Path.{_≡_};
 ghost use lib.Dec.{eqb};
 ghost use Rattle.route.specs.Rows.{pass, refuse};

@@ -1,6 +1,7 @@
 // A route's steps: the limits, the empty route, its names, and look-up by name.
-use crate::{Found, Route, Step};
-
+use crate::Found;
+use crate::Route;
+use crate::Step;
 ghost use mathlib.Core.Path.{_≡_};
 ghost use Prim.Native.Nat.{_≤_};
 ghost use lib.ListN.{take};
@@ -8,8 +9,11 @@ ghost use Rattle.route.specs.Steps.{noRoute, stepsOf, names, position};
 
 impl Route {
     pub const PLACES: u64 = 64;
+
     pub const STEPS: usize = 64;
+
     pub const ENTRIES: u32 = 8;
+
     pub const KEPT: usize = 16;
 
     pub fn empty() -> Route

@@ -1,0 +1,2 @@
+-- Replay of values.
+pub mod Values

@@ -1,0 +1,55 @@
+-- Replay of values, in 01's words. `T` is any type of values; a blank is none of them.
+use mathlib.Core.Bool.{Bool, true, false, cond}
+use mathlib.Core.List.{List, [], _∷_, map}
+use mathlib.Core.Option.{Option, none, some}
+use Prim.Native.Nat.{ℕ}
+use Rattle.mask.specs.Mask.{has, members}
+use Rattle.route.specs.Firing.{canFire, fire, start}
+use Rattle.route.specs.Steps.{lookup}
+use Rattle.route.specs.declared.Step.{Step}
+
+-- what each variable holds: a value, or a blank
+abbrev pub Store : Type 0 → Type 0
+Store T = ℕ → Option T
+
+-- all variables blank
+unfoldable pub allBlank : {T : Type 0} → Store T
+allBlank v = none
+
+-- "Each occurrence has, for each variable, a function, any at all, from the list of what it read to a value." The occurrence is given by
+-- its position
+abbrev pub Work : Type 0 → Type 0
+Work T = ℕ → ℕ → List (Option T) → T
+
+-- "what its read variables hold, values or blanks, in rising order of variable"
+unfoldable pub readings : {T : Type 0} → ℕ → Store T → List (Option T)
+readings m σ = map σ (members 32 m)
+
+-- "It reads first. Then each variable that it writes gets what the occurrence's function for it gives from that list; the others stay."
+unfoldable pub perform : {T : Type 0} → Work T → ℕ → Step → Store T → Store T
+perform f i s σ v = cond (has (s .writes) v) (some (f i v (readings (s .reads) σ))) (σ v)
+
+-- where a replay ends: its marking, its store, and whether it came to the end of the list
+pub record End (T : Type 0) : Type 0 where
+  pub marking : ℕ
+  pub store : Store T
+  pub whole : Bool
+
+-- "takes the occurrences in turn. For each, the route's step of its name fires. Where the route has no such step, or it can't fire, the
+-- replay ends there." `name` gives an occurrence's name
+unfoldable pub replayStep : {T : Type 0} → Work T → ℕ → Option Step → ℕ → Store T → (ℕ → Store T → End T) → End T
+replayStep f i none m σ go = record { marking = m; store = σ; whole = false }
+replayStep f i (some s) m σ go = cond (canFire m s) (go (fire m s) (perform f i s σ)) (record { marking = m; store = σ; whole = false })
+
+unfoldable pub replayFrom : {T : Type 0} → Work T → List Step → (ℕ → ℕ) → ℕ → Store T → List ℕ → End T
+replayFrom f steps name m σ [] = record { marking = m; store = σ; whole = true }
+replayFrom f steps name m σ (i ∷ o) = replayStep f i (lookup (name i) steps) m σ (λ m′ σ′. replayFrom f steps name m′ σ′ o)
+
+-- "A replay of a list of occurrences on a route begins at the route's start with all 32 variables blank"
+unfoldable pub replay : {T : Type 0} → Work T → ℕ → List Step → (ℕ → ℕ) → List ℕ → End T
+replay f places steps name o = replayFrom f steps name (start places steps) allBlank o
+
+-- the values alone: performing occurrences in turn, each with its own step
+unfoldable pub performAll : {T : Type 0} → Work T → (ℕ → Step) → List ℕ → Store T → Store T
+performAll f at [] σ = σ
+performAll f at (i ∷ o) σ = performAll f at o (perform f i (at i) σ)

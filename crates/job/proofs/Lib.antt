@@ -1,0 +1,2 @@
+-- Laws on the rows of a job's lines and on its run.
+pub mod Among

@@ -1,0 +1,33 @@
+-- `job::lines::step_fits`: the name, then the places.
+use mathlib.Core.Path.{_≡_, ap, _∙_}
+use Prim.Native.Nat.{ℕ}
+use lib.Bits.{bitOr}
+use borrow.Author.Needs.{needs}
+use Rattle.mask.specs.Mask.{within}
+use Rattle.mask.proofs.Truth.{and-yes, and-no}
+use Rattle.job.specs.Lines.{stepFits}
+use Rattle.job.proofs.lines.step_fits.Statement.{statement}
+use Rattle.job.proofs.lines.step_fits.Tie as tie
+
+name-fits-requires : tie.Need-name-fits-requires
+name-fits-requires c κs = search needs
+
+below64-requires : tie.Need-below64-requires
+below64-requires c κs = search needs
+
+within64-requires : tie.Need-within64-requires
+within64-requires c κs = search needs
+
+returns : tie.Need-returns
+unfolding stepFits
+returns c =
+    let s = c .before .before .before .before .before .args .s in
+    and-yes (c .before .before .before .before .name-fits .ensures) (c .before .before .before .if1 .taken)
+    (c .within64 .ensures ∙ ap (λ (m : ℕ). within (bitOr (s .ins) (s .outs)) m) (c .before .below64 .ensures))
+
+returns-2 : tie.Need-returns-2
+unfolding stepFits
+returns-2 c = and-no _ (c .before .name-fits .ensures) (c .if1 .left)
+
+pub step-fits-spec : {M : Type 1} → statement M
+step-fits-spec = tie.close (tie.spec name-fits-requires below64-requires within64-requires returns returns-2)

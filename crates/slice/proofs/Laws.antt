@@ -1,0 +1,32 @@
+-- What the slice and the table promise, each from the law on the sweep or on a collected set that says it.
+use mathlib.Core.Path.{_≡_, ap, _∙_}
+use mathlib.Core.Bool.{true, false, and-self-left}
+use mathlib.Core.List.{List}
+use Prim.Native.Nat.{ℕ, suc, _<_}
+use lib.Dec.{ltb}
+use lib.ListN.{length, getD}
+use Rattle.mask.specs.Mask.{has, meets}
+use Rattle.mask.proofs.Laws.{has-collect}
+use Rattle.route.specs.Steps.{blank}
+use Rattle.route.specs.declared.Step.{Step}
+use Rattle.slice.specs.Slice.{Needs, needed, keptMask}
+use Rattle.slice.specs.Precedence.{clash, comesAfter, row}
+use Rattle.slice.proofs.Sweep.{liveAt, kept-is, kept-writes, written-below}
+use Rattle.slice.proofs.Closure.{kept-sound, kept-complete}
+
+-- an occurrence that writes nothing is never kept
+pub silent-not-kept : (l : List Step) (vars i : ℕ) → getD l i blank .writes ≡ 0 → has (keptMask l vars) i ≡ false
+silent-not-kept l vars i h = kept-is l vars i ∙ ap (λ (m : ℕ). meets m (liveAt l vars (suc i))) h
+
+-- what a kept occurrence needs is kept
+pub needs-kept : (l : List Step) (vars i j : ℕ) → has (keptMask l vars) i ≡ true → Needs l i j → has (keptMask l vars) j ≡ true
+needs-kept l vars i j h p = kept-complete l vars j (needed (kept-sound l vars i h) p)
+
+-- only occurrences are kept
+pub kept-below : (l : List Step) (vars i : ℕ) → has (keptMask l vars) i ≡ true → i < length l
+kept-below l vars i h = let (v, w, k) = kept-writes l vars i h in written-below l i v w
+
+-- a row of the table is exactly "comes after"
+pub row-exact : (l : List Step) (i j : ℕ) → has (row l i) j ≡ comesAfter l i j
+unfolding row comesAfter
+row-exact l i j = has-collect (comesAfter l i) i j ∙ and-self-left (ltb j i) (clash (getD l i blank) (getD l j blank))

@@ -1,0 +1,4 @@
+-- Which occurrences matter, and which must stay in order.
+pub mod Slice
+pub mod Precedence
+pub mod Order

@@ -1,0 +1,60 @@
+-- The slice: the occurrences that matter to the new route. By 000, section 4.3, with its data dependence only: occurrences are told apart,
+-- never steps. `l` is the list of the steps done, one for each occurrence; occurrence i + 1 of 01 stands at position i.
+use mathlib.Core.Path.{_≡_}
+use mathlib.Core.Bool.{Bool, true, false, cond}
+use mathlib.Core.List.{List, [], _∷_}
+use Prim.Native.Nat.{ℕ, zero, suc, _<_}
+use lib.ListN.{length, getD}
+use lib.Bits.{bitOr}
+use Rattle.mask.specs.Mask.{has, bit, without, meets}
+use Rattle.route.specs.Steps.{blank, union}
+use Rattle.route.specs.declared.Step.{Step}
+
+-- the occurrence at i reads v; it writes v. It reads before it writes, so what it writes itself it never needs
+unfoldable pub readsAt : List Step → ℕ → ℕ → Bool
+readsAt l i v = has (getD l i blank .reads) v
+
+unfoldable pub writesAt : List Step → ℕ → ℕ → Bool
+writesAt l i v = has (getD l i blank .writes) v
+
+-- j is the last writer of v before position n
+pub record LastWriter (l : List Step) (n v j : ℕ) : Type 0 where
+  pub earlier : j < n
+  pub writer : writesAt l j v ≡ true
+  pub last : (k : ℕ) → j < k → k < n → writesAt l k v ≡ false
+
+-- "It needs the last earlier writer of each variable it reads"
+pub record Needs (l : List Step) (i j : ℕ) : Type 0 where
+  pub variable : ℕ
+  pub reader : readsAt l i variable ≡ true
+  pub source : LastWriter l i variable j
+
+-- "The new route's variables are all that its steps read or write."
+unfoldable pub variables : List Step → ℕ
+variables steps = union (λ (s : Step). bitOr (s .reads) (s .writes)) steps
+
+-- "Kept: the last writer in the done list of each new-route variable, and all that these need, over and over." `vars` is the mask of
+-- the new route's variables
+pub data Kept (l : List Step) (vars : ℕ) : ℕ → Type 0 where
+  final : {i : ℕ} (v : ℕ) → has vars v ≡ true → LastWriter l (length l) v i → Kept l vars i
+  needed : {i j : ℕ} → Kept l vars i → Needs l i j → Kept l vars j
+
+-- The kept occurrences as a mask, by one sweep from the last to the first: an occurrence is kept when it writes a variable that is live,
+-- that is, whose value something kept later, or the new route at the end, still wants. `Kept` above is what it means.
+pub record Sweep : Type 0 where
+  pub live : ℕ
+  pub kept : ℕ
+
+unfoldable pub sweepStep : ℕ → Step → Sweep → Sweep
+sweepStep i s w =
+    cond (meets (s .writes) (w .live))
+    (record { live = bitOr (without (w .live) (s .writes)) (s .reads); kept = bitOr (w .kept) (bit i) })
+    w
+
+-- the sweep over the occurrences from position i on
+unfoldable pub sweep : ℕ → ℕ → List Step → Sweep
+sweep vars i [] = record { live = vars; kept = 0 }
+sweep vars i (s ∷ l) = sweepStep i s (sweep vars (suc i) l)
+
+unfoldable pub keptMask : List Step → ℕ → ℕ
+keptMask l vars = sweep vars 0 l .kept

@@ -1,0 +1,1 @@
+// The slice and the precedence table.
