@@ -7,8 +7,9 @@ use lib.Dec.{eqb}
 use Rattle.route.specs.Steps.{lookup}
 use Rattle.route.specs.Firing.{canFire, fire, start}
 use Rattle.route.specs.declared.Step.{Step}
-use Rattle.route.specs.declared.Outcome.{Outcome}
-use Rattle.job.specs.Job.{Job, jobLine}
+use Rattle.route.specs.Rows.{first, netRow}
+use Rattle.route.specs.declared.Opened.{Opened}
+use Rattle.job.specs.Job.{Job, newLine, jobLine}
 use Rattle.job.specs.Lines.{checked}
 use Rattle.job.specs.declared.Ran.{Ran}
 
@@ -24,6 +25,14 @@ runStep m line (some s) next = cond (canFire m s) (next (fire m s)) (stopped 9 l
 unfoldable pub runFrom : List Step → ℕ → ℕ → List ℕ → Ran
 runFrom steps m line [] = record { number = 0; second = 0; marking = record { tokens = m } }
 runFrom steps m line (n ∷ l) = runStep m line (lookup n steps) (λ m′. runFrom steps m′ (line + 1) l)
+
+-- rows 6 and 7 of the old route, then of the new, and the old route's start
+unfoldable pub openedBoth : Job → Opened
+openedBoth j =
+    record {
+      outcome = first (netRow 1 (j .oldPlaces) (j .old) ∷ netRow (newLine j) (j .newPlaces) (j .new) ∷ []);
+      marking = record { tokens = start (j .oldPlaces) (j .old) };
+    }
 
 -- the operation run: the rows to 7, then the done lines from the old route's start
 unfoldable pub ran : Job → Ran

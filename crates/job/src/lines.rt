@@ -10,7 +10,7 @@ ghost use lib.ListN.{length};
 ghost use Rattle.route.specs.Steps.{stepsOf};
 ghost use Rattle.route.specs.Rows.{first};
 ghost use Rattle.job.specs.Job.{jobOf};
-ghost use Rattle.job.specs.Lines.{nameFits, stepFits, placeList, variableList, listsFit, stepRow};
+ghost use Rattle.job.specs.Lines.{nameFits, placesFit, stepFits, placeList, variableList, listsFit, stepRow, stepRows, routeRows, doneRows, lineRows};
 
 fn name_fits(n: u32) -> bool
     ensures { λ r. ⌜ r ≡ nameFits n ⌝ }
@@ -67,4 +67,84 @@ fn check_step(places: u64, s: Step, earlier: &[u32], line: u64) -> Outcome
         Found::At(_) => Outcome::refuse(5, line),
         Found::Nothing => Outcome::pass(),
     }
+}
+
+// A route's steps, top down; the first is on `line`.
+fn check_steps(r: Route, line: u64) -> Outcome
+    requires { ⌜ (r .places ≤ 64) × (line ≤ 1000) ⌝ }
+    ensures { λ o. ⌜ o ≡ first (stepRows line (r .places) [] (stepsOf r)) ⌝ }
+{
+    let mut column = [0u32; 64];
+    let mut i = 0;
+    while i < r.len {
+        if Route::STEPS <= i {
+            return Outcome::refuse(4, line + 64);
+        }
+        let s = r.steps[i];
+        let o = check_step(r.places, s, &column[..i], line + i as u64);
+        if !o.passed() {
+            return o;
+        }
+        column[i] = s.name;
+        i += 1;
+    }
+    Outcome::pass()
+}
+
+fn places_fit(n: u64) -> bool
+    ensures { λ r. ⌜ r ≡ placesFit n ⌝ }
+{
+    1 <= n && n <= Route::PLACES
+}
+
+// A route's lines from its head on; a route with no step is refused where the next head would stand.
+fn check_route(r: Route, line: u64) -> Outcome
+    requires { ⌜ line < 1000 ⌝ }
+    ensures { λ o. ⌜ o ≡ first (routeRows line (r .places) (stepsOf r)) ⌝ }
+{
+    if !places_fit(r.places) {
+        return Outcome::refuse(2, line);
+    }
+    let o = check_steps(r, line + 1);
+    if !o.passed() {
+        return o;
+    }
+    if r.len == 0 {
+        return Outcome::refuse(4, line + 1);
+    }
+    Outcome::pass()
+}
+
+// The done lines; the first is on `line`.
+fn check_done(done: &[u32], line: u64) -> Outcome
+    requires { ⌜ line ≤ 1000 ⌝ }
+    ensures { λ o. ⌜ o ≡ first (doneRows line 0 (now (done .entry))) ⌝ }
+{
+    let mut i = 0;
+    while i < done.len() {
+        if Route::STEPS <= i {
+            return Outcome::refuse(4, line + 64);
+        }
+        if !name_fits(done[i]) {
+            return Outcome::refuse(2, line + i as u64);
+        }
+        i += 1;
+    }
+    Outcome::pass()
+}
+
+// All lines, top down.
+pub fn check_lines(old: Route, new: Route, done: &[u32]) -> Outcome
+    ensures { λ o. ⌜ o ≡ first (lineRows (jobOf old new (now (done .entry)))) ⌝ }
+{
+    let a = check_route(old, 1);
+    if !a.passed() {
+        return a;
+    }
+    let head = 2 + old.len as u64;
+    let b = check_route(new, head);
+    if !b.passed() {
+        return b;
+    }
+    check_done(done, head + 2 + new.len as u64)
 }

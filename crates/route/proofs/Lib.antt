@@ -2,5 +2,6 @@
 pub mod Full
 pub mod StepList
 pub mod Lookup
+pub mod Column
 pub mod Toggle
 pub mod RowList

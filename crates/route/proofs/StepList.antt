@@ -21,18 +21,22 @@ module _ (r : Route) (full : length (r .steps) ≡ 64) where
       ∙ ap₂ (λ (a b : ℕ). a + b) (length-take (r .len) (r .steps) ∙ ap (λ (n : ℕ). min (r .len) n) full) (length-replicate (r .len - 64) blank)
       ∙ omega arith
 
-  -- the record at i, and those after it
-  pub steps-on : (i : ℕ) → i < r .len → i < 64 → drop i (stepsOf r) ≡ getD (r .steps) i blank ∷ drop (i + 1) (stepsOf r)
-  unfolding stepsOf
-  steps-on i h k =
+  -- the step at i, and those after it
+  pub steps-more : (i : ℕ) → i < r .len → drop i (stepsOf r) ≡ getD (stepsOf r) i blank ∷ drop (i + 1) (stepsOf r)
+  steps-more i h =
       drop-cons (stepsOf r) i blank (omega (arith, length-steps))
-      ∙ ap₂ {C = List Step} (λ (s : Step) (n : ℕ). s ∷ drop n (stepsOf r)) here (sym (add-one i))
+      ∙ ap {B = List Step} (λ (n : ℕ). getD (stepsOf r) i blank ∷ drop n (stepsOf r)) (sym (add-one i))
+
+  -- below 64 it is the record stored at i
+  pub steps-at : (i : ℕ) → i < r .len → i < 64 → getD (stepsOf r) i blank ≡ getD (r .steps) i blank
+  unfolding stepsOf
+  steps-at i h k = List·getD-append (take (r .len) (r .steps)) (replicate (r .len - 64) blank) blank i short ∙ getD-take (r .len) (r .steps) i blank h
     where
       short : i < length (take (r .len) (r .steps))
       short = omega (arith, length-take (r .len) (r .steps), full)
 
-      here : getD (stepsOf r) i blank ≡ getD (r .steps) i blank
-      here = List·getD-append (take (r .len) (r .steps)) (replicate (r .len - 64) blank) blank i short ∙ getD-take (r .len) (r .steps) i blank h
+  pub steps-on : (i : ℕ) → i < r .len → i < 64 → drop i (stepsOf r) ≡ getD (r .steps) i blank ∷ drop (i + 1) (stepsOf r)
+  steps-on i h k = steps-more i h ∙ ap {B = List Step} (λ (s : Step). s ∷ drop (i + 1) (stepsOf r)) (steps-at i h k)
 
   pub steps-end : (i : ℕ) → r .len ≤ i → drop i (stepsOf r) ≡ []
   steps-end i h = drop-of-length-le (stepsOf r) {i = i} (omega (arith, length-steps))

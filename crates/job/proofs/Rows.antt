@@ -1,0 +1,214 @@
+-- The rows of lines in turn: what a loop over them meets. A line that passes leaves the rows of those below it, and a line that refuses
+-- is the answer.
+use mathlib.Core.Path.{_≡_, refl, sym, ap, ap₂, _∙_}
+use mathlib.Core.Bool.{Bool, true, false, not, cond}
+use mathlib.Core.List.{List, [], _∷_, _++_}
+use Prim.Native.Nat.{ℕ, zero, suc, _+_, _≤_, _<_}
+use native.Mathlib.Omega.{arith}
+use native.Mathlib.Numerals.{add-one}
+use lib.Dec.{eqb, ltb, leb}
+use lib.ListN.{length, take, drop, getD, set, drop-of-length-le, length-append}
+use lib.Seq.{take-suc-set, length-take-le, drop-cons}
+use borrow.Author.Tests.{le-ltb, lt-ltb, ltb-true, leb-true, not-true, not-false, eqb-false, eq-eqb, ne-eqb}
+use Rattle.mask.proofs.Truth.{both}
+use Rattle.route.specs.Rows.{pass, refuse, unless, first}
+use Rattle.route.specs.declared.Step.{Step}
+use Rattle.route.specs.declared.Outcome.{Outcome}
+use Rattle.route.proofs.RowList.{head-refuses, head-passes, head-passed, row-refuses, row-passes, row-passed, rows-end, rows-pass, rows-refuse, rows-passed}
+use Rattle.job.specs.Lines.{stepRow, stepRows, routeRows, doneRow, doneRows, lineRows, nameFits, placesFit}
+use Rattle.job.specs.Job.{Job, afterSteps, newLine, jobLine}
+
+-- ---- the steps of a route; `column` holds the names of those passed
+
+module _ (line places : ℕ) (column : List ℕ) (i : ℕ) (s : Step) (l k : List Step) (whole o : Outcome) (on : l ≡ s ∷ k) (inv : first (stepRows (line + i) places (take i column) l) ≡ whole) where
+  here : first (stepRow (line + i) places (take i column) s ∷ stepRows (line + i + 1) places (take i column ++ (s .name ∷ [])) k) ≡ whole
+  unfolding stepRows
+  here = ap (λ (x : List Step). first (stepRows (line + i) places (take i column) x)) (sym on) ∙ inv
+
+  pub step-refused : o ≡ stepRow (line + i) places (take i column) s → eqb (o .number) 0 ≡ false → o ≡ whole
+  step-refused is fails = is ∙ sym (head-refuses _ _ (ap (λ (x : Outcome). eqb (x .number) 0) (sym is) ∙ fails)) ∙ here
+
+  pub step-passed : o ≡ stepRow (line + i) places (take i column) s → eqb (o .number) 0 ≡ true → i < length column → first (stepRows (line + (i + 1)) places (take (i + 1) (set column i (s .name))) k) ≡ whole
+  step-passed is ok room =
+      ap₂ (λ (n : ℕ) (x : List ℕ). first (stepRows n places x k)) line-on names-on
+      ∙ sym (head-passes _ _ (ap (λ (x : Outcome). eqb (x .number) 0) (sym is) ∙ ok))
+      ∙ here
+    where
+      line-on : line + (i + 1) ≡ line + i + 1
+      line-on = omega arith
+
+      names-on : take (i + 1) (set column i (s .name)) ≡ take i column ++ (s .name ∷ [])
+      names-on = ap (λ (n : ℕ). take n (set column i (s .name))) (add-one i) ∙ take-suc-set column i (s .name) room
+
+  -- the 65th
+  pub step-over : o ≡ refuse 4 (line + 64) → i ≡ 64 → length column ≡ 64 → o ≡ whole
+  step-over is at full = is ∙ ap (λ (n : ℕ). refuse 4 (line + n)) (sym at) ∙ sym (head-refuses _ _ four) ∙ ap (λ (x : Outcome). first (x ∷ stepRows (line + i + 1) places (take i column ++ (s .name ∷ [])) k)) (sym refused) ∙ here
+    where
+      long : length (take i column) ≡ i
+      long = length-take-le i column (omega arith)
+
+      refused : stepRow (line + i) places (take i column) s ≡ refuse 4 (line + i)
+      refused = unfold stepRow in row-refuses _ 4 (line + i) _ (le-ltb (length (take i column)) 64 (omega (arith, long))) refl
+
+      four : eqb (refuse 4 (line + i) .number) 0 ≡ false
+      four = refl
+
+pub steps-passed : (line places : ℕ) (earlier : List ℕ) (l : List Step) (whole : Outcome) → l ≡ [] → first (stepRows line places earlier l) ≡ whole → pass ≡ whole
+unfolding stepRows
+steps-passed line places earlier l whole e inv = sym rows-end ∙ ap (λ (x : List Step). first (stepRows line places earlier x)) (sym e) ∙ inv
+
+-- ---- the done lines
+
+module _ (line i : ℕ) (done : List ℕ) (whole o : Outcome) where
+  pub done-end : length done ≤ i → first (doneRows (line + i) i (drop i done)) ≡ whole → o ≡ pass → o ≡ whole
+  unfolding doneRows
+  done-end h inv is = is ∙ sym rows-end ∙ ap (λ (x : List ℕ). first (doneRows (line + i) i x)) (sym (drop-of-length-le done {i = i} h)) ∙ inv
+
+  module _ (more : i < length done) (inv : first (doneRows (line + i) i (drop i done)) ≡ whole) where
+    at-line : first (doneRow (line + i) i (getD done i 0) ∷ doneRows (line + i + 1) (i + 1) (drop (suc i) done)) ≡ whole
+    unfolding doneRows
+    at-line = ap (λ (x : List ℕ). first (doneRows (line + i) i x)) (sym (drop-cons done i 0 more)) ∙ inv
+
+    -- the 65th
+    pub done-over : o ≡ refuse 4 (line + 64) → i ≤ 64 → 64 ≤ i → o ≡ whole
+    done-over is low high = is ∙ ap (λ (n : ℕ). refuse 4 (line + n)) at ∙ sym (head-refuses _ _ refl) ∙ ap (λ (x : Outcome). first (x ∷ doneRows (line + i + 1) (i + 1) (drop (suc i) done))) (sym refused) ∙ at-line
+      where
+        at : 64 ≡ i
+        at = omega arith
+
+        refused : doneRow (line + i) i (getD done i 0) ≡ refuse 4 (line + i)
+        refused = unfold doneRow in row-refuses _ 4 (line + i) _ (le-ltb i 64 high) refl
+
+    pub done-refused : (f : Bool) → i < 64 → f ≡ nameFits (getD done i 0) → not f ≡ true → o ≡ refuse 2 (line + i) → o ≡ whole
+    done-refused f low is fails to = to ∙ sym (head-refuses _ _ refl) ∙ ap (λ (x : Outcome). first (x ∷ doneRows (line + i + 1) (i + 1) (drop (suc i) done))) (sym refused) ∙ at-line
+      where
+        refused : doneRow (line + i) i (getD done i 0) ≡ refuse 2 (line + i)
+        refused = unfold doneRow in row-passes _ 4 (line + i) _ (lt-ltb i 64 low) ∙ row-refuses (nameFits (getD done i 0)) 2 (line + i) [] (sym is ∙ not-true f fails) refl
+
+    pub done-passed : (f : Bool) → i < 64 → f ≡ nameFits (getD done i 0) → not f ≡ false → first (doneRows (line + (i + 1)) (i + 1) (drop (i + 1) done)) ≡ whole
+    done-passed f low is passes = ap₂ (λ (n k : ℕ). first (doneRows n (i + 1) (drop k done))) line-on (add-one i) ∙ sym (head-passes _ _ (ap (λ (x : Outcome). eqb (x .number) 0) passed)) ∙ at-line
+      where
+        line-on : line + (i + 1) ≡ line + i + 1
+        line-on = omega arith
+
+        passed : doneRow (line + i) i (getD done i 0) ≡ pass
+        passed = unfold doneRow in row-passes _ 4 (line + i) _ (lt-ltb i 64 low) ∙ row-passes (nameFits (getD done i 0)) 2 (line + i) [] (sym is ∙ not-false f passes) ∙ rows-end
+
+-- ---- a route's lines from its head on
+
+module _ (line places : ℕ) (l : List Step) (f : Bool) (fits : f ≡ placesFit places) where
+  pub route-two : (o : Outcome) → not f ≡ true → o ≡ refuse 2 line → o ≡ first (routeRows line places l)
+  unfolding routeRows
+  route-two o fails to = to ∙ sym (row-refuses (placesFit places) 2 line _ (sym fits ∙ not-true f fails) refl)
+
+  module _ (o : Outcome) (ok : not f ≡ false) (lines : o ≡ first (stepRows (line + 1) places [] l)) where
+    after-head : (k : List Outcome) → first (unless (placesFit places) 2 line ∷ k) ≡ first k
+    after-head k = row-passes (placesFit places) 2 line k (sym fits ∙ not-false f ok)
+
+    number-is : eqb (o .number) 0 ≡ eqb (first (stepRows (line + 1) places [] l) .number) 0
+    number-is = ap (λ (x : Outcome). eqb (x .number) 0) lines
+
+    pub route-steps : eqb (o .number) 0 ≡ false → o ≡ first (routeRows line places l)
+    unfolding routeRows
+    route-steps fails = lines ∙ sym (rows-refuse (stepRows (line + 1) places [] l) _ (sym number-is ∙ fails)) ∙ sym (after-head _)
+
+    pub route-none : (p : Outcome) → eqb (o .number) 0 ≡ true → length l ≡ 0 → p ≡ refuse 4 (line + 1) → p ≡ first (routeRows line places l)
+    unfolding routeRows
+    route-none p passes none to =
+        to ∙ ap (λ (n : ℕ). refuse 4 n) next
+        ∙ sym (row-refuses (not (eqb (length l) 0)) 4 (afterSteps line l) [] (ap not (eq-eqb (length l) 0 none)) refl)
+        ∙ sym (rows-pass (stepRows (line + 1) places [] l) _ (sym number-is ∙ passes))
+        ∙ sym (after-head _)
+      where
+        next : line + 1 ≡ afterSteps line l
+        next = omega arith
+
+    pub route-pass : (p : Outcome) → eqb (o .number) 0 ≡ true → (length l ≡ 0 → ⊥) → p ≡ pass → p ≡ first (routeRows line places l)
+    unfolding routeRows
+    route-pass p passes some to =
+        to ∙ sym rows-end
+        ∙ sym (row-passes (not (eqb (length l) 0)) 4 (afterSteps line l) [] (ap not (ne-eqb (length l) 0 some)))
+        ∙ sym (rows-pass (stepRows (line + 1) places [] l) _ (sym number-is ∙ passes))
+        ∙ sym (after-head _)
+
+-- ---- what lines that pass have: no list is over 64, and each route has a step
+
+steps-short : (line places : ℕ) (earlier : List ℕ) (l : List Step) → length earlier ≤ 64 → eqb (first (stepRows line places earlier l) .number) 0 ≡ true → length earlier + length l ≤ 64
+unfolding stepRows stepRow
+steps-short line places earlier [] h e = omega arith
+steps-short line places earlier (s ∷ l) h e =
+    let now = head-passed (stepRow line places earlier s) (stepRows (line + 1) places (earlier ++ (s .name ∷ [])) l) e in
+    let room : length earlier < 64 = ltb-true (length earlier) 64 (row-passed (ltb (length earlier) 64) 4 line _ refl (now .0) .0) in
+    let longer : length (earlier ++ (s .name ∷ [])) ≡ length earlier + 1 = length-append earlier (s .name ∷ []) in
+    let rest : length (earlier ++ (s .name ∷ [])) + length l ≤ 64 = steps-short (line + 1) places (earlier ++ (s .name ∷ [])) l (omega arith) (now .1) in
+    omega arith
+
+done-short : (line above : ℕ) (l : List ℕ) → above ≤ 64 → eqb (first (doneRows line above l) .number) 0 ≡ true → above + length l ≤ 64
+unfolding doneRows doneRow
+done-short line above [] h e = omega arith
+done-short line above (n ∷ l) h e =
+    let now = head-passed (doneRow line above n) (doneRows (line + 1) (above + 1) l) e in
+    let room : above < 64 = ltb-true above 64 (row-passed (ltb above 64) 4 line _ refl (now .0) .0) in
+    let rest : above + 1 + length l ≤ 64 = done-short (line + 1) (above + 1) l (omega arith) (now .1) in
+    omega arith
+
+pub record RouteFits (places : ℕ) (l : List Step) : Type 0 where
+  pub places-fit : places ≤ 64
+  pub steps-fit : length l ≤ 64
+  pub some-step : 0 < length l
+
+pub route-fits : (line places : ℕ) (l : List Step) → eqb (first (routeRows line places l) .number) 0 ≡ true → RouteFits places l
+unfolding routeRows placesFit
+route-fits line places l e =
+    let head = row-passed (placesFit places) 2 line _ refl e in
+    let lines = rows-passed (stepRows (line + 1) places [] l) _ (head .1) in
+    let bound : 0 + length l ≤ 64 = steps-short (line + 1) places [] l (omega arith) (lines .0) in
+    let some = row-passed (not (eqb (length l) 0)) 4 (afterSteps line l) [] refl (lines .1) in
+    let filled : (length l ≡ 0) → ⊥ = eqb-false (length l) 0 (not-true (eqb (length l) 0) (some .0)) in
+    record { places-fit = leb-true places 64 (both (leb 1 places) (leb places 64) (head .0) .1); steps-fit = omega arith; some-step = omega arith }
+
+pub done-fits : (line : ℕ) (l : List ℕ) → eqb (first (doneRows line 0 l) .number) 0 ≡ true → length l ≤ 64
+done-fits line l e = omega (arith, done-short line 0 l (omega arith) e)
+
+-- ---- all lines: the old route's, the new route's, the done lines
+
+module _ (j : Job) (a : Outcome) (is : a ≡ first (routeRows 1 (j .oldPlaces) (j .old))) where
+  old-number : eqb (first (routeRows 1 (j .oldPlaces) (j .old)) .number) 0 ≡ eqb (a .number) 0
+  old-number = ap (λ (o : Outcome). eqb (o .number) 0) (sym is)
+
+  pub lines-old : eqb (a .number) 0 ≡ false → a ≡ first (lineRows j)
+  unfolding lineRows
+  lines-old e = is ∙ sym (rows-refuse (routeRows 1 (j .oldPlaces) (j .old)) _ (old-number ∙ e))
+
+  module _ (passes : eqb (a .number) 0 ≡ true) (b : Outcome) (then : b ≡ first (routeRows (newLine j) (j .newPlaces) (j .new))) where
+    new-number : eqb (first (routeRows (newLine j) (j .newPlaces) (j .new)) .number) 0 ≡ eqb (b .number) 0
+    new-number = ap (λ (o : Outcome). eqb (o .number) 0) (sym then)
+
+    pub lines-new : eqb (b .number) 0 ≡ false → b ≡ first (lineRows j)
+    unfolding lineRows
+    lines-new e =
+        then ∙ sym (rows-refuse (routeRows (newLine j) (j .newPlaces) (j .new)) _ (new-number ∙ e))
+        ∙ sym (rows-pass (routeRows 1 (j .oldPlaces) (j .old)) _ (old-number ∙ passes))
+
+    pub lines-done : eqb (b .number) 0 ≡ true → (o : Outcome) → o ≡ first (doneRows (jobLine j + 1) 0 (j .done)) → o ≡ first (lineRows j)
+    unfolding lineRows
+    lines-done e o last =
+        last ∙ sym (rows-pass (routeRows (newLine j) (j .newPlaces) (j .new)) _ (new-number ∙ e))
+        ∙ sym (rows-pass (routeRows 1 (j .oldPlaces) (j .old)) _ (old-number ∙ passes))
+
+-- what a job whose lines pass has
+pub record LinesFit (j : Job) : Type 0 where
+  pub old-fits : RouteFits (j .oldPlaces) (j .old)
+  pub new-fits : RouteFits (j .newPlaces) (j .new)
+  pub done-fit : length (j .done) ≤ 64
+
+pub lines-fit : (j : Job) → eqb (first (lineRows j) .number) 0 ≡ true → LinesFit j
+unfolding lineRows
+lines-fit j e =
+    let one = rows-passed (routeRows 1 (j .oldPlaces) (j .old)) _ e in
+    let two = rows-passed (routeRows (newLine j) (j .newPlaces) (j .new)) _ (one .1) in
+    record {
+      old-fits = route-fits 1 (j .oldPlaces) (j .old) (one .0);
+      new-fits = route-fits (newLine j) (j .newPlaces) (j .new) (two .0);
+      done-fit = done-fits (jobLine j + 1) (j .done) (two .1);
+    }
