@@ -122,7 +122,7 @@ fn check_done(done: &[u32], line: u64) -> Outcome
 {
     let mut i = 0;
     while i < done.len() {
-        if Route::STEPS <= i {
+        if i >= Route::STEPS {
             return Outcome::refuse(4, line + 64);
         }
         if !name_fits(done[i]) {

@@ -1,0 +1,68 @@
+// The routes of 01's examples. Place p is bit p, variable v is bit v.
+use crate::{one, step, three, two};
+use route::Route;
+
+pub fn a_old() -> Route {
+    three(
+        4,
+        step(10, 1, 2, 0, 1),
+        step(20, 2, 4, 0, 2),
+        step(30, 4, 8, 3, 4),
+    )
+}
+
+pub fn a_new() -> Route {
+    three(
+        4,
+        step(20, 1, 2, 0, 2),
+        step(10, 2, 4, 0, 1),
+        step(30, 4, 8, 3, 4),
+    )
+}
+
+pub fn d_old() -> Route {
+    three(
+        4,
+        step(10, 1, 2, 0, 1),
+        step(20, 2, 4, 1, 2),
+        step(30, 4, 8, 3, 4),
+    )
+}
+
+pub fn d_new() -> Route {
+    three(
+        4,
+        step(20, 1, 2, 1, 2),
+        step(10, 2, 4, 0, 1),
+        step(30, 4, 8, 3, 4),
+    )
+}
+
+pub fn e_new() -> Route {
+    two(3, step(20, 1, 2, 0, 2), step(30, 2, 4, 3, 4))
+}
+
+pub fn f_new() -> Route {
+    two(3, step(20, 1, 2, 0, 2), step(30, 2, 4, 2, 4))
+}
+
+pub fn g_new() -> Route {
+    three(
+        4,
+        step(20, 1, 2, 0, 2),
+        step(10, 2, 4, 0, 9),
+        step(30, 4, 8, 3, 4),
+    )
+}
+
+pub fn j_both() -> Route {
+    two(3, step(10, 1, 4, 0, 0), step(20, 2, 4, 0, 0))
+}
+
+pub fn k_both() -> Route {
+    two(2, step(10, 1, 2, 0, 0), step(20, 2, 2, 0, 1))
+}
+
+pub fn l_both() -> Route {
+    one(2, step(10, 1, 3, 0, 0))
+}

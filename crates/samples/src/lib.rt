@@ -1,0 +1,37 @@
+// Routes for the programs that show the engine at work: 01's examples as records, and routes at the limits.
+use route::{Route, Step};
+
+pub mod chains;
+pub mod letters;
+
+pub fn step(name: u32, ins: u64, outs: u64, reads: u32, writes: u32) -> Step {
+    Step {
+        name,
+        ins,
+        outs,
+        reads,
+        writes,
+    }
+}
+
+pub fn one(places: u64, a: Step) -> Route {
+    let mut r = Route::empty();
+    r.places = places;
+    r.len = 1;
+    r.steps[0] = a;
+    r
+}
+
+pub fn two(places: u64, a: Step, b: Step) -> Route {
+    let mut r = one(places, a);
+    r.len = 2;
+    r.steps[1] = b;
+    r
+}
+
+pub fn three(places: u64, a: Step, b: Step, c: Step) -> Route {
+    let mut r = two(places, a, b);
+    r.len = 3;
+    r.steps[2] = c;
+    r
+}
