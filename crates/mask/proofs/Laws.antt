@@ -8,11 +8,12 @@ use mathlib.Core.List.{List, [], _∷_}
 use Prim.Native.Nat.{ℕ, zero, suc, _+_, _-_, _*_, _^_, _/_, _%_, _≤_, _<_}
 use native.Mathlib.Nat.{mod-lt, pow-suc, zero-lt-suc, one-mul}
 use native.Mathlib.Omega.{arith}
+use native.Mathlib.Numerals.{add-one}
 use lib.Dec.{eqb, ltb, leb, eqb·zero-suc, eqb·suc-zero, eqb·suc-suc, leb·suc-suc, lit<}
 use lib.ListN.{length}
 use lib.Arith.{bin-ind}
 use lib.Pow.{shr-shr, shl-exact, pow-pos}
-use lib.Bits.{bitAnd, bitOr, bitXor, and-shr, or-shr, xor-shr, and-mod, or-mod, xor-mod, and-comm}
+use lib.Bits.{bitAnd, bitOr, bitXor, and-shr, or-shr, xor-shr, and-mod, or-mod, xor-mod, and-comm, or-zero-r}
 use lib.Count.{ones, ones-step}
 use borrow.Author.Tests.{eqb-true, eqb-false, eq-eqb, ne-eqb, lt-ltb, le-ltb, not-true, not-false, ltb-true, ltb-false}
 use Rattle.mask.proofs.Truth.{both}
@@ -225,6 +226,26 @@ has-collect f (suc n) v = has-or (collect f n) (cond (f n) (bit n) 0) v ∙ ap�
         let under : v < n = ltb-true v n h in
         ap (λ (t : Bool). f v || (f n && t)) (ne-eqb v n (omega arith)) ∙ ap (λ (t : Bool). f v || t) (and-false (f n)) ∙ or-false (f v) ∙ ap (λ (t : Bool). t && f v) (sym (lt-ltb v (suc n) (omega arith)))
     near false h = here (eqb v n) refl h
+
+-- one more is looked at
+pub collect-hit : (f : ℕ → Bool) (n m : ℕ) → m ≡ collect f n → f n ≡ true → bitOr m (bit n) ≡ collect f (n + 1)
+unfolding collect
+collect-hit f n m e t = ap₂ (λ (x : ℕ) (b : Bool). bitOr x (cond b (bit n) 0)) e (sym t) ∙ ap (collect f) (sym (add-one n))
+
+pub collect-miss : (f : ℕ → Bool) (n m : ℕ) → m ≡ collect f n → f n ≡ false → m ≡ collect f (n + 1)
+unfolding collect
+collect-miss f n m e t = sym (or-zero-r m) ∙ ap₂ (λ (x : ℕ) (b : Bool). bitOr x (cond b (bit n) 0)) e (sym t) ∙ ap (collect f) (sym (add-one n))
+
+pub collect-none : (f : ℕ → Bool) (n : ℕ) → ((v : ℕ) → v < n → f v ≡ false) → collect f n ≡ 0
+unfolding collect
+collect-none f zero e = refl
+collect-none f (suc n) e = ap₂ (λ (m : ℕ) (t : Bool). bitOr m (cond t (bit n) 0)) (collect-none f n (λ v h. e v (omega arith))) (e n (omega arith))
+
+-- a test matters only below n
+pub collect-same : (f g : ℕ → Bool) (n : ℕ) → ((v : ℕ) → v < n → f v ≡ g v) → collect f n ≡ collect g n
+unfolding collect
+collect-same f g zero e = refl
+collect-same f g (suc n) e = ap₂ (λ (m : ℕ) (t : Bool). bitOr m (cond t (bit n) 0)) (collect-same f g n (λ v h. e v (omega arith))) (e n (omega arith))
 
 -- ---- the members in turn, and their number
 

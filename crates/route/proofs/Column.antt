@@ -13,6 +13,10 @@ use Rattle.route.specs.declared.Found.the-variants.{At, Nothing}
 use Rattle.route.proofs.StepList.{length-steps, steps-at, length-names}
 use Rattle.route.proofs.Lookup.{position-below, lookup-at, lookup-none}
 
+-- the column has a name for each step
+pub column-length : (r : Route) (column : List ℕ) → length (r .steps) ≡ 64 → take (r .len) column ≡ names (stepsOf r) → r .len ≡ length (take (r .len) column)
+column-length r column full are = sym (ap length are ∙ length-names (stepsOf r) ∙ length-steps r full)
+
 module _ (r : Route) (column : List ℕ) (n : ℕ) (f : Found) (are : take (r .len) column ≡ names (stepsOf r)) (found : f ≡ position n (take (r .len) column)) where
   is-position : f ≡ position n (names (stepsOf r))
   is-position = found ∙ ap (λ (l : List ℕ). position n l) are

@@ -1,7 +1,7 @@
 -- The list of a route's steps, element by element: what a loop over the array meets. The stored records come first, so below 64 the list
 -- and the array agree.
 use mathlib.Core.Path.{_≡_, refl, sym, ap, ap₂, _∙_}
-use mathlib.Core.List.{List, [], _∷_, _++_, append-nil}
+use mathlib.Core.List.{List, [], _∷_, _++_, map, append-nil}
 use Prim.Native.Nat.{ℕ, zero, suc, _+_, _-_, _≤_, _<_, min}
 use native.Mathlib.Omega.{arith}
 use native.Mathlib.Numerals.{add-one}
@@ -50,19 +50,17 @@ pub union-done : (f : Step → ℕ) (acc whole : ℕ) (l : List Step) → l ≡ 
 unfolding union
 union-done f acc whole l e h = sym (or-zero-r acc) ∙ ap (λ (x : List Step). bitOr acc (union f x)) (sym e) ∙ h
 
--- a column of names that is filled in turn: one more, and the end
-pub names-more : (column whole : List ℕ) (i : ℕ) (s : Step) (l k : List Step) → i < length column → l ≡ s ∷ k → take i column ++ names l ≡ whole → take (i + 1) (set column i (s .name)) ++ names k ≡ whole
-unfolding names
-names-more column whole i s l k h e inv =
-    ap (λ (n : ℕ). take n (set column i (s .name)) ++ names k) (add-one i)
-    ∙ ap (λ (x : List ℕ). x ++ names k) (take-suc-set column i (s .name) h)
-    ∙ append-snoc (take i column) (s .name) (names k)
-    ∙ ap (λ (x : List Step). take i column ++ names x) (sym e)
+-- a column of one field of the steps, filled in turn: one more, and the end
+pub column-more : (f : Step → ℕ) (column whole : List ℕ) (i : ℕ) (s : Step) (l k : List Step) → i < length column → l ≡ s ∷ k → take i column ++ map f l ≡ whole → take (i + 1) (set column i (f s)) ++ map f k ≡ whole
+column-more f column whole i s l k h e inv =
+    ap (λ (n : ℕ). take n (set column i (f s)) ++ map f k) (add-one i)
+    ∙ ap (λ (x : List ℕ). x ++ map f k) (take-suc-set column i (f s) h)
+    ∙ append-snoc (take i column) (f s) (map f k)
+    ∙ ap (λ (x : List Step). take i column ++ map f x) (sym e)
     ∙ inv
 
-pub names-done : (column whole : List ℕ) (i : ℕ) (l : List Step) → l ≡ [] → take i column ++ names l ≡ whole → take i column ≡ whole
-unfolding names
-names-done column whole i l e inv = sym (append-nil (take i column)) ∙ ap (λ (x : List Step). take i column ++ names x) (sym e) ∙ inv
+pub column-done : (f : Step → ℕ) (column whole : List ℕ) (i : ℕ) (l : List Step) → l ≡ [] → take i column ++ map f l ≡ whole → take i column ≡ whole
+column-done f column whole i l e inv = sym (append-nil (take i column)) ∙ ap (λ (x : List Step). take i column ++ map f x) (sym e) ∙ inv
 
 pub length-names : (l : List Step) → length (names l) ≡ length l
 unfolding names

@@ -8,13 +8,7 @@ pub fn chain() -> Route {
     r.places = 64;
     r.len = 63;
     for i in 0..63 {
-        r.steps[i] = step(
-            100 + i as u32,
-            mask::bit64(i),
-            mask::bit64(i + 1),
-            0,
-            0,
-        );
+        r.steps[i] = step(100 + i as u32, mask::bit64(i), mask::bit64(i + 1), 0, 0);
     }
     r
 }

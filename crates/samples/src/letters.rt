@@ -1,5 +1,8 @@
 // The routes of 01's examples. Place p is bit p, variable v is bit v.
-use crate::{one, step, three, two};
+use crate::one;
+use crate::step;
+use crate::three;
+use crate::two;
 use route::Route;
 
 pub fn a_old() -> Route {

@@ -1,5 +1,6 @@
 // Routes for the programs that show the engine at work: 01's examples as records, and routes at the limits.
-use route::{Route, Step};
+use route::Route;
+use route::Step;
 
 pub mod chains;
 pub mod letters;

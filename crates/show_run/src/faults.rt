@@ -1,8 +1,13 @@
 // A wrong record for each row, and for each place where it can stand.
-use crate::{say, say_both, say_step};
+use crate::say;
+use crate::say_both;
+use crate::say_step;
 use route::Route;
 use samples::letters;
-use samples::{one, step, three, two};
+use samples::one;
+use samples::step;
+use samples::three;
+use samples::two;
 
 pub fn show_lines() {
     let old = letters::a_old();
@@ -48,8 +53,14 @@ pub fn show_runs() {
     say(b"6 new", job::runs::run(old, loose, &[]));
     say(b"7 old", job::runs::run(round, new, &[]));
     say(b"7 new", job::runs::run(old, round, &[]));
-    say(b"6 before 7", job::runs::run(one(3, step(1, 1, 1, 0, 0)), new, &[]));
+    say(
+        b"6 before 7",
+        job::runs::run(one(3, step(1, 1, 1, 0, 0)), new, &[]),
+    );
     say(b"old 7 before new 6", job::runs::run(round, loose, &[]));
     say(b"9 second line", job::runs::run(old, new, &[10, 10]));
-    say(b"8 after 9 is not reached", job::runs::run(old, new, &[20, 40]));
+    say(
+        b"8 after 9 is not reached",
+        job::runs::run(old, new, &[20, 40]),
+    );
 }

@@ -1,5 +1,6 @@
 // The route parts of 01's examples.
-use crate::{say, say_both};
+use crate::say;
+use crate::say_both;
 use samples::letters;
 
 pub fn show() {

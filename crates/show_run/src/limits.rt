@@ -1,5 +1,6 @@
 // 64 places and 65, 64 steps and 65, 64 done names and 65.
-use crate::{say, say_both};
+use crate::say;
+use crate::say_both;
 use samples::chains;
 use samples::letters;
 

@@ -1,7 +1,8 @@
 // Prints run's answers on records: the route parts of 01's examples, the limits, and a wrong record for each row.
 // Each line is a label, the number, the second number and the marking.
 use job::Ran;
-use route::{Route, Step};
+use route::Route;
+use route::Step;
 
 mod faults;
 mod letters;
@@ -25,7 +26,10 @@ fn say_both(label: &[u8], r: Route, done: &[u32]) {
 
 // A one-step route beside a sound new route.
 fn say_step(label: &[u8], s: Step) {
-    say(label, job::runs::run(samples::one(2, s), samples::letters::a_new(), &[]));
+    say(
+        label,
+        job::runs::run(samples::one(2, s), samples::letters::a_new(), &[]),
+    );
 }
 
 fn main() {

@@ -2,3 +2,7 @@
 pub mod Sweep
 pub mod Closure
 pub mod Laws
+pub mod Done
+pub mod Bare
+pub mod Filled
+pub mod Columns

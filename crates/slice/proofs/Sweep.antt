@@ -20,12 +20,12 @@ use Rattle.route.specs.declared.Step.{Step}
 use Rattle.slice.specs.Slice.{readsAt, writesAt, Sweep, sweepStep, sweep, keptMask}
 
 -- the sweep from position i on
-from : List Step → ℕ → ℕ → Sweep
-from l vars i = sweep vars i (drop i l)
+abbrev pub sweepFrom : List Step → ℕ → ℕ → Sweep
+sweepFrom l vars i = sweep vars i (drop i l)
 
 -- the live variables before position i
 pub liveAt : List Step → ℕ → ℕ → ℕ
-liveAt l vars i = from l vars i .live
+liveAt l vars i = sweepFrom l vars i .live
 
 -- past the end nothing is written
 blank-past : (l : List Step) (i : ℕ) → length l ≤ i → getD l i blank ≡ blank
@@ -39,22 +39,22 @@ written-below l i v w = go (decLt i (length l))
     go (yes h) = h
     go (no h) = let z : _≡_ {A = ℕ} 0 1 = cc (has-zero v, ap (λ (s : Step). has (s .writes) v) (blank-past l i (omega arith))) in absurd (omega arith)
 
-from-end : (l : List Step) (vars i : ℕ) → length l ≤ i → from l vars i ≡ record { live = vars; kept = 0 }
-unfolding from sweep
-from-end l vars i h = ap (λ (k : List Step). sweep vars i k) (drop-of-length-le l h)
+pub sweep-end : (l : List Step) (vars i : ℕ) → length l ≤ i → sweepFrom l vars i ≡ record { live = vars; kept = 0 }
+unfolding sweep
+sweep-end l vars i h = ap (λ (k : List Step). sweep vars i k) (drop-of-length-le l h)
 
-from-on : (l : List Step) (vars i : ℕ) → from l vars i ≡ sweepStep i (getD l i blank) (from l vars (suc i))
-unfolding from sweep
-from-on l vars i = go (decLt i (length l))
+pub sweep-on : (l : List Step) (vars i : ℕ) → sweepFrom l vars i ≡ sweepStep i (getD l i blank) (sweepFrom l vars (suc i))
+unfolding sweep
+sweep-on l vars i = go (decLt i (length l))
   where
     still : (w : Sweep) → sweepStep i blank w ≡ w
     still w = unfold sweepStep in refl
 
-    go : Dec (i < length l) → from l vars i ≡ sweepStep i (getD l i blank) (from l vars (suc i))
+    go : Dec (i < length l) → sweepFrom l vars i ≡ sweepStep i (getD l i blank) (sweepFrom l vars (suc i))
     go (yes h) = ap (λ (k : List Step). sweep vars i k) (drop-cons l i blank h)
     go (no h) =
         let past : length l ≤ i = omega arith in
-        from-end l vars i past ∙ sym (from-end l vars (suc i) (omega arith)) ∙ sym (still (from l vars (suc i))) ∙ ap (λ (s : Step). sweepStep i s (from l vars (suc i))) (sym (blank-past l i past))
+        sweep-end l vars i past ∙ sym (sweep-end l vars (suc i) (omega arith)) ∙ sym (still (sweepFrom l vars (suc i))) ∙ ap (λ (s : Step). sweepStep i s (sweepFrom l vars (suc i))) (sym (blank-past l i past))
 
 -- what a kept step makes of the sweep
 abbrev taken : ℕ → Step → Sweep → Sweep
@@ -93,26 +93,25 @@ none-before (s ∷ l) vars i k h =
     ∙ and-false (meets (s .writes) (sweep vars (suc i) l .live))
 
 module _ (l : List Step) (vars : ℕ) where
-  kept-on : (i k : ℕ) → has (from l vars i .kept) k ≡ (has (from l vars (suc i) .kept) k || (meets (getD l i blank .writes) (liveAt l vars (suc i)) && eqb k i))
+  kept-on : (i k : ℕ) → has (sweepFrom l vars i .kept) k ≡ (has (sweepFrom l vars (suc i) .kept) k || (meets (getD l i blank .writes) (liveAt l vars (suc i)) && eqb k i))
   unfolding liveAt
-  kept-on i k = ap (λ (w : Sweep). has (w .kept) k) (from-on l vars i) ∙ kept-step i k (getD l i blank) (from l vars (suc i))
+  kept-on i k = ap (λ (w : Sweep). has (w .kept) k) (sweep-on l vars i) ∙ kept-step i k (getD l i blank) (sweepFrom l vars (suc i))
 
   -- and the positions before i keep nothing from i on
-  all-from : (i k : ℕ) → i ≤ k → has (keptMask l vars) k ≡ has (from l vars i .kept) k
-  unfolding from keptMask
+  all-from : (i k : ℕ) → i ≤ k → has (keptMask l vars) k ≡ has (sweepFrom l vars i .kept) k
+  unfolding keptMask
   all-from zero k h = refl
   all-from (suc i) k h =
       all-from i k (omega arith)
       ∙ kept-on i k
-      ∙ ap (λ (t : Bool). has (from l vars (suc i) .kept) k || (meets (getD l i blank .writes) (liveAt l vars (suc i)) && t)) (ne-eqb k i (omega arith))
-      ∙ table (has (from l vars (suc i) .kept) k) (meets (getD l i blank .writes) (liveAt l vars (suc i)))
+      ∙ ap (λ (t : Bool). has (sweepFrom l vars (suc i) .kept) k || (meets (getD l i blank .writes) (liveAt l vars (suc i)) && t)) (ne-eqb k i (omega arith))
+      ∙ table (has (sweepFrom l vars (suc i) .kept) k) (meets (getD l i blank .writes) (liveAt l vars (suc i)))
     where
       table : (x y : Bool) → (x || (y && false)) ≡ x
       table x y = simp (and-false, or-false)
 
   -- an occurrence is kept when it writes a variable that is live after it
   pub kept-is : (i : ℕ) → has (keptMask l vars) i ≡ meets (getD l i blank .writes) (liveAt l vars (suc i))
-  unfolding from
   kept-is i =
       all-from i i (omega arith)
       ∙ kept-on i i
@@ -123,14 +122,14 @@ module _ (l : List Step) (vars : ℕ) where
   pub live-on : (i v : ℕ) → has (liveAt l vars i) v ≡ (has (liveAt l vars (suc i)) v && not (writesAt l i v) || (has (keptMask l vars) i && readsAt l i v))
   unfolding liveAt readsAt writesAt
   live-on i v =
-      ap (λ (w : Sweep). has (w .live) v) (from-on l vars i)
-      ∙ live-step i v (getD l i blank) (from l vars (suc i))
+      ap (λ (w : Sweep). has (w .live) v) (sweep-on l vars i)
+      ∙ live-step i v (getD l i blank) (sweepFrom l vars (suc i))
       ∙ ap (λ (t : Bool). has (liveAt l vars (suc i)) v && not (writesAt l i v) || (t && readsAt l i v)) (sym (kept-is i))
 
   -- at the end the new route's variables are live
   pub live-end : (i : ℕ) → length l ≤ i → liveAt l vars i ≡ vars
   unfolding liveAt
-  live-end i h = ap (λ (w : Sweep). w .live) (from-end l vars i h)
+  live-end i h = ap (λ (w : Sweep). w .live) (sweep-end l vars i h)
 
   pub live-stays : (i v : ℕ) → has (liveAt l vars (suc i)) v ≡ true → writesAt l i v ≡ false → has (liveAt l vars i) v ≡ true
   live-stays i v h w = rw (live-on i v, h, w)

@@ -2,3 +2,5 @@
 pub mod Slice
 pub mod Precedence
 pub mod Order
+pub mod Uses
+pub mod Table

@@ -11,8 +11,7 @@ use Rattle.route.specs.Steps.{blank, stepsOf, lookup}
 use Rattle.route.specs.declared.Route.{Route}
 use Rattle.route.specs.declared.Outcome.{Outcome}
 use Rattle.route.proofs.Full.{full}
-use Rattle.route.proofs.StepList.{length-steps, length-names}
-use Rattle.route.proofs.Column.{missed-step, found-below, found-step}
+use Rattle.route.proofs.Column.{column-length, missed-step, found-below, found-step}
 use Rattle.job.specs.Run.{stopped, runFrom}
 use Rattle.job.proofs.RunLine.{run-end, run-missing, run-stuck, run-on}
 use borrow.Author.Needs.{needs}
@@ -64,8 +63,8 @@ array-share-prefix-column c = search needs
 
 slice-aggregate-find : tie.Need-slice-aggregate-find Inv-loop μ-loop
 slice-aggregate-find c =
-    let at = c .before .before in
-    sym (ap length (at .before .names .ensures) ∙ length-names (stepsOf (at .before .before .before .args .t1)) ∙ length-steps _ (full (at .before .before .before .args .t1) _ (at .before .before .before .good .0)))
+    let e = c .before .before .before in
+    column-length (e .before .before .args .t1) (e .names .result) (full (e .before .before .args .t1) _ (e .before .before .good .0)) (e .names .ensures)
 
 mul-find : tie.Need-mul-find Inv-loop μ-loop
 mul-find c = search needs

@@ -5,8 +5,9 @@ use Prim.Native.Nat.{ℕ, _-_, _≤_}
 use native.Mathlib.Omega.{arith}
 use lib.ListN.{length, take, drop, length-set}
 use Rattle.route.specs.Steps.{stepsOf, names}
+use Rattle.route.specs.declared.Step.{Step}
 use Rattle.route.proofs.Full.{full}
-use Rattle.route.proofs.StepList.{steps-on, steps-end, names-more, names-done}
+use Rattle.route.proofs.StepList.{steps-on, steps-end, column-more, column-done}
 use borrow.Author.Needs.{needs}
 use Rattle.route.proofs.Route.names.Statement.{statement}
 use Rattle.route.proofs.Route.names.Tie as tie
@@ -41,19 +42,21 @@ loop-less : tie.Need-loop-less Inv-loop μ-loop
 loop-less c = search needs
 
 loop-again : tie.Need-loop-again Inv-loop μ-loop
+unfolding names
 loop-again c =
     let at = c .before .before in
     let r = at .before .args .t1 in
     let on = steps-on r (full r _ (at .before .good .0)) (at .loop .i) (omega arith) (omega arith) in
-    (omega arith, (search needs, names-more (at .loop .column) _ (at .loop .i) _ _ _ (omega arith) on (at .loop .inv .1 .1)))
+    (omega arith, (search needs, column-more (λ (s : Step). s .name) (at .loop .column) _ (at .loop .i) _ _ _ (omega arith) on (at .loop .inv .1 .1)))
 
 returns : tie.Need-returns Inv-loop μ-loop
+unfolding names
 returns c =
     let at = c .before in
     let r = at .before .args .t1 in
     let whole : at .loop .i ≡ r .len = omega arith in
     let end = steps-end r (full r _ (at .before .good .0)) (at .loop .i) (omega arith) in
-    rw whole at (names-done (at .loop .column) _ (at .loop .i) _ end (at .loop .inv .1 .1))
+    rw whole at (column-done (λ (s : Step). s .name) (at .loop .column) _ (at .loop .i) _ end (at .loop .inv .1 .1))
 
 pub names-spec : {M : Type 1} → statement M
 names-spec =

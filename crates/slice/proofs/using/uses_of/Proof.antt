@@ -1,0 +1,157 @@
+-- `slice::using::uses_of`: the columns filled so far, and those of the occurrences that are left, are the columns of all.
+use mathlib.Core.Path.{_≡_, refl, sym, ap, _∙_}
+use mathlib.Core.List.{List, _∷_, _++_}
+use mathlib.Core.Option.{none, some}
+use Prim.Native.Nat.{ℕ, _+_, _-_, _≤_, _<_}
+use native.Mathlib.Omega.{arith}
+use borrow.Author.Needs.{needs}
+use lib.ListN.{length, take, drop, getD, set}
+use Rattle.route.specs.Steps.{blank, stepsOf, lookup}
+use Rattle.route.specs.declared.Step.{Step}
+use Rattle.route.specs.declared.Route.{Route}
+use Rattle.route.proofs.Full.{full}
+use Rattle.route.proofs.StepList.{column-more, column-done}
+use Rattle.route.proofs.Column.{column-length, missed-step, found-below, found-step}
+use Rattle.slice.specs.Slice.{performed}
+use Rattle.slice.specs.Uses.{readsOf, writesOf}
+use Rattle.slice.proofs.Done.{length-performed, performed-on, performed-end}
+use Rattle.slice.proofs.using.uses_of.Statement.{statement}
+use Rattle.slice.proofs.using.uses_of.Tie as tie
+
+abbrev Inv-loop : tie.InvT-loop
+Inv-loop done old column len reads₀ writes₀ i₀ reads writes i =
+    (i ≤ length done) × ((length reads ≡ 64) × ((length writes ≡ 64)
+    × ((take i reads ++ readsOf (drop i (performed (stepsOf old) done)) ≡ readsOf (performed (stepsOf old) done))
+    × (take i writes ++ writesOf (drop i (performed (stepsOf old) done)) ≡ writesOf (performed (stepsOf old) done)))))
+
+abbrev μ-loop : tie.MeasureT-loop
+μ-loop done old column len reads₀ writes₀ i₀ reads writes i = length done - i
+
+-- where a name is found: what stands there
+module _ (c : tie.After-known-told Inv-loop μ-loop) where
+  abbrev at : tie.At-loop Inv-loop μ-loop
+  at = c .before .before .before .before .before .before .before
+
+  abbrev old : Route
+  old = at .before .before .before .args .t1
+
+  abbrev k : ℕ
+  k = c .before .k .given .0 .0
+
+  k-below : k < old .len
+  k-below = found-below old (at .before .names .result) _ _ (at .before .names .ensures) (c .before .before .before .find .ensures) (full old _ (at .before .before .before .good .0)) k (c .before .k .given .1)
+
+  step-is : lookup (getD (at .before .before .before .args .done .now) (at .loop .i) 0) (stepsOf old) ≡ some (getD (old .steps) k blank)
+  step-is = found-step old (at .before .names .result) _ _ (at .before .names .ensures) (c .before .before .before .find .ensures) (full old _ (at .before .before .before .good .0)) k (c .before .k .given .1) (omega arith)
+
+-- one occurrence more, whose reads and writes are stored
+stored : (l k : List Step) (s : Step) (reads writes : List ℕ) (i : ℕ) (whole whole′ : List ℕ) → l ≡ s ∷ k → i < length reads → i < length writes → take i reads ++ readsOf l ≡ whole → take i writes ++ writesOf l ≡ whole′ → (take (i + 1) (set reads i (s .reads)) ++ readsOf k ≡ whole) × (take (i + 1) (set writes i (s .writes)) ++ writesOf k ≡ whole′)
+unfolding readsOf writesOf
+stored l k s reads writes i whole whole′ on h h′ inv inv′ =
+    (column-more (λ (t : Step). t .reads) reads whole i s l k h on inv, column-more (λ (t : Step). t .writes) writes whole′ i s l k h′ on inv′)
+
+names-requires : tie.Need-names-requires Inv-loop μ-loop
+names-requires c κs = search needs
+
+loop-holds : tie.Need-loop-holds Inv-loop μ-loop
+loop-holds c = (omega arith, (refl, (refl, (refl, refl))))
+
+array-share-prefix-column : tie.Need-array-share-prefix-column Inv-loop μ-loop
+array-share-prefix-column c = search needs
+
+slice-aggregate-find : tie.Need-slice-aggregate-find Inv-loop μ-loop
+slice-aggregate-find c =
+    let e = c .before .before .before in
+    column-length (e .before .before .args .t1) (e .names .result) (full (e .before .before .args .t1) _ (e .before .before .good .0)) (e .names .ensures)
+
+mul-find : tie.Need-mul-find Inv-loop μ-loop
+mul-find c = search needs
+
+shared-slice-read-find : tie.Need-shared-slice-read-find Inv-loop μ-loop
+shared-slice-read-find c = search needs
+
+find-requires : tie.Need-find-requires Inv-loop μ-loop
+find-requires c κs = search needs
+
+enum-known-k : tie.Need-enum-known-k Inv-loop μ-loop
+enum-known-k c = search needs
+
+enum-told : tie.Need-enum-told Inv-loop μ-loop
+enum-told c = search needs
+
+mul-reads : tie.Need-mul-reads Inv-loop μ-loop
+mul-reads c = search needs
+
+array-write-reads : tie.Need-array-write-reads Inv-loop μ-loop
+array-write-reads c = search needs
+
+mul-writes : tie.Need-mul-writes Inv-loop μ-loop
+mul-writes c = search needs
+
+array-write-writes : tie.Need-array-write-writes Inv-loop μ-loop
+array-write-writes c = search needs
+
+add-i : tie.Need-add-i Inv-loop μ-loop
+add-i c = search needs
+
+loop-less : tie.Need-loop-less Inv-loop μ-loop
+loop-less c = search needs
+
+loop-again : tie.Need-loop-again Inv-loop μ-loop
+loop-again c =
+    let f = c .before .before in
+    let l = f .before .before .before .before in
+    let a = l .before .before .before .args in
+    let gone = missed-step (a .t1) (l .before .names .result) _ _ (l .before .names .ensures) (f .find .ensures) (c .enum-told .given .1) in
+    let on = performed-on (stepsOf (a .t1)) (a .done .now) (l .loop .i) none (omega arith) gone in
+    let more = stored _ _ _ (l .loop .reads) (l .loop .writes) (l .loop .i) _ _ on (omega arith) (omega arith) (l .loop .inv .1 .1 .1 .0) (l .loop .inv .1 .1 .1 .1) in
+    (omega arith, (search needs, (search needs, (more .0, more .1))))
+
+mul-s : tie.Need-mul-s Inv-loop μ-loop
+mul-s c = omega (arith, k-below c)
+
+element-copy-out-s : tie.Need-element-copy-out-s Inv-loop μ-loop
+element-copy-out-s c = omega (arith, k-below c)
+
+mul-reads-2 : tie.Need-mul-reads-2 Inv-loop μ-loop
+mul-reads-2 c = search needs
+
+array-write-reads-2 : tie.Need-array-write-reads-2 Inv-loop μ-loop
+array-write-reads-2 c = search needs
+
+mul-writes-2 : tie.Need-mul-writes-2 Inv-loop μ-loop
+mul-writes-2 c = search needs
+
+array-write-writes-2 : tie.Need-array-write-writes-2 Inv-loop μ-loop
+array-write-writes-2 c = search needs
+
+add-i-2 : tie.Need-add-i-2 Inv-loop μ-loop
+add-i-2 c = search needs
+
+loop-less-2 : tie.Need-loop-less-2 Inv-loop μ-loop
+loop-less-2 c = search needs
+
+loop-again-2 : tie.Need-loop-again-2 Inv-loop μ-loop
+loop-again-2 c =
+    let l = at (c .before) in
+    let a = l .before .before .before .args in
+    let on = performed-on (stepsOf (a .t1)) (a .done .now) (l .loop .i) _ (omega arith) (step-is (c .before)) in
+    let more = stored _ _ _ (l .loop .reads) (l .loop .writes) (l .loop .i) _ _ on (omega arith) (omega arith) (l .loop .inv .1 .1 .1 .0) (l .loop .inv .1 .1 .1 .1) in
+    (omega arith, (search needs, (search needs, (more .0, more .1))))
+
+returns : tie.Need-returns Inv-loop μ-loop
+unfolding readsOf writesOf
+returns c =
+    let l = c .before in
+    let a = l .before .before .before .args in
+    let end : length (a .done .now) ≤ l .loop .i = omega arith in
+    let whole : l .loop .i ≡ length (a .done .now) = omega arith in
+    let none-left = performed-end (stepsOf (a .t1)) (a .done .now) (l .loop .i) end in
+    record {
+      length-is = sym (length-performed (stepsOf (a .t1)) (a .done .now));
+      reads-are = rw whole at (column-done (λ (t : Step). t .reads) (l .loop .reads) _ (l .loop .i) _ none-left (l .loop .inv .1 .1 .1 .0));
+      writes-are = rw whole at (column-done (λ (t : Step). t .writes) (l .loop .writes) _ (l .loop .i) _ none-left (l .loop .inv .1 .1 .1 .1));
+    }
+
+pub uses-of-spec : {M : Type 1} → statement M
+uses-of-spec = tie.close (tie.spec Inv-loop μ-loop names-requires loop-holds array-share-prefix-column slice-aggregate-find mul-find shared-slice-read-find find-requires enum-known-k enum-told mul-reads array-write-reads mul-writes array-write-writes add-i loop-less loop-again mul-s element-copy-out-s mul-reads-2 array-write-reads-2 mul-writes-2 array-write-writes-2 add-i-2 loop-less-2 loop-again-2 returns)
