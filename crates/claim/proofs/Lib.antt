@@ -1,9 +1,30 @@
--- Replay of values: the order does not matter, and neither does what is not kept.
+-- Values: the order does not matter, and neither does what is not kept. Try and judge: what they accept and give. Main states it all.
 pub mod Perform
 pub mod Drop
 pub mod Entries
 pub mod Commute
+pub mod Put
 pub mod Reorder
 pub mod Own
 pub mod Same
 pub mod Replayed
+pub mod Pass
+pub mod Fires
+pub mod Turn
+pub mod Ran
+pub mod Count
+pub mod Fresh
+pub mod FitList
+pub mod KeptPass
+pub mod ListRow
+pub mod EntryRows
+pub mod Accepts
+pub mod Dictionary
+pub mod Candidates
+pub mod Placed
+pub mod First
+pub mod Judge
+pub mod Markings
+pub mod Carried
+pub mod Demand3
+pub mod Main

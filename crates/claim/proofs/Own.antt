@@ -53,7 +53,7 @@ own-once n kept h i = once-from n 0 kept i (omega arith) (λ k. omega (arith, h 
 
 -- ---- in order
 
-not-after : (l : List Step) (i j : ℕ) → i ≤ j → comesAfter l i j ≡ false
+pub not-after : (l : List Step) (i j : ℕ) → i ≤ j → comesAfter l i j ≡ false
 unfolding comesAfter
 not-after l i j h = rw (le-ltb j i h)
 

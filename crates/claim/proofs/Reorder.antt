@@ -2,12 +2,12 @@
 -- it clashes with none of, since one of the two orders would be broken. So it comes to the front there too, and the rest goes on the same
 -- way.
 use mathlib.Core.Path.{_≡_, refl, sym, ap, ap₂, _∙_}
-use mathlib.Core.Bool.{Bool, true, false, not, cond, _&&_}
+use mathlib.Core.Bool.{Bool, true, false, not, _&&_}
 use mathlib.Core.List.{List, [], _∷_}
-use Prim.Native.Nat.{ℕ, _+_, _<_}
+use Prim.Native.Nat.{ℕ}
 use native.Mathlib.Omega.{arith}
-use lib.Dec.{eqb, ltb}
-use borrow.Author.Tests.{eqb-true, ltb-false, not-true}
+use lib.Dec.{ltb}
+use borrow.Author.Tests.{ltb-false, not-true}
 use Rattle.route.specs.declared.Step.{Step}
 use Rattle.slice.specs.Precedence.{clash, comesAfter}
 use Rattle.slice.specs.Order.{times, EachOnce, noneOf, inOrder}
@@ -15,30 +15,8 @@ use Rattle.mask.proofs.Truth.{both}
 use Rattle.claim.specs.Values.{Store, Work, perform, performAll}
 use Rattle.claim.proofs.Perform.{stepAt}
 use Rattle.claim.proofs.Entries.{once, none-each, none-within, head-order}
+use Rattle.claim.proofs.Put.{Put, here, there, put-times, put-in, take-out}
 use Rattle.claim.proofs.Commute.{clash-comm, commute}
-
--- k is r with x put in somewhere
-data Put (x : ℕ) : List ℕ → List ℕ → Type 0 where
-  here : {r : List ℕ} → Put x r (x ∷ r)
-  there : {y : ℕ} {r k : List ℕ} → Put x r k → Put x (y ∷ r) (y ∷ k)
-
-put-times : {x : ℕ} {r k : List ℕ} → Put x r k → (i : ℕ) → times i k ≡ cond (eqb x i) 1 0 + times i r
-unfolding times
-put-times here i = refl
-put-times (there p) i = let ih = put-times p i in omega arith
-
-put-in : {x : ℕ} {r k : List ℕ} → Put x r k → 0 < times x k
-put-in {x = x} {r = r} p = rw (put-times p x) (once x (times x r))
-
--- what stands in a list can be taken out
-take-out : (x : ℕ) (k : List ℕ) → 0 < times x k → (r : List ℕ) × Put x r k
-unfolding times
-take-out x [] h = absurd (omega arith)
-take-out x (y ∷ k) h = go (eqb y x) refl h (take-out x k)
-  where
-    go : (t : Bool) → eqb y x ≡ t → 0 < cond t 1 0 + times x k → (0 < times x k → (r : List ℕ) × Put x r k) → (r : List ℕ) × Put x r (y ∷ k)
-    go true e h ih = let same : y ≡ x = eqb-true y x e in (k, rw same here)
-    go false e h ih = let (r, p) = ih (omega arith) in (y ∷ r, there p)
 
 -- what is left of a list in order is in order
 put-order : (l : List Step) {x : ℕ} {r k : List ℕ} → Put x r k → inOrder l k ≡ true → inOrder l r ≡ true

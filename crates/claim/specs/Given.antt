@@ -1,0 +1,17 @@
+-- Which of the fit lists judge gives.
+use mathlib.Core.Path.{_≡_}
+use mathlib.Core.Bool.{true, false}
+use mathlib.Core.List.{List, map}
+use Prim.Native.Nat.{ℕ, suc}
+use lib.ListN.{length}
+use Rattle.job.specs.Job.{Job}
+use Rattle.slice.specs.Order.{inTurn}
+use Rattle.fit.specs.Straight.{runsStraight}
+use Rattle.fit.specs.Dictionary.{NotAfter}
+use Rattle.claim.specs.Demand3.{stepsDone, FitFor}
+
+-- "The engine gives the straight list if there is one; else, of all fit lists, the first in dictionary order of occurrence numbers."
+pub record Given (j : Job) (o : List ℕ) : Type 0 where
+  pub fit : FitFor j o
+  pub straight : runsStraight (j .newPlaces) (j .new) (stepsDone j) ≡ true → o ≡ map suc (inTurn 0 (length (j .done)))
+  pub first : runsStraight (j .newPlaces) (j .new) (stepsDone j) ≡ false → (q : List ℕ) → FitFor j q → NotAfter o q

@@ -1,0 +1,10 @@
+-- Which orders are fit, and the operations try and judge.
+pub mod Straight
+pub mod Fit
+pub mod KeptRows
+pub mod Try
+pub mod Dictionary
+pub mod Search
+pub mod Candidates
+pub mod Dead
+pub mod Judge

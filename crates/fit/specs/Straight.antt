@@ -1,0 +1,50 @@
+-- Straight replay: the whole done list in its own order on the new route. `l` is the list of the steps done, `new` the new route's steps.
+use mathlib.Core.Path.{_≡_}
+use mathlib.Core.Bool.{Bool, true, false, cond, _&&_}
+use mathlib.Core.List.{List, [], _∷_, map}
+use mathlib.Core.Option.{Option, none, some}
+use Prim.Native.Nat.{ℕ}
+use lib.Dec.{eqb}
+use lib.ListN.{length, getD}
+use Rattle.route.specs.Steps.{blank, lookup}
+use Rattle.route.specs.Firing.{canFire, fire, start}
+use Rattle.route.specs.declared.Step.{Step}
+use Rattle.slice.specs.Order.{inTurn}
+
+unfoldable pub isSome : {A : Type 0} → Option A → Bool
+isSome none = false
+isSome (some a) = true
+
+unfoldable pub sameData : Step → Option Step → Bool
+sameData s none = false
+sameData s (some t) = eqb (t .reads) (s .reads) && eqb (t .writes) (s .writes)
+
+-- the step's name "is in the new route with the same reads and writes"
+unfoldable pub sameStep : List Step → Step → Bool
+sameStep new s = sameData s (lookup (s .name) new)
+
+unfoldable pub allOf : (Step → Bool) → List Step → Bool
+allOf t [] = true
+allOf t (s ∷ l) = t s && allOf t l
+
+-- firing in turn the new route's steps of these names: the marking at the end, or none where one isn't there or can't fire
+unfoldable pub fireStep : ℕ → Option Step → (ℕ → Option ℕ) → Option ℕ
+fireStep m none next = none
+fireStep m (some t) next = cond (canFire m t) (next (fire m t)) none
+
+unfoldable pub fireAll : List Step → ℕ → List Step → Option ℕ
+fireAll new m [] = some m
+fireAll new m (s ∷ l) = fireStep m (lookup (s .name) new) (λ m′. fireAll new m′ l)
+
+-- the steps of a list of occurrences
+unfoldable pub stepsOn : List Step → List ℕ → List Step
+stepsOn l o = map (λ (i : ℕ). getD l i blank) o
+
+-- where there is a straight list: "each name is in the new route with the same reads and writes, and all fire from the new start"
+unfoldable pub runsStraight : ℕ → List Step → List Step → Bool
+runsStraight places new l = allOf (sameStep new) l && isSome (fireAll new (start places new) l)
+
+-- "Straight: the whole done list in its own order, where .."
+pub record Straight (places : ℕ) (new l : List Step) (o : List ℕ) : Type 0 where
+  pub whole : o ≡ inTurn 0 (length l)
+  pub runs : runsStraight places new l ≡ true
