@@ -24,30 +24,34 @@ pub fn variables_of(r: Route) -> u32
     vars
 }
 
-// What each done step reads and writes, by its step in the old route.
+// What each done step is called, reads and writes, by its step in the old route.
 pub fn uses_of(old: Route, done: &[u32]) -> Uses
     requires { ⌜ (old .len ≤ 64) × (length (now done) ≤ 64) ⌝ }
     ensures { λ u. ⌜ UsesOf (performed (stepsOf old) (now (done .entry))) u ⌝ }
 {
     let column = old.names();
     let len = old.len;
+    let mut names = [0u32; 64];
     let mut reads = [0u32; 64];
     let mut writes = [0u32; 64];
     let mut i = 0;
     while i < done.len() {
         let Found::At(k) = route::steps::find(&column[..len], done[i]) else {
+            names[i] = 0;
             reads[i] = 0;
             writes[i] = 0;
             i += 1;
             continue;
         };
         let s = old.steps[k];
+        names[i] = s.name;
         reads[i] = s.reads;
         writes[i] = s.writes;
         i += 1;
     }
     Uses {
         len: done.len(),
+        names,
         reads,
         writes,
     }

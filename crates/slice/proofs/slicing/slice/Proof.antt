@@ -1,4 +1,4 @@
--- `slice::slicing::slice`: the rows to 9, and else what the sweep and the table say of the steps done.
+-- `slice::slicing::slice`: the rows to 9, and else what is kept and the table.
 use mathlib.Core.Path.{_≡_, sym, ap, _∙_}
 use mathlib.Core.Bool.{Bool, true, false, cond}
 use mathlib.Core.List.{List}
@@ -7,7 +7,7 @@ use native.Mathlib.Omega.{arith}
 use borrow.Author.Needs.{needs}
 use borrow.Author.Tests.{eq-eqb, ne-eqb}
 use lib.Dec.{eqb}
-use lib.ListN.{length, take, replicate}
+use lib.ListN.{length, replicate}
 use Rattle.route.proofs.Full.{full}
 use Rattle.route.proofs.StepList.{length-steps}
 use Rattle.job.specs.Job.{Job, jobOf}
@@ -17,9 +17,6 @@ use Rattle.job.proofs.Rows.{LinesFit}
 use Rattle.job.proofs.RunLine.{ran-fits}
 use Rattle.slice.specs.Slice.{performed, variables, keptMask}
 use Rattle.slice.specs.Table.{table, sliced}
-use Rattle.slice.specs.Uses.{UsesOf}
-use Rattle.slice.proofs.Done.{length-performed}
-use Rattle.slice.proofs.Columns.{reads-long, writes-long, reads-fit, writes-fit, even, kept-is, table-is}
 use Rattle.slice.proofs.slicing.slice.Statement.{statement}
 use Rattle.slice.proofs.slicing.slice.Tie as tie
 
@@ -48,66 +45,23 @@ module _ (c : tie.Else1) where
   new-length : length (job .new) ≡ c .before .before .before .before .args .new .len
   new-length = length-steps _ (full (c .before .before .before .before .args .new) _ (c .before .before .before .before .good .1 .0))
 
--- once the columns are there
-module _ (c : tie.After-uses-of) where
-  uses : UsesOf (performed (job (c .before) .old) (job (c .before) .done)) (c .uses-of .result)
-  uses = c .uses-of .ensures
-
-  short : length (take (c .uses-of .result .len) (c .uses-of .result .reads)) ≤ 64
-  short = omega (arith, reads-long _ _ uses, uses .length-is, length-performed (job (c .before) .old) (job (c .before) .done), fits (c .before) .done-fit)
-
 run-requires : tie.Need-run-requires
-run-requires c κs = tt
+run-requires c κs = search needs
 
 returns : tie.Need-returns
 returns c =
     let a = c .before .before .before .before .args in
     refused (jobOf (a .old) (a .new) (a .done .now)) _ (c .before .before .run .ensures) (c .if1 .taken)
 
-uses-of-requires : tie.Need-uses-of-requires
-uses-of-requires c κs = (omega (arith, fits c .old-fits .steps-fit, old-length c), fits c .done-fit)
-
-variables-of-requires : tie.Need-variables-of-requires
-variables-of-requires c κs = omega (arith, fits (c .before) .new-fits .steps-fit, new-length (c .before))
-
-array-share-prefix-reads : tie.Need-array-share-prefix-reads
-array-share-prefix-reads c = reads-fit _ _ (uses (c .before .before .before))
-
-slice-aggregate-keep : tie.Need-slice-aggregate-keep
-slice-aggregate-keep c = reads-long _ _ (uses (c .before .before .before .before))
-
-array-share-prefix-writes : tie.Need-array-share-prefix-writes
-array-share-prefix-writes c = writes-fit _ _ (uses (c .before .before .before .before))
-
-slice-aggregate-keep-2 : tie.Need-slice-aggregate-keep-2
-slice-aggregate-keep-2 c = writes-long _ _ (uses (c .before .before .before .before .before))
-
-keep-requires : tie.Need-keep-requires
-keep-requires c κs = (even _ _ (uses (c .before .before .before .before .before)), short (c .before .before .before .before .before))
-
-array-share-prefix-reads-2 : tie.Need-array-share-prefix-reads-2
-array-share-prefix-reads-2 c = reads-fit _ _ (uses (c .before .before .before .before .before .before))
-
-slice-aggregate-table-of : tie.Need-slice-aggregate-table-of
-slice-aggregate-table-of c = reads-long _ _ (uses (c .before .before .before .before .before .before .before))
-
-array-share-prefix-writes-2 : tie.Need-array-share-prefix-writes-2
-array-share-prefix-writes-2 c = writes-fit _ _ (uses (c .before .before .before .before .before .before .before))
-
-slice-aggregate-table-of-2 : tie.Need-slice-aggregate-table-of-2
-slice-aggregate-table-of-2 c = writes-long _ _ (uses (c .before .before .before .before .before .before .before .before))
-
-table-of-requires : tie.Need-table-of-requires
-table-of-requires c κs = (even _ _ (uses (c .before .before .before .before .before .before .before .before)), short (c .before .before .before .before .before .before .before .before))
+cut-requires : tie.Need-cut-requires
+cut-requires c κs =
+    ((omega (arith, fits c .old-fits .steps-fit, old-length c), omega (arith, fits c .new-fits .steps-fit, new-length c)), fits c .done-fit)
 
 returns-2 : tie.Need-returns-2
 returns-2 c =
-    let u = c .before .before .before .before .before .before .before .before .before in
-    let e = u .before in
-    let vars = c .before .before .before .before .before .before .before .before .variables-of .ensures in
-    answered (job e) _ (e .before .before .run .ensures) (e .if1 .left) _ _
-    (c .before .before .before .keep .ensures ∙ kept-is _ _ (uses u) _ ∙ ap (keptMask (performed (job e .old) (job e .done))) vars)
-    (c .table-of .ensures ∙ table-is _ _ (uses u))
+    let k = c .before in
+    let e = k .before in
+    answered (job e) _ (e .before .before .run .ensures) (e .if1 .left) _ _ (k .cut .ensures .kept-is) (k .cut .ensures .table-is)
 
 pub slice-spec : {M : Type 1} → statement M
-slice-spec = tie.close (tie.spec run-requires returns uses-of-requires variables-of-requires array-share-prefix-reads slice-aggregate-keep array-share-prefix-writes slice-aggregate-keep-2 keep-requires array-share-prefix-reads-2 slice-aggregate-table-of array-share-prefix-writes-2 slice-aggregate-table-of-2 table-of-requires returns-2)
+slice-spec = tie.close (tie.spec run-requires returns cut-requires returns-2)
