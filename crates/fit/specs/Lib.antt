@@ -8,3 +8,4 @@ pub mod Search
 pub mod Candidates
 pub mod Dead
 pub mod Judge
+pub mod Case
