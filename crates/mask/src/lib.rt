@@ -52,6 +52,13 @@ pub fn count32(m: u32) -> u32
     u32::count_ones(m)
 }
 
+pub fn bit32(v: usize) -> u32
+    requires { ⌜ v < 32 ⌝ }
+    ensures { λ r. ⌜ r ≡ bit v ⌝ }
+{
+    1 << v
+}
+
 pub fn bit64(v: usize) -> u64
     requires { ⌜ v < 64 ⌝ }
     ensures { λ r. ⌜ r ≡ bit v ⌝ }

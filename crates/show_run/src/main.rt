@@ -1,10 +1,11 @@
-// Prints run's answers on records: the route parts of 01's examples, the limits, and a wrong record for each row.
+// Prints run's answers on records: the route parts of 01's examples, the limits, and a wrong record for each row; then fire's.
 // Each line is a label, the number, the second number and the marking.
 use job::Ran;
 use route::Route;
 use route::Step;
 
 mod faults;
+mod fires;
 mod letters;
 mod limits;
 
@@ -38,4 +39,5 @@ fn main() {
     faults::show_lines();
     faults::show_steps();
     faults::show_runs();
+    fires::show();
 }

@@ -2,7 +2,8 @@
 // occurrences as a mask, then a line for each row of the table that isn't empty.
 use route::Route;
 use samples::letters;
-use samples::{step, two};
+use samples::step;
+use samples::two;
 use slice::Sliced;
 
 fn say_row(i: usize, row: u64) {
@@ -40,7 +41,11 @@ fn show_loops() {
     let fed = two(2, step(10, 1, 2, 0, 1), step(20, 2, 2, 2, 2));
     say_both(b"looped, each run feeds the next", fed, &[10, 20, 20, 20]);
     let fresh = two(2, step(10, 1, 2, 0, 1), step(20, 2, 2, 1, 2));
-    say_both(b"looped, only the last run counts", fresh, &[10, 20, 20, 20]);
+    say_both(
+        b"looped, only the last run counts",
+        fresh,
+        &[10, 20, 20, 20],
+    );
     let silent = two(2, step(10, 1, 2, 0, 1), step(20, 2, 2, 1, 0));
     say_both(b"a step that writes nothing", silent, &[10, 20, 20]);
 }
@@ -49,9 +54,18 @@ fn main() {
     let old = letters::a_old();
     let new = letters::a_new();
     say(b"A", slice::slicing::slice(old, new, &[10, 20, 30]));
-    say(b"D", slice::slicing::slice(letters::d_old(), letters::d_new(), &[10, 20]));
-    say(b"E", slice::slicing::slice(old, letters::e_new(), &[10, 20]));
-    say(b"F", slice::slicing::slice(old, letters::f_new(), &[10, 20]));
+    say(
+        b"D",
+        slice::slicing::slice(letters::d_old(), letters::d_new(), &[10, 20]),
+    );
+    say(
+        b"E",
+        slice::slicing::slice(old, letters::e_new(), &[10, 20]),
+    );
+    say(
+        b"F",
+        slice::slicing::slice(old, letters::f_new(), &[10, 20]),
+    );
     say_both(b"K", letters::k_both(), &[10, 20, 20]);
     show_loops();
     say(b"refused", slice::slicing::slice(old, new, &[40]));
