@@ -1,0 +1,43 @@
+-- Lists that are gathered with the latest first, and their texts.
+-- Assumes nothing.
+use mathlib.Core.Path.{_≡_, refl, sym, ap, _∙_}
+use mathlib.Core.List.{List, [], _∷_, _++_, reverse, reverseAux}
+use Prim.Native.Nat.{ℕ}
+use Rattle.layout.specs.Text.{Form, number, entries, stepLine, wordLine, stepLines, doneLines, Short, Shorts, ShortForm, ShortForms}
+use Rattle.layout.specs.declared.Word.{Word}
+use Rattle.layout.specs.declared.Word.the-variants.{Done}
+
+unfoldable pub entriesBack : List ℕ → List ℕ → List ℕ
+entriesBack [] s = s
+entriesBack (n ∷ l) s = entriesBack l (32 ∷ number n s)
+
+unfoldable pub stepsBack : List Form → List ℕ → List ℕ
+stepsBack [] s = s
+stepsBack (f ∷ l) s = stepsBack l (stepLine f s)
+
+unfoldable pub donesBack : List ℕ → List ℕ → List ℕ
+donesBack [] s = s
+donesBack (n ∷ l) s = donesBack l (wordLine Done n s)
+
+pub entries-back : (l r s : List ℕ) → entries (reverseAux l r) s ≡ entriesBack l (entries r s)
+unfolding entriesBack entries
+entries-back [] r s = refl
+entries-back (n ∷ l) r s = entries-back l (n ∷ r) s
+
+pub steps-back : (l r : List Form) (s : List ℕ) → stepLines (reverseAux l r) s ≡ stepsBack l (stepLines r s)
+unfolding stepsBack stepLines
+steps-back [] r s = refl
+steps-back (f ∷ l) r s = steps-back l (f ∷ r) s
+
+pub dones-back : (l r s : List ℕ) → doneLines (reverseAux l r) s ≡ donesBack l (doneLines r s)
+unfolding donesBack doneLines
+dones-back [] r s = refl
+dones-back (n ∷ l) r s = dones-back l (n ∷ r) s
+
+pub shorts-back : (l r : List ℕ) → Shorts l → Shorts r → Shorts (reverseAux l r)
+shorts-back [] r h k = k
+shorts-back (n ∷ l) r h k = shorts-back l (n ∷ r) (h .1) (h .0, k)
+
+pub forms-back : (l r : List Form) → ShortForms l → ShortForms r → ShortForms (reverseAux l r)
+forms-back [] r h k = k
+forms-back (f ∷ l) r h k = forms-back l (f ∷ r) (h .1) (h .0, k)

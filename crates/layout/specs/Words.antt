@@ -1,0 +1,28 @@
+-- "The nine words": old, new, job, done, step, in, out, read, write, as bytes.
+use mathlib.Core.List.{List, [], _∷_}
+use Prim.Native.Nat.{ℕ}
+use Rattle.layout.specs.declared.Word.{Word}
+use Rattle.layout.specs.declared.Word.the-variants.{Old, New, Job, Done, Step, In, Out, Read, Write}
+
+unfoldable pub spelling : Word → List ℕ
+spelling Old = 111 ∷ 108 ∷ 100 ∷ []
+spelling New = 110 ∷ 101 ∷ 119 ∷ []
+spelling Job = 106 ∷ 111 ∷ 98 ∷ []
+spelling Done = 100 ∷ 111 ∷ 110 ∷ 101 ∷ []
+spelling Step = 115 ∷ 116 ∷ 101 ∷ 112 ∷ []
+spelling In = 105 ∷ 110 ∷ []
+spelling Out = 111 ∷ 117 ∷ 116 ∷ []
+spelling Read = 114 ∷ 101 ∷ 97 ∷ 100 ∷ []
+spelling Write = 119 ∷ 114 ∷ 105 ∷ 116 ∷ 101 ∷ []
+
+-- a word's row in the table
+unfoldable pub numberOf : Word → ℕ
+numberOf Old = 0
+numberOf New = 1
+numberOf Job = 2
+numberOf Done = 3
+numberOf Step = 4
+numberOf In = 5
+numberOf Out = 6
+numberOf Read = 7
+numberOf Write = 8

@@ -1,0 +1,49 @@
+// The layout of a sheet: the nine words, the points between its bytes, and the step from point to point.
+pub mod points;
+pub mod words;
+
+// The nine words.
+pub enum Word {
+    Old,
+    New,
+    Job,
+    Done,
+    Step,
+    In,
+    Out,
+    Read,
+    Write,
+}
+
+// Which part of the sheet a line belongs to; a head opens its part.
+pub enum Part {
+    OldRoute,
+    NewRoute,
+    JobPart,
+}
+
+// Where a reader stands between two bytes. The word is the last that was met, or is being read.
+pub enum Point {
+    // before the first byte
+    Start,
+    // at the start of a line
+    Open(Part),
+    // past a line's bracket, where its first letter says which line it is
+    Choice(Part),
+    // in a word, some letters past
+    Letters(Word, Part, usize),
+    // past a word
+    Past(Word, Part),
+    // at a number's first digit
+    Digit(Word, Part),
+    // past that many digits of a number; past a lone 0 counts as past five
+    Digits(Word, Part, usize),
+    // at the bracket of the list of that word
+    Gap(Word, Part),
+    // past a list's closing bracket
+    Closed(Word, Part),
+    // at the LF of a line whose last word it is
+    Lf(Word, Part),
+    // no sheet goes on so
+    Stuck,
+}

@@ -1,0 +1,9 @@
+-- Laws on reading.
+pub mod Settle
+pub mod Pass
+pub mod Lists
+pub mod Same
+pub mod Counts
+pub mod LineEnds
+pub mod Stand
+pub mod PartText

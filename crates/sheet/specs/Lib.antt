@@ -1,0 +1,7 @@
+-- A sheet's facts: the rows on its lines, its routes and its done list.
+pub mod Forms
+pub mod Facts
+pub mod Pens
+pub mod PenFacts
+pub mod JobPart
+pub mod SheetRows

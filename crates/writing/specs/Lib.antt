@@ -1,0 +1,2 @@
+-- What writing a job gives.
+pub mod Written

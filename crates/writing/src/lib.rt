@@ -1,0 +1,1 @@
+// Writing: the lines that a job's records give.
