@@ -27,4 +27,5 @@ pub mod Judge
 pub mod Markings
 pub mod Carried
 pub mod Demand3
+pub mod Listing
 pub mod Main

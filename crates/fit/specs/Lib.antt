@@ -9,3 +9,5 @@ pub mod Candidates
 pub mod Dead
 pub mod Judge
 pub mod Case
+pub mod Ready
+pub mod Told

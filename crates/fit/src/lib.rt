@@ -2,8 +2,17 @@
 use route::Outcome;
 use slice::Cut;
 
+pub mod answering;
+pub mod candidates;
 pub mod dead;
+pub mod entries;
+pub mod judging;
+pub mod limits;
+pub mod meeting;
+pub mod preparing;
+pub mod replaying;
 pub mod search;
+pub mod trying;
 
 // How the new route meets each occurrence: whether it has the step, whether that reads and writes the same, and the step's places.
 pub struct Met {
@@ -52,4 +61,20 @@ pub struct Judged {
 pub enum Sequence {
     Of(u64),
     Nothing,
+}
+
+// The positions of at most 16 occurrences, rising; entries past `len` are 0.
+pub struct Positions {
+    pub len: usize,
+    pub at: [u8; 16],
+}
+
+// The candidates of the search: at k the position of candidate k, the places of its step in the new route, and the candidates that it
+// comes after.
+pub struct Picked {
+    pub len: usize,
+    pub at: [u8; 16],
+    pub ins: [u64; 16],
+    pub outs: [u64; 16],
+    pub before: [u32; 16],
 }

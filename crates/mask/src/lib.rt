@@ -2,7 +2,7 @@
 // and the laws in proofs/ hold for any width.
 ghost use mathlib.Core.Path.{_≡_};
 ghost use Prim.Native.Nat.{_<_, _≤_};
-ghost use Rattle.mask.specs.Mask.{bit, below, without, within, meets, count};
+ghost use Rattle.mask.specs.Mask.{has, bit, below, without, within, meets, count};
 
 pub fn within64(a: u64, b: u64) -> bool
     ensures { λ r. ⌜ r ≡ within a b ⌝ }
@@ -38,6 +38,20 @@ pub fn without32(a: u32, b: u32) -> u32
     ensures { λ r. ⌜ r ≡ without a b ⌝ }
 {
     a ^ (a & b)
+}
+
+pub fn holds64(m: u64, v: usize) -> bool
+    requires { ⌜ v < 64 ⌝ }
+    ensures { λ r. ⌜ r ≡ has m v ⌝ }
+{
+    (m >> v) % 2 == 1
+}
+
+pub fn holds32(m: u32, v: usize) -> bool
+    requires { ⌜ v < 32 ⌝ }
+    ensures { λ r. ⌜ r ≡ has m v ⌝ }
+{
+    (m >> v) % 2 == 1
 }
 
 pub fn count64(m: u64) -> u32

@@ -1,0 +1,106 @@
+// The operation judge after the rows to 12: the straight list where there is one, else the first fit list of the kept.
+use crate::Case;
+use crate::Fires;
+use crate::Judged;
+use crate::Met;
+use crate::Picked;
+use crate::Sequence;
+use crate::answering::answered;
+use crate::answering::stop;
+use crate::answering::straight_order;
+use crate::candidates::fired;
+use crate::candidates::numbers;
+use crate::candidates::pick;
+use crate::search::first_order;
+use slice::Cut;
+ghost use mathlib.Core.Path.{_≡_};
+ghost use mathlib.Core.Bool.{cond};
+ghost use mathlib.Core.List.{List, map};
+ghost use mathlib.Core.Option.{Option·getD};
+ghost use Prim.Native.Nat.{ℕ, _≤_, _<_};
+ghost use lib.ListN.{length, getD, take};
+ghost use Rattle.mask.specs.Mask.{below, count};
+ghost use Rattle.route.specs.Firing.{start};
+ghost use Rattle.route.specs.declared.Step.{Step};
+ghost use Rattle.slice.specs.Slice.{performed, variables};
+ghost use Rattle.slice.specs.Order.{inTurn};
+ghost use Rattle.slice.specs.Uses.{CutOf};
+ghost use Rattle.fit.specs.Straight.{fireAll, stepsOn, runsStraight};
+ghost use Rattle.fit.specs.Candidates.{firstOrder, sequence, cleared};
+ghost use Rattle.fit.specs.Judge.{answer, firstFit, judgeFound, judgeRows};
+ghost use Rattle.fit.specs.Told.{firesTo, ItemsOf, CutFits, KeptOf, Ready};
+
+// Lends the candidates to the search.
+fn search_kept(p: Picked, m: u64, work: &mut [u8]) -> Sequence
+    requires { ⌜ p .len ≤ 16 ⌝ }
+    requires { ⌜ 8192 ≤ length (now work) ⌝ }
+    ensures { λ r. ⌜ r ≡ sequence (firstOrder (take (p .len) (p .ins)) (take (p .len) (p .outs)) (take (p .len) (p .before)) m) ⌝ }
+    ensures { λ _. ⌜ now (work .exit) ≡ cleared 8192 (now (work .entry)) ⌝ }
+{
+    let len = p.len;
+    let ins = p.ins;
+    let outs = p.outs;
+    let before = p.before;
+    first_order(&ins[..len], &outs[..len], &before[..len], m, work)
+}
+
+// The straight list, after which all count as kept.
+fn judge_straight(cut: Cut, vars: u32, marking: u64) -> Judged
+    requires { ⌜ cut .uses .len ≤ 64 ⌝ }
+    ensures { λ r. ⌜ ((places : ℕ) (new l : List Step) → CutOf l (variables new) cut → vars ≡ variables new → marking ≡ Option·getD (fireAll new (start places new) l) 0 → r ≡ answer places new l (below (length l)) (inTurn 0 (length l))) ⌝ }
+{
+    let uses = cut.uses;
+    let len = uses.len;
+    let kept = mask::below64(len as u64);
+    let order = straight_order(len);
+    answered(cut, vars, kept, len, order, marking)
+}
+
+// An order that the search found.
+fn judge_found(cut: Cut, vars: u32, p: Picked, order: u64, m: u64) -> Judged
+    requires { ⌜ CutFits cut ⌝ }
+    requires { ⌜ p .len ≤ 16 ⌝ }
+    requires { ⌜ ((k : ℕ) → getD (p .at) k 0 < 64) ⌝ }
+    ensures { λ r. ⌜ ((places : ℕ) (new l : List Step) (o : List ℕ) → CutOf l (variables new) cut → vars ≡ variables new → ItemsOf order (p .len) o → firesTo (p .ins) (p .outs) m o ≡ Option·getD (fireAll new (start places new) (stepsOn l (map (λ (k : ℕ). getD (p .at) k 0) o))) 0 → r ≡ answer places new l (cut .kept) (map (λ (k : ℕ). getD (p .at) k 0) o)) ⌝ }
+{
+    let len = p.len;
+    let at = p.at;
+    let ins = p.ins;
+    let outs = p.outs;
+    let list = numbers(order, &at, len);
+    let marking = fired(order, &ins, &outs, len, m);
+    answered(cut, vars, cut.kept, len, list, marking)
+}
+
+// The first fit list of the kept, or 13.
+fn judge_kept(cut: Cut, met: Met, vars: u32, m: u64, line: u64, work: &mut [u8]) -> Judged
+    requires { ⌜ CutFits cut ⌝ }
+    requires { ⌜ count 64 (cut .kept) ≤ 16 ⌝ }
+    requires { ⌜ 8192 ≤ length (now work) ⌝ }
+    ensures { λ r. ⌜ ((places : ℕ) (new l : List Step) → KeptOf places new l cut met vars m → r ≡ judgeFound line places new l (firstFit places new l)) ⌝ }
+    ensures { λ _. ⌜ now (work .exit) ≡ cleared 8192 (now (work .entry)) ⌝ }
+{
+    let rows = cut.table;
+    let p = pick(cut.kept, met, rows);
+    let found = search_kept(p, m, work);
+    match found {
+        Sequence::Of(order) => judge_found(cut, vars, p, order, m),
+        Sequence::Nothing => stop(13, line),
+    }
+}
+
+// What judge answers in a job that no row to 12 refuses; `line` is that of `(job)`.
+pub fn judge_case(c: Case, vars: u32, line: u64, work: &mut [u8]) -> Judged
+    requires { ⌜ Ready c vars line ⌝ }
+    requires { ⌜ 8192 ≤ length (now work) ⌝ }
+    ensures { λ r. ⌜ ((k : Ready c vars line) → r ≡ judgeRows line (k .job .newPlaces) (k .job .new) (performed (k .job .old) (k .job .done))) ⌝ }
+    ensures { λ _. ⌜ ((k : Ready c vars line) → now (work .exit) ≡ cond (runsStraight (k .job .newPlaces) (k .job .new) (performed (k .job .old) (k .job .done))) (now (work .entry)) (cleared 8192 (now (work .entry)))) ⌝ }
+{
+    let straight = c.straight;
+    let cut = c.cut;
+    let met = c.met;
+    match straight {
+        Fires::To(m) => judge_straight(cut, vars, m),
+        Fires::Stuck => judge_kept(cut, met, vars, c.start, line, work),
+    }
+}
