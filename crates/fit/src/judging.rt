@@ -1,4 +1,4 @@
-// The operation judge after the rows to 12: the straight list where there is one, else the first fit list of the kept.
+// The operation judge: row 14, the rows to 12, then the straight list where there is one, else the first fit list of the kept.
 use crate::Case;
 use crate::Fires;
 use crate::Judged;
@@ -11,8 +11,11 @@ use crate::answering::straight_order;
 use crate::candidates::fired;
 use crate::candidates::numbers;
 use crate::candidates::pick;
+use crate::preparing::prepare;
 use crate::search::first_order;
+use route::Route;
 use slice::Cut;
+use slice::using::variables_of;
 ghost use mathlib.Core.Path.{_≡_};
 ghost use mathlib.Core.Bool.{cond};
 ghost use mathlib.Core.List.{List, map};
@@ -27,7 +30,8 @@ ghost use Rattle.slice.specs.Order.{inTurn};
 ghost use Rattle.slice.specs.Uses.{CutOf};
 ghost use Rattle.fit.specs.Straight.{fireAll, stepsOn, runsStraight};
 ghost use Rattle.fit.specs.Candidates.{firstOrder, sequence, cleared};
-ghost use Rattle.fit.specs.Judge.{answer, firstFit, judgeFound, judgeRows};
+ghost use Rattle.job.specs.Job.{jobOf};
+ghost use Rattle.fit.specs.Judge.{answer, firstFit, judgeFound, judgeRows, judged, workAfter};
 ghost use Rattle.fit.specs.Told.{firesTo, ItemsOf, CutFits, KeptOf, Ready};
 
 // Lends the candidates to the search.
@@ -103,4 +107,21 @@ pub fn judge_case(c: Case, vars: u32, line: u64, work: &mut [u8]) -> Judged
         Fires::To(m) => judge_straight(cut, vars, m),
         Fires::Stuck => judge_kept(cut, met, vars, c.start, line, work),
     }
+}
+
+// Any records, any done list, any work slice.
+pub fn judge(old: Route, new: Route, done: &[u32], work: &mut [u8]) -> Judged
+    ensures { λ r. ⌜ r ≡ judged (jobOf old new (now (done .entry))) (length (now (work .entry))) ⌝ }
+    ensures { λ _. ⌜ now (work .exit) ≡ workAfter (jobOf old new (now (done .entry))) (now (work .entry)) ⌝ }
+{
+    if work.len() < 8192 {
+        return stop(14, 0);
+    }
+    let c = prepare(old, new, done);
+    let o = c.outcome;
+    if o.number != 0 {
+        return stop(o.number, o.second);
+    }
+    let vars = variables_of(new);
+    judge_case(c, vars, 3 + old.len as u64 + new.len as u64, work)
 }
