@@ -10,7 +10,9 @@ use lib.Dec.{eqb, ltb, leb}
 use lib.ListN.{length}
 use borrow.Author.Tests.{ltb-true, ltb-false, leb-true}
 use Rattle.mask.proofs.Truth.{both}
-use Rattle.job.specs.Lines.{nameFits}
+use Rattle.route.specs.Rows.{first}
+use Rattle.route.specs.declared.Outcome.{Outcome}
+use Rattle.job.specs.Lines.{nameFits, lineRows}
 use Rattle.layout.specs.Words.{spelling}
 use Rattle.layout.specs.Text.{Form, Lines, digits, number, entries, listed, stepLine, wordLine, jobLine, stepLines, doneLines, jobText, text, Shorts}
 use Rattle.layout.specs.Parse.{Parsed, parse}
@@ -21,7 +23,10 @@ use Rattle.sheet.specs.Forms.{allBelow, rising, listFits, formFits, formLists}
 use Rattle.sheet.specs.Facts.{factsOf, answered, readOf}
 use Rattle.sheet.specs.declared.Sheet.{Sheet}
 use Rattle.sheet.proofs.Stand.{reads-facts}
-use Rattle.writing.proofs.Fine.{Fine, AllFine, AllLines, lines-fine}
+use Rattle.job.specs.Job as J
+use Rattle.writing.specs.Written.{linesOf, written, AllWide}
+use Rattle.writing.proofs.Fine.{Passes, Fine, AllFine, AllLines, lines-fine}
+use Rattle.writing.proofs.Ties.{tie}
 use Rattle.writing.proofs.Round.{read-is}
 
 long-digits : (f k n : ℕ) (s : List ℕ) → n < 10 ^ suc k → length (digits f n s) ≤ suc k + length s
@@ -114,3 +119,8 @@ pub bounded : (s : List ℕ) (x : Lines) → parse s ≡ Parsed.read x → readO
 bounded s x e z =
     let passed = reads-facts x (ap (λ (y : Sheet). y .number) (sym (read-is s x e)) ∙ z) in
     subst (λ (l : List ℕ). length l ≤ 18136) (sym (sound s x e .same)) (long-text x (lines-fine x (passed .0)))
+
+-- nor is a text that is written
+pub written-bounded : (j : J.Job) → AllWide (j .old) → AllWide (j .new) → Passes (lineRows j) → length (written j) ≤ 18136
+unfolding written
+written-bounded j old new h = long-text (linesOf j) (lines-fine (linesOf j) (ap (λ (rows : List Outcome). eqb (first rows .number) 0) (tie j old new) ∙ h))

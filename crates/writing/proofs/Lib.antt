@@ -5,3 +5,9 @@ pub mod Masks
 pub mod Fine
 pub mod Round
 pub mod Bound
+pub mod Emitting
+pub mod Digits
+pub mod Skips
+pub mod Widths
+pub mod Answers
+pub mod Trips

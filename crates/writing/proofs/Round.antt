@@ -79,7 +79,7 @@ forms-records (f ∷ l) places h fine = ap₂ {C = List Form} (λ (x : Form) (k 
 abbrev pub jobRead : Sheet → Job
 jobRead s = jobOf (s .old) (s .new) (take (s .«done_len») (s .done))
 
-lines-back : (x : Lines) → AllLines x → linesOf (jobRead (factsRecord x)) ≡ x
+pub lines-back : (x : Lines) → AllLines x → linesOf (jobRead (factsRecord x)) ≡ x
 unfolding linesOf factsRecord filled
 lines-back x h =
     λ i. record {

@@ -1,1 +1,11 @@
-// Writing: the lines that a job's records give.
+// Writing: the sheet that a job's records give, into a lent slice.
+pub mod lines;
+pub mod marks;
+pub mod writes;
+
+// 0, 0 and the bytes written; or a refusal, and nothing written.
+pub struct Wrote {
+    pub number: u32,
+    pub second: u64,
+    pub written: u64,
+}

@@ -1,0 +1,43 @@
+-- `listing::lines::value_lines`: the variables in turn.
+use mathlib.Core.Path.{_≡_}
+use lib.ListN.{length}
+use Prim.Native.Nat.{_-_, _≤_}
+use borrow.Author.Needs.{needs}
+use Rattle.listing.proofs.Runs.{Left}
+use Rattle.listing.specs.Listing.{valueLines}
+use Rattle.listing.proofs.EachLine.{valuesFrom, values-start, values-turn, values-end}
+use Rattle.listing.proofs.lines.value_lines.Statement.{statement}
+use Rattle.listing.proofs.lines.value_lines.Tie as tie
+
+abbrev Inv-loop : tie.InvT-loop
+Inv-loop out₀ at writers end₀ v₀ out end v = (v ≤ 32) × ((length out ≡ length out₀) × Left (valuesFrom writers v) out end (valueLines writers) out₀ at)
+
+abbrev μ-loop : tie.MeasureT-loop
+μ-loop out₀ at writers end₀ v₀ out end v = 32 - v
+
+loop-holds : tie.Need-loop-holds Inv-loop μ-loop
+loop-holds c = (search needs, (search needs, values-start _))
+
+array-read-value-line : tie.Need-array-read-value-line Inv-loop μ-loop
+array-read-value-line c = search needs
+
+value-line-requires : tie.Need-value-line-requires Inv-loop μ-loop
+value-line-requires c κs = search needs
+
+add-v : tie.Need-add-v Inv-loop μ-loop
+add-v c = search needs
+
+loop-less : tie.Need-loop-less Inv-loop μ-loop
+loop-less c = search needs
+
+loop-again : tie.Need-loop-again Inv-loop μ-loop
+loop-again c = (search needs, (search needs, search (needs, values-turn)))
+
+same-length : tie.Need-same-length Inv-loop μ-loop
+same-length c = search needs
+
+returns : tie.Need-returns Inv-loop μ-loop
+returns c = search (needs, values-end)
+
+pub value-lines-spec : {M : Type 1} → statement M
+value-lines-spec = tie.close (tie.spec Inv-loop μ-loop loop-holds array-read-value-line value-line-requires add-v loop-less loop-again same-length returns)

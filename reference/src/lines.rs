@@ -1,0 +1,62 @@
+//! Rows 4, 2, 3 and 5: each line, top down, and for each line the rows in turn.
+
+use crate::refusal::{refuse_if, Refusal};
+use crate::sheet::{Route, Sheet, Step};
+use std::ops::RangeInclusive;
+
+pub const PLACES: RangeInclusive<u32> = 1..=64;
+pub const NAMES: RangeInclusive<u32> = 1..=65_535;
+pub const VARIABLES: RangeInclusive<u32> = 0..=31;
+pub const MOST_STEPS: usize = 64;
+pub const MOST_DONE: usize = 64;
+pub const MOST_ENTRIES: usize = 8;
+
+/// Looks at every line of the sheet of these facts.
+pub fn check(sheet: &Sheet) -> Result<(), Refusal> {
+    check_route(&sheet.old, sheet.old_line())?;
+    let line = sheet.new_line();
+    refuse_if(sheet.old.steps.is_empty(), 4, line)?;
+    check_route(&sheet.new, line)?;
+    let line = sheet.job_line();
+    refuse_if(sheet.new.steps.is_empty(), 4, line)?;
+    for (index, name) in sheet.done.iter().enumerate() {
+        let line = sheet.done_line(index + 1);
+        refuse_if(index >= MOST_DONE, 4, line)?;
+        refuse_if(!NAMES.contains(name), 2, line)?;
+    }
+    Ok(())
+}
+
+/// A head line, and the route's step lines.
+fn check_route(route: &Route, head: usize) -> Result<(), Refusal> {
+    refuse_if(!PLACES.contains(&route.places), 2, head)?;
+    for (index, step) in route.steps.iter().enumerate() {
+        let line = head + 1 + index;
+        let earlier = &route.steps[..index];
+        refuse_if(index >= MOST_STEPS, 4, line)?;
+        refuse_if(out_of_range(step, route.places), 2, line)?;
+        refuse_if(bad_list(step), 3, line)?;
+        refuse_if(earlier.iter().any(|e| e.name == step.name), 5, line)?;
+    }
+    Ok(())
+}
+
+/// Row 2 for a step: a number outside its range, or a place not below N.
+fn out_of_range(step: &Step, places: u32) -> bool {
+    let mut all_places = step.ins.iter().chain(&step.outs);
+    let mut all_variables = step.reads.iter().chain(&step.writes);
+    !NAMES.contains(&step.name)
+        || all_places.any(|&place| place >= places)
+        || all_variables.any(|variable| !VARIABLES.contains(variable))
+}
+
+/// Row 3: in or out empty, a list over 8, or an entry not above the one before.
+fn bad_list(step: &Step) -> bool {
+    let lists = [&step.ins, &step.outs, &step.reads, &step.writes];
+    step.ins.is_empty()
+        || step.outs.is_empty()
+        || lists.iter().any(|list| list.len() > MOST_ENTRIES)
+        || lists
+            .iter()
+            .any(|list| list.windows(2).any(|pair| pair[1] <= pair[0]))
+}

@@ -1,0 +1,157 @@
+//! A plan of a route: its tree of blocks, and what each step reads and writes.
+
+use super::block::{Block, Kind};
+use super::dice::Dice;
+use crate::sheet::{Route, Step};
+use std::collections::BTreeMap;
+
+/// The variables that a step reads and writes.
+#[derive(Clone, Debug, PartialEq, Eq, Default)]
+pub struct Data {
+    pub reads: Vec<u32>,
+    pub writes: Vec<u32>,
+}
+
+#[derive(Clone, Debug)]
+pub struct Plan {
+    pub tree: Block,
+    pub data: BTreeMap<u32, Data>,
+    /// The variables that steps draw from.
+    pub pool: Vec<u32>,
+}
+
+impl Plan {
+    /// A plan of so many steps, and perhaps one or two more.
+    pub fn random(least: usize, most: usize, dice: &mut Dice) -> Plan {
+        let mut plan = Plan::empty(dice);
+        let count = dice.from_to(least, most);
+        let names: Vec<u32> = (0..count).map(|_| plan.fresh_step(dice)).collect();
+        let tree = Block::random(&names, dice);
+        plan.begin(tree, dice);
+        if dice.chance(50) {
+            plan.tidy(dice);
+        }
+        plan
+    }
+
+    /// Gives each step a variable of its own to write, and little to read.
+    fn tidy(&mut self, dice: &mut Dice) {
+        let mut own: Vec<u32> = (0..32).collect();
+        dice.shuffle(&mut own);
+        for (name, variable) in self.tree.names().into_iter().zip(&own) {
+            let reads = match dice.below(4) {
+                0 => vec![own[dice.below(self.data.len())]],
+                _ => vec![],
+            };
+            let writes = vec![*variable];
+            self.data.insert(name, Data { reads, writes });
+        }
+        self.pool = own;
+    }
+
+    /// A plan whose main part loops and builds on what it wrote before.
+    pub fn looping(dice: &mut Dice) -> Plan {
+        let mut plan = Plan::empty(dice);
+        let counts = [dice.from_to(1, 3), dice.from_to(1, 2)];
+        let mut parts = Vec::new();
+        for count in counts {
+            let names: Vec<u32> = (0..count).map(|_| plan.fresh_step(dice)).collect();
+            parts.push(Block::random(&names, dice));
+        }
+        for data in plan.data.values_mut() {
+            let variable = plan.pool[dice.below(plan.pool.len().min(2))];
+            data.reads = vec![variable];
+            data.writes = vec![variable];
+        }
+        let kind = [Kind::Loop, Kind::Again][dice.below(2)];
+        plan.begin(Block::of(kind, parts), dice);
+        plan
+    }
+
+    fn empty(dice: &mut Dice) -> Plan {
+        let mut pool: Vec<u32> = (0..32).collect();
+        dice.shuffle(&mut pool);
+        pool.truncate(dice.from_to(2, 16));
+        Plan {
+            tree: Block::of(Kind::Sequence, Vec::new()),
+            data: BTreeMap::new(),
+            pool,
+        }
+    }
+
+    /// Sets the tree. A step goes before a loop at the start, which would leave
+    /// no start place, and at times before others; at times one runs beside it.
+    fn begin(&mut self, tree: Block, dice: &mut Dice) {
+        let mut tree = tree;
+        if dice.chance(40) || tree.begins_with_loop() {
+            let first = Block::step(self.fresh_step(dice));
+            tree = Block::of(Kind::Sequence, vec![first, tree]);
+        }
+        if dice.chance(15) {
+            let beside = Block::step(self.fresh_step(dice));
+            tree = Block::of(Kind::Parallel, vec![tree, beside]);
+        }
+        self.tree = tree;
+    }
+
+    /// A step with a name of its own and random data.
+    pub fn fresh_step(&mut self, dice: &mut Dice) -> u32 {
+        let mut name = any_name(dice);
+        while self.data.contains_key(&name) {
+            name = any_name(dice);
+        }
+        let data = Data {
+            reads: self.some_variables(&[50, 35, 10, 5], dice),
+            writes: self.some_variables(&[12, 70, 13, 5], dice),
+        };
+        self.data.insert(name, data);
+        name
+    }
+
+    /// Rising variables from the pool; the weights say how often 0, 1, 2, ...
+    pub fn some_variables(&self, weights: &[usize], dice: &mut Dice) -> Vec<u32> {
+        let mut roll = dice.below(100);
+        let mut count = 0;
+        while count + 1 < weights.len() && roll >= weights[count] {
+            roll -= weights[count];
+            count += 1;
+        }
+        let mut pool = self.pool.clone();
+        dice.shuffle(&mut pool);
+        pool.truncate(count);
+        pool.sort();
+        pool
+    }
+
+    /// Draws the route, with the places numbered and the steps listed at random.
+    pub fn draw(&self, dice: &mut Dice) -> Route {
+        let (places, mut arrows) = self.tree.lay_out();
+        let mut number: Vec<u32> = (0..places).collect();
+        if dice.chance(60) {
+            dice.shuffle(&mut number);
+        }
+        if dice.chance(30) {
+            dice.shuffle(&mut arrows);
+        }
+        let renumber = |list: &[u32]| {
+            let mut list: Vec<u32> = list.iter().map(|&p| number[p as usize]).collect();
+            list.sort();
+            list
+        };
+        let step = |(name, ins, outs): &(u32, Vec<u32>, Vec<u32>)| Step {
+            name: *name,
+            ins: renumber(ins),
+            outs: renumber(outs),
+            reads: self.data[name].reads.clone(),
+            writes: self.data[name].writes.clone(),
+        };
+        let steps = arrows.iter().map(step).collect();
+        Route { places, steps }
+    }
+}
+
+/// A name in its range, of any length.
+pub fn any_name(dice: &mut Dice) -> u32 {
+    let most = [9, 99, 999, 9_999, 65_535][dice.below(5)];
+    dice.from_to(1, most) as u32
+}

@@ -1,0 +1,174 @@
+//! Small changes to a plan: steps reordered, dropped and added, data changed,
+//! branches made sequential and back.
+
+use super::block::{Block, Kind};
+use super::dice::Dice;
+use super::plan::Plan;
+use crate::sheet::Route;
+
+/// Reorders steps that have nothing to do with each other.
+pub fn reorder(plan: &mut Plan, dice: &mut Dice) {
+    for _ in 0..dice.from_to(1, 4) {
+        tamed(plan, swap_unrelated, dice);
+    }
+}
+
+/// One small change of any kind.
+pub fn redraw(plan: &mut Plan, dice: &mut Dice) {
+    tamed(plan, change, dice);
+}
+
+/// Changes the plan; a change that puts a loop at the start is most often taken
+/// back, since a route without a start place goes no further than row 7.
+fn tamed(plan: &mut Plan, change: fn(&mut Plan, &mut Dice), dice: &mut Dice) {
+    let before = plan.clone();
+    change(plan, dice);
+    if plan.tree.begins_with_loop() && dice.chance(85) {
+        *plan = before;
+    }
+}
+
+fn change(plan: &mut Plan, dice: &mut Dice) {
+    match dice.below(20) {
+        0..=1 => swap(plan, &|_, _| true, dice),
+        2..=7 => swap_unrelated(plan, dice),
+        8..=9 => make(plan, Kind::Sequence, Kind::Parallel, dice),
+        10..=12 => make(plan, Kind::Parallel, Kind::Sequence, dice),
+        13..=15 => drop_step(plan, dice),
+        16..=17 => add_step(plan, dice),
+        _ => change_data(plan, dice),
+    }
+}
+
+/// Applies a change to one random block of those that the test admits.
+fn change_one(
+    tree: &mut Block,
+    dice: &mut Dice,
+    admits: &dyn Fn(&Block) -> bool,
+    change: &mut dyn FnMut(&mut Block),
+) {
+    let mut count = 0;
+    tree.visit(&mut |block| count += usize::from(admits(block)));
+    if count == 0 {
+        return;
+    }
+    let mut left = dice.below(count) + 1;
+    tree.visit(&mut |block| {
+        if left > 0 && admits(block) {
+            left -= 1;
+            if left == 0 {
+                change(block);
+            }
+        }
+    });
+}
+
+/// Two neighbours in a sequence change places, if the test admits them.
+fn swap(plan: &mut Plan, admits: &dyn Fn(&Block, &Block) -> bool, dice: &mut Dice) {
+    let mut other = Dice::new(dice.roll());
+    let pairs = |block: &Block| -> Vec<usize> {
+        let count = block.parts.len() * usize::from(block.kind == Kind::Sequence);
+        (1..count)
+            .filter(|&at| admits(&block.parts[at - 1], &block.parts[at]))
+            .collect()
+    };
+    let some = |block: &Block| !pairs(block).is_empty();
+    change_one(&mut plan.tree, dice, &some, &mut |block| {
+        let pairs = pairs(block);
+        let at = pairs[other.below(pairs.len())];
+        block.parts.swap(at - 1, at);
+    });
+}
+
+/// Two neighbours change places of which none writes what the other reads or writes.
+fn swap_unrelated(plan: &mut Plan, dice: &mut Dice) {
+    let data = plan.data.clone();
+    let touches = |one: u32, other: u32| {
+        let (one, other) = (&data[&one], &data[&other]);
+        let mut writes = one.writes.iter();
+        writes.any(|v| other.reads.contains(v) || other.writes.contains(v))
+    };
+    let unrelated = |one: &Block, other: &Block| {
+        let related = |a: &u32| {
+            other
+                .names()
+                .iter()
+                .any(|&b| touches(*a, b) || touches(b, *a))
+        };
+        !one.names().iter().any(related)
+    };
+    swap(plan, &unrelated, dice);
+}
+
+/// A block of the one kind becomes one of the other.
+fn make(plan: &mut Plan, from: Kind, to: Kind, dice: &mut Dice) {
+    let admits = |block: &Block| block.kind == from;
+    change_one(&mut plan.tree, dice, &admits, &mut |block| block.kind = to);
+}
+
+/// A step that is a part of a sequence, branch or choice goes.
+fn drop_step(plan: &mut Plan, dice: &mut Dice) {
+    let mut other = Dice::new(dice.roll());
+    let is_step = |block: &Block| matches!(block.kind, Kind::Step(_));
+    let admits = |block: &Block| {
+        let loops = matches!(block.kind, Kind::Loop | Kind::Again);
+        !loops && block.parts.len() > 1 && block.parts.iter().any(is_step)
+    };
+    change_one(&mut plan.tree, dice, &admits, &mut |block| {
+        let steps: Vec<usize> = (0..block.parts.len())
+            .filter(|&part| is_step(&block.parts[part]))
+            .collect();
+        block.parts.remove(steps[other.below(steps.len())]);
+    });
+}
+
+/// A new step before, after or beside some block.
+fn add_step(plan: &mut Plan, dice: &mut Dice) {
+    let added = Block::step(plan.fresh_step(dice));
+    let kind = [Kind::Sequence, Kind::Sequence, Kind::Parallel, Kind::Choice][dice.below(4)];
+    let before = dice.chance(40);
+    change_one(&mut plan.tree, dice, &|_| true, &mut |block| {
+        let mut parts = vec![block.clone(), added.clone()];
+        if before {
+            parts.reverse();
+        }
+        *block = Block::of(kind, parts);
+    });
+}
+
+/// A step reads or writes other variables.
+fn change_data(plan: &mut Plan, dice: &mut Dice) {
+    let names: Vec<u32> = plan.data.keys().copied().collect();
+    let name = names[dice.below(names.len())];
+    let mut data = plan.data[&name].clone();
+    if dice.chance(50) {
+        data.reads = plan.some_variables(&[30, 40, 20, 10], dice);
+    } else {
+        data.writes = plan.some_variables(&[10, 50, 30, 10], dice);
+    }
+    plan.data.insert(name, data);
+}
+
+/// One step gets or changes a place, wherever that leads.
+pub fn change_a_place(route: &mut Route, dice: &mut Dice) {
+    let at = dice.below(route.steps.len());
+    let place = dice.below(route.places as usize) as u32;
+    let step = &mut route.steps[at];
+    let kind = dice.below(6);
+    let entry = dice.below(step.ins.len().min(step.outs.len()));
+    match kind {
+        0 => step.ins[entry] = place,
+        1 => step.outs[entry] = place,
+        _ => {}
+    }
+    if kind == 2 || kind >= 4 {
+        step.ins.push(place);
+    }
+    if kind >= 3 {
+        step.outs.push(place);
+    }
+    for list in [&mut step.ins, &mut step.outs] {
+        list.sort();
+        list.dedup();
+    }
+}

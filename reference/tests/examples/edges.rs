@@ -1,0 +1,113 @@
+//! The examples that 01 asks to be run, at the edges of its limits.
+
+use crate::common::{both, chain, lists, sheet, step, turned_round, NEW, OLD};
+use reference::print::listing_of;
+
+#[test]
+fn sixteen_kept_move() {
+    let order: String = (1..=16).rev().map(|o| format!(" {o}")).collect();
+    let values: String = (0..16)
+        .map(|v| format!("(value {v} {})\n", v + 1))
+        .collect();
+    let listing = format!("(moved (kept 16) (dropped 0))\n(order{order})\n(marking 16)\n{values}");
+    let (old, new, done) = turned_round(16);
+    lists(&old, &new, &done, &listing);
+}
+
+#[test]
+fn seventeen_kept_are_refused() {
+    let (old, new, done) = turned_round(17);
+    lists(&old, &new, &done, "(refused 10 37)\n");
+}
+
+/// Sixteen steps side by side: the new route wants the last before the first,
+/// precedence the first before the last.
+#[test]
+fn sixteen_kept_without_a_fit_order() {
+    let line = |name: u32, ins: &str| {
+        let reads = if name == 16 { " 0" } else { "" };
+        let (out, writes) = (format!(" {}", 15 + name), format!(" {}", name - 1));
+        step(name, ins, &out, reads, &writes)
+    };
+    let names: Vec<u32> = (1..=16).collect();
+    let rest: String = (2..=16)
+        .map(|name| line(name, &format!(" {}", name - 1)))
+        .collect();
+    let old = format!("(old 32)\n{}{rest}", line(1, " 0"));
+    let new = format!("(new 32)\n{}{rest}", line(1, " 0 31"));
+    lists(&old, &new, &names, "(refused 13 35)\n");
+}
+
+#[test]
+fn a_straight_job_may_keep_all_64() {
+    let steps = "\
+(step 10 (in 0) (out 1) (read) (write))
+(step 20 (in 1) (out 1) (read 5) (write 5))
+";
+    let (old, new) = both(2, steps);
+    let mut done = vec![10];
+    done.extend([20; 63]);
+    let listing = listing_of(sheet(&old, &new, &done).as_bytes());
+    assert!(listing.starts_with("(moved (kept 64) (dropped 0))\n(after 3 2)\n(after 4 2 3)\n"));
+    assert!(listing.ends_with(" 63 64)\n(marking 1)\n(value 5 64)\n"));
+}
+
+#[test]
+fn places_64_and_65() {
+    let names: Vec<u32> = (1..=63).collect();
+    let (old, new) = (chain("old", &names), chain("new", &names));
+    let listing = listing_of(sheet(&old, &new, &names).as_bytes());
+    assert!(listing.starts_with("(moved (kept 63) (dropped 0))\n"));
+    assert!(listing.contains("(marking 63)\n"));
+    let old65 = old.replace("(old 64)", "(old 65)");
+    let new65 = new.replace("(new 64)", "(new 65)");
+    lists(&old65, &new, &names, "(refused 2 1)\n");
+    lists(&old, &new65, &names, "(refused 2 65)\n");
+    let high = new.replace("(out 63)", "(out 64)");
+    lists(&old, &high, &names, "(refused 2 128)\n");
+}
+
+#[test]
+fn names_at_the_edge() {
+    let old = OLD.replace("(step 10 ", "(step 65535 ");
+    let new = old.replace("(old", "(new");
+    let listing = "(moved (kept 1) (dropped 0))\n(order 1)\n(marking 1)\n(value 0 1)\n";
+    lists(&old, &new, &[65_535], listing);
+    lists(OLD, NEW, &[65_535], "(refused 8 10)\n");
+    lists(OLD, NEW, &[65_536], "(refused 2 10)\n");
+    lists(OLD, NEW, &[0], "(refused 2 10)\n");
+}
+
+#[test]
+fn a_leading_zero_breaks_the_layout_at_the_next_digit() {
+    let text = sheet(OLD, NEW, &[]) + "(done 010)\n";
+    let offset = text.find("010").unwrap() + 1;
+    assert_eq!(
+        listing_of(text.as_bytes()),
+        format!("(refused 1 {offset})\n")
+    );
+    assert_eq!(offset, 289);
+}
+
+#[test]
+fn the_empty_sheet() {
+    assert_eq!(listing_of(b""), "(refused 1 0)\n");
+}
+
+#[test]
+fn the_longest_sheet_that_reads() {
+    let lists = "(in 56 57 58 59 60 61 62 63) (out 48 49 50 51 52 53 54 55) \
+                 (read 24 25 26 27 28 29 30 31) (write 16 17 18 19 20 21 22 23)";
+    let steps = |last: u32| -> String {
+        let names = last - 63..=last;
+        names
+            .map(|name| format!("(step {name} {lists})\n"))
+            .collect()
+    };
+    let old = format!("(old 64)\n{}", steps(65_535));
+    let new = format!("(new 64)\n{}", steps(20_000));
+    let text = sheet(&old, &new, &[65_535; 64]);
+    assert_eq!(text.len(), 18_136);
+    let facts = reference::sheet::read(text.as_bytes()).unwrap();
+    assert_eq!(reference::sheet::text(&facts), text);
+}

@@ -1,0 +1,145 @@
+//! The layout once more, as a regular expression. Its derivative by a byte says
+//! how sheets that begin so go on; row 1's offset is where none does.
+
+use reference::layout;
+use reference::random::{self, damage::damage, dice::Dice};
+use reference::sheet;
+use std::rc::Rc;
+
+/// A set of texts.
+#[derive(Clone)]
+enum Texts {
+    None,
+    Empty,
+    Byte(u8, u8),
+    Then(Rc<Texts>, Rc<Texts>),
+    Or(Rc<Texts>, Rc<Texts>),
+    Many(Rc<Texts>),
+}
+
+use Texts::{Byte, Empty, Many, None, Or, Then};
+
+fn then(first: Texts, second: Texts) -> Texts {
+    match (first, second) {
+        (None, _) | (_, None) => None,
+        (Empty, second) => second,
+        (first, second) => Then(Rc::new(first), Rc::new(second)),
+    }
+}
+
+fn or(first: Texts, second: Texts) -> Texts {
+    match (first, second) {
+        (None, other) | (other, None) => other,
+        (first, second) => Or(Rc::new(first), Rc::new(second)),
+    }
+}
+
+fn many(texts: Texts) -> Texts {
+    Many(Rc::new(texts))
+}
+
+fn exactly(text: &str) -> Texts {
+    let bytes = text.bytes().rev();
+    bytes.fold(Empty, |rest, byte| then(Byte(byte, byte), rest))
+}
+
+fn chain(parts: Vec<Texts>) -> Texts {
+    parts
+        .into_iter()
+        .rev()
+        .fold(Empty, |rest, part| then(part, rest))
+}
+
+/// Whether the empty text is in the set.
+fn holds_empty(texts: &Texts) -> bool {
+    match texts {
+        None | Byte(..) => false,
+        Empty | Many(_) => true,
+        Then(first, second) => holds_empty(first) && holds_empty(second),
+        Or(first, second) => holds_empty(first) || holds_empty(second),
+    }
+}
+
+/// How the texts that begin with this byte go on.
+fn after(texts: &Texts, byte: u8) -> Texts {
+    match texts {
+        None | Empty => None,
+        Byte(low, high) if (*low..=*high).contains(&byte) => Empty,
+        Byte(..) => None,
+        Then(first, second) => {
+            let stays = then(after(first, byte), (**second).clone());
+            if holds_empty(first) {
+                or(stays, after(second, byte))
+            } else {
+                stays
+            }
+        }
+        Or(first, second) => or(after(first, byte), after(second, byte)),
+        Many(one) => then(after(one, byte), texts.clone()),
+    }
+}
+
+/// One to five digits and no leading zero, save 0 itself.
+fn number() -> Texts {
+    let maybe = || or(Empty, Byte(b'0', b'9'));
+    let rest = chain(vec![maybe(), maybe(), maybe(), maybe()]);
+    or(exactly("0"), then(Byte(b'1', b'9'), rest))
+}
+
+fn list(word: &str) -> Texts {
+    let entries = many(then(exactly(" "), number()));
+    chain(vec![exactly(&format!(" ({word}")), entries, exactly(")")])
+}
+
+fn line(word: &str) -> Texts {
+    let head = exactly(&format!("({word} "));
+    chain(vec![head, number(), exactly(")\n")])
+}
+
+fn sheets() -> Texts {
+    let step = || {
+        let lists = ["in", "out", "read", "write"].map(list);
+        let [ins, outs, reads, writes] = lists;
+        let head = then(exactly("(step "), number());
+        chain(vec![head, ins, outs, reads, writes, exactly(")\n")])
+    };
+    let old = then(line("old"), many(step()));
+    let new = then(line("new"), many(step()));
+    let job = then(exactly("(job)\n"), many(line("done")));
+    chain(vec![old, new, job])
+}
+
+/// Row 1's second number for these bytes, if they are no sheet.
+fn breaks_at(bytes: &[u8]) -> Option<usize> {
+    let mut left = sheets();
+    for (offset, &byte) in bytes.iter().enumerate() {
+        left = after(&left, byte);
+        if matches!(left, None) {
+            return Some(offset);
+        }
+    }
+    (!holds_empty(&left)).then_some(bytes.len())
+}
+
+#[test]
+fn row_1_is_where_no_sheet_begins_so() {
+    let seed = crate::seed();
+    println!("layout: seed {seed}, 600 sheets");
+    let mut dice = Dice::new(seed);
+    let mut counts = [0; 3];
+    for _ in 0..600 {
+        let whole = sheet::text(&random::sheet(&mut dice)).into_bytes();
+        let bytes = damage(&whole, &mut dice);
+        let read = layout::read(&bytes);
+        let text = String::from_utf8_lossy(&bytes);
+        let offset = read.as_ref().err().map(|refusal| refusal.second);
+        assert_eq!(offset, breaks_at(&bytes), "of sheet\n{text}");
+        let class = match offset {
+            Option::None => 0,
+            Some(offset) => 1 + usize::from(offset == bytes.len()),
+        };
+        counts[class] += 1;
+    }
+    println!("whole, broken, ended early: {counts:?}");
+    assert!(counts.iter().all(|&count| count > 20));
+}
