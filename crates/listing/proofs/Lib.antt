@@ -1,5 +1,6 @@
 -- Laws on what emitters write, and on the listing's length.
 pub mod Runs
+pub mod Prints
 pub mod Number
 pub mod Numbered
 pub mod Walking

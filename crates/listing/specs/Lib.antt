@@ -2,3 +2,4 @@
 pub mod Listing
 pub mod Written
 pub mod Emit
+pub mod Print

@@ -6,4 +6,5 @@ pub mod Same
 pub mod Counts
 pub mod LineEnds
 pub mod Stand
+pub mod Dones
 pub mod PartText

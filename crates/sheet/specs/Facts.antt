@@ -3,12 +3,13 @@ use mathlib.Core.Bool.{Bool, true, false, not, cond}
 use mathlib.Core.List.{List, [], _∷_}
 use Prim.Native.Nat.{ℕ, zero, suc, _+_, _-_}
 use lib.Dec.{eqb, ltb}
-use lib.ListN.{length, set, replicate}
+use lib.ListN.{length, set, take, replicate}
 use Rattle.route.specs.Steps.{blank, noRoute, stepsOf, names}
 use Rattle.route.specs.Rows.{unless, first}
 use Rattle.route.specs.declared.Step.{Step}
 use Rattle.route.specs.declared.Route.{Route}
 use Rattle.route.specs.declared.Outcome.{Outcome}
+use Rattle.job.specs.Job.{Job, jobOf}
 use Rattle.job.specs.Lines.{placesFit, doneRow}
 use Rattle.layout.specs.Text.{Form, Lines}
 use Rattle.layout.specs.Parse.{Parsed, parse}
@@ -97,3 +98,7 @@ answered long (Parsed.broken r) = failed 1 (long - length r)
 
 unfoldable pub readOf : List ℕ → Sheet
 readOf s = answered (length s) (parse s)
+
+-- the job that a sheet's facts tell of, as records
+abbrev pub jobRead : Sheet → Job
+jobRead s = jobOf (s .old) (s .new) (take (s .«done_len») (s .done))

@@ -22,7 +22,7 @@ use Rattle.layout.specs.Parse.{Parsed, parse}
 use Rattle.layout.proofs.Complete.{complete}
 use Rattle.layout.proofs.Sound.{sound}
 use Rattle.sheet.specs.Forms.{allBelow, rising, listFits, formFits, formLists, masked, recordOf}
-use Rattle.sheet.specs.Facts.{failed, factsOf, answered, readOf}
+use Rattle.sheet.specs.Facts.{failed, factsOf, answered, readOf, jobRead}
 use Rattle.sheet.specs.SheetRows.{sheetRows, filled, factsRecord}
 use Rattle.sheet.specs.declared.Sheet.{Sheet}
 use Rattle.sheet.proofs.Stand.{Stand, stands, fails, facts-stand, reads-facts, filled-steps}
@@ -76,9 +76,6 @@ forms-records (f ∷ l) places h fine = ap₂ {C = List Form} (λ (x : Form) (k 
 -- ---- the whole
 
 -- the records that reading gives
-abbrev pub jobRead : Sheet → Job
-jobRead s = jobOf (s .old) (s .new) (take (s .«done_len») (s .done))
-
 pub lines-back : (x : Lines) → AllLines x → linesOf (jobRead (factsRecord x)) ≡ x
 unfolding linesOf factsRecord filled
 lines-back x h =

@@ -17,7 +17,7 @@ use Rattle.job.specs.Lines.{lineRows}
 use Rattle.layout.specs.Text.{Form, Lines}
 use Rattle.layout.specs.Parse.{Parsed, parse}
 use Rattle.sheet.specs.Forms.{recordOf}
-use Rattle.sheet.specs.Facts.{failed, answered, readOf}
+use Rattle.sheet.specs.Facts.{failed, answered, readOf, jobRead}
 use Rattle.sheet.specs.SheetRows.{sheetRows, filled, factsRecord}
 use Rattle.sheet.specs.declared.Sheet.{Sheet}
 use Rattle.sheet.proofs.Lists.{masked-below}
@@ -26,7 +26,7 @@ use Rattle.writing.specs.Written.{written, AllWide}
 use Rattle.writing.specs.Writes.{writeRow, wrote, outAfter}
 use Rattle.writing.proofs.Ties.{tie}
 use Rattle.writing.proofs.Fine.{Passes, rows-split, lines-fine}
-use Rattle.writing.proofs.Round.{jobRead, sheetOf, read-is, lines-back, read-then-write, write-then-read}
+use Rattle.writing.proofs.Round.{sheetOf, read-is, lines-back, read-then-write, write-then-read}
 use Rattle.writing.proofs.Answers.{passed-answer, passed-out}
 
 module _ (j : Job) (o : List ℕ) (ok : wrote j (length o) .number ≡ 0) where

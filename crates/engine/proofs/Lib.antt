@@ -1,0 +1,2 @@
+-- Laws on the C host's functions.
+pub mod Facts

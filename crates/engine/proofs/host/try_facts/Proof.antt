@@ -1,0 +1,28 @@
+-- `engine::host::try_facts`: the refusal stands, or try answers of the records.
+use mathlib.Core.Path.{_≡_, sym, _∙_}
+use native.Mathlib.Omega.{arith}
+use borrow.Author.Needs.{needs}
+use lib.Seq.{length-take-le}
+use Rattle.engine.proofs.Facts.{facts-refused, facts-tried}
+use Rattle.engine.proofs.host.try_facts.Statement.{statement}
+use Rattle.engine.proofs.host.try_facts.Tie as tie
+
+returns : tie.Need-returns
+returns c = facts-refused (c .before .before .before .args .s) _ (c .if1 .taken)
+
+array-share-prefix-done : tie.Need-array-share-prefix-done
+array-share-prefix-done c = search needs
+
+slice-aggregate-try-order : tie.Need-slice-aggregate-try-order
+slice-aggregate-try-order c = let s = c .before .before .before .before .before in sym (length-take-le _ _ (omega (arith, s .pre .0, s .pre .1)))
+
+try-order-requires : tie.Need-try-order-requires
+try-order-requires c κs = search needs
+
+returns-2 : tie.Need-returns-2
+returns-2 c =
+    let s = c .before .before .before .before .before .before .args in
+    c .try-order .ensures ∙ facts-tried (s .s) (s .order .now) (c .before .before .before .if1 .left)
+
+pub try-facts-spec : {M : Type 1} → statement M
+try-facts-spec = tie.close (tie.spec returns array-share-prefix-done slice-aggregate-try-order try-order-requires returns-2)
