@@ -1,13 +1,13 @@
 -- Print: what reading and judging tell is what the listing is made of.
 -- Assumes nothing.
-use mathlib.Core.Path.{_≡_, refl, sym, ap, _∙_}
+use mathlib.Core.Path.{_≡_, refl, sym, ap, _∙_, subst}
 use mathlib.Core.Bool.{Bool, true, false, cond}
 use mathlib.Core.List.{List}
 use Prim.Native.Nat.{ℕ, _≤_, _<_}
 use native.Mathlib.Omega.{arith}
 use lib.Dec.{eqb, leb}
 use lib.ListN.{length}
-use borrow.Author.Tests.{le-leb, lt-leb, eq-eqb, ne-eqb}
+use borrow.Author.Tests.{leb-true, le-leb, lt-leb, eq-eqb, ne-eqb}
 use Rattle.sheet.specs.Facts.{readOf, jobRead}
 use Rattle.sheet.specs.declared.Sheet.{Sheet}
 use Rattle.job.specs.Job.{Job}
@@ -15,6 +15,7 @@ use Rattle.fit.specs.Judge.{judged, judgeStopped, workAfter}
 use Rattle.fit.specs.declared.Judged.{Judged}
 use Rattle.fit.proofs.Choice.{cond-yes, cond-no}
 use Rattle.fit.proofs.Whole as W
+use Rattle.listing.specs.Listing.{listing}
 use Rattle.listing.specs.Written.{writtenFor, outAfter}
 use Rattle.listing.specs.Print.{sheetAnswer, printed, outPrinted, workPrinted}
 use Rattle.listing.specs.declared.Written.{Written}
@@ -75,3 +76,13 @@ module _ (s w o : List ℕ) where
   pub work-long : (f : Sheet) → f ≡ readOf s → cond (eqb (f .number) 0) (workAfter (jobRead f) w) w ≡ workPrinted s w
   unfolding workPrinted
   work-long f read = ap (λ (x : Sheet). cond (eqb (x .number) 0) (workAfter (jobRead x) w) w) read
+
+-- the bytes written lie in the out slice
+pub written-fits : (a : Written) (s : List ℕ) (work room : ℕ) → a ≡ printed s work room → a .written ≤ room
+unfolding printed writtenFor
+written-fits a s work room is = subst (λ (w : Written). w .written ≤ room) (sym is) (go (leb 8192 work) (leb (length (listing (sheetAnswer s))) room) refl)
+  where
+    go : (t u : Bool) → leb (length (listing (sheetAnswer s))) room ≡ u → cond {A = Written} t (cond u (record { number = 0; second = 0; written = length (listing (sheetAnswer s)) }) (record { number = 15; second = length (listing (sheetAnswer s)); written = 0 })) (record { number = 14; second = 0; written = 0 }) .written ≤ room
+    go true true e = leb-true (length (listing (sheetAnswer s))) room e
+    go true false e = omega arith
+    go false u e = omega arith
