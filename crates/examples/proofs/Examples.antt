@@ -1,0 +1,62 @@
+-- Every sheet of the table gives its listing, by computing the whole way from the sheet's bytes to the listing's.
+use mathlib.Core.Path.{refl}
+use Rattle.mask.specs.Mask.{has, membersFrom, members, collect, count}
+use Rattle.route.specs.Steps.{stepsOf, union, names, lookup}
+use Rattle.route.specs.Firing.{canFire, fire, start}
+use Rattle.route.specs.Rows.{unless, first, netRow}
+use Rattle.job.specs.Lines.{nameFits, placesFit, stepFits, variableList, placeList, listsFit, among, stepRow, stepRows, routeRows, doneRow, doneRows, lineRows, checked}
+use Rattle.job.specs.Run.{runStep, runFrom, ran}
+use Rattle.slice.specs.Order.{inTurn}
+use Rattle.slice.specs.Precedence.{clash, comesAfter, row}
+use Rattle.slice.specs.Slice.{performed, variables, sweepStep, sweep, keptMask}
+use Rattle.fit.specs.Straight.{isSome, sameData, sameStep, allOf, fireStep, fireAll, stepsOn, runsStraight}
+use Rattle.fit.specs.Fit.{keptOf}
+use Rattle.fit.specs.KeptRows.{keptRow, keptLines, keptRows}
+use Rattle.fit.specs.Search.{orElse, onwards, tryEach, search, before, fireNext, placeNext}
+use Rattle.fit.specs.Judge.{padded, lastWriter, afterOf, writerOf, answer, firstOf, firstFit, judgeFound, judgeRows, judged}
+use Rattle.layout.specs.Words.{spelling}
+use Rattle.layout.specs.Points.{digit, alive, expect, chosen, spelt, inList, pastWord, first as firstDigit, ended, more as moreDigits, closed, next}
+use Rattle.layout.specs.Parse.{stored, took, putStep, putLine, keep, atEnd, run, parse}
+use Rattle.sheet.specs.Forms.{allBelow, rising, formFits, listFits, formLists, formRow, masked, recordOf}
+use Rattle.sheet.specs.Facts.{failed, settled, headed, stepped, oldHead, newHead, jobHead, doneIn, stepIn, more, moreSteps, moreDones, factsOf, answered, readOf}
+use Rattle.listing.specs.Listing.{digits, decimal, entry, over, line, movedLine, afterLine, afterLines, orderLine, markingLine, valueLine, valueLines, refusedLine, movedText, listing}
+use Rattle.listing.specs.Print.{sheetAnswer, listingOf}
+use Rattle.examples.specs.Table.{codes, bytes, AllPrint, table}
+
+-- The definitions on the way, a name for each stage: to open the name opens all on its line.
+
+unfoldable the-masks : Unit {0}
+unfolding has membersFrom members collect count
+the-masks = tt
+
+unfoldable the-routes : Unit {0}
+unfolding stepsOf union names lookup canFire fire start unless first netRow
+the-routes = tt
+
+unfoldable the-layout : Unit {0}
+unfolding spelling digit alive expect chosen spelt inList pastWord firstDigit ended moreDigits closed next stored took putStep putLine keep atEnd run parse
+the-layout = tt
+
+unfoldable the-facts : Unit {0}
+unfolding allBelow rising formFits listFits formLists formRow masked recordOf failed settled headed stepped oldHead newHead jobHead doneIn stepIn more moreSteps moreDones factsOf answered readOf
+the-facts = tt
+
+unfoldable the-run : Unit {0}
+unfolding nameFits placesFit stepFits variableList placeList listsFit among stepRow stepRows routeRows doneRow doneRows lineRows checked runStep runFrom ran
+the-run = tt
+
+unfoldable the-slice : Unit {0}
+unfolding inTurn clash comesAfter row performed variables sweepStep sweep keptMask keptOf
+the-slice = tt
+
+unfoldable the-judge : Unit {0}
+unfolding isSome sameData sameStep allOf fireStep fireAll stepsOn runsStraight keptRow keptLines keptRows orElse onwards tryEach search before fireNext placeNext padded lastWriter afterOf writerOf answer firstOf firstFit judgeFound judgeRows judged
+the-judge = tt
+
+unfoldable the-listing : Unit {0}
+unfolding digits decimal entry over line movedLine afterLine afterLines orderLine markingLine valueLine valueLines refusedLine movedText listing sheetAnswer listingOf
+the-listing = tt
+
+pub examples : AllPrint table
+unfolding codes bytes the-layout the-facts the-masks the-routes the-run the-slice the-judge the-listing
+examples = (refl, (refl, (refl, (refl, (refl, (refl, (refl, (refl, (refl, (refl, (refl, (refl, tt))))))))))))

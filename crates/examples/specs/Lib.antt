@@ -1,0 +1,2 @@
+-- The table of 01's examples.
+pub mod Table
