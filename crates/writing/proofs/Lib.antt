@@ -5,6 +5,7 @@ pub mod Masks
 pub mod Fine
 pub mod Round
 pub mod Bound
+pub mod Longest
 pub mod Emitting
 pub mod Digits
 pub mod Skips

@@ -103,7 +103,7 @@ read-then-write s x e z =
 abbrev pub sheetOf : Job → Sheet
 sheetOf j = record { number = 0; second = 0; old = filled (j .oldPlaces) (j .old); new = filled (j .newPlaces) (j .new); «done_len» = length (j .done); done = j .done ++ replicate (64 - length (j .done)) 0 }
 
-standing : (x : Lines) → Passes (sheetRows x) → factsOf x ≡ factsRecord x
+pub standing : (x : Lines) → Passes (sheetRows x) → factsOf x ≡ factsRecord x
 standing x h = go (facts-stand x)
   where
     clash : false ≡ true → ⊥
