@@ -24,4 +24,5 @@ fn main() {
     searches::show();
     searches::show_work();
     orders::show();
+    orders::show_letters();
 }

@@ -1,6 +1,7 @@
 // Orders that somebody hands in.
 use crate::try_order;
 use fit::Tried;
+use route::Route;
 use samples::chains;
 use samples::letters;
 
@@ -75,4 +76,37 @@ pub fn show() {
         ),
     );
     say(b"try H", try_order(old, letters::a_new(), &[40], &[]));
+}
+
+fn say_new(label: &[u8], new: Route, done: &[u32], order: &[u8]) {
+    say(label, try_order(letters::a_old(), new, done, order));
+}
+
+fn say_both(label: &[u8], r: Route, done: &[u32], order: &[u8]) {
+    say(label, try_order(r, r, done, order));
+}
+
+// 01's examples: the order that judge gives, or where it gives none, orders of all that is done.
+pub fn show_letters() {
+    let new = letters::a_new();
+    let d_old = letters::d_old();
+    let d_new = letters::d_new();
+    say_new(b"try 2 1 3 of A", new, &[10, 20, 30], &[2, 1, 3]);
+    say_new(b"try nothing of B", new, &[], &[]);
+    say_new(b"try 1 of C", new, &[10], &[1]);
+    say(b"try 1 2 of D", try_order(d_old, d_new, &[10, 20], &[1, 2]));
+    say(b"try 2 1 of D", try_order(d_old, d_new, &[10, 20], &[2, 1]));
+    say_new(b"try 1 2 of E", letters::e_new(), &[10, 20], &[1, 2]);
+    say_new(b"try 2 of F", letters::f_new(), &[10, 20], &[2]);
+    say_new(b"try 1 of G", letters::g_new(), &[10], &[1]);
+    say_new(b"try 1 of H", new, &[40], &[1]);
+    say_new(b"try 1 of I", new, &[30], &[1]);
+    say_both(b"try 1 2 of J", letters::j_both(), &[10, 20], &[1, 2]);
+    say_both(
+        b"try 1 2 3 of K",
+        letters::k_both(),
+        &[10, 20, 20],
+        &[1, 2, 3],
+    );
+    say_both(b"try nothing of L", letters::l_both(), &[], &[]);
 }
