@@ -72,9 +72,9 @@ facts-few x =
     dones-few (x .done) _
     (more-few jobHead _ (λ i s g. settled-few _ s g)
     (steps-few NewRoute (x .new) _
-    (more-few _ _ (λ i s g. settled-few _ _ (record { old = g .old; new = omega arith }))
+    (more-few _ _ (λ i s g. settled-few _ _ (record { old = g .old; new = g .new }))
     (steps-few OldRoute (x .old) _
-    (more-few _ nothing (λ i s g. settled-few _ _ (record { old = omega arith; new = g .new })) (failed-few 0 0))))))
+    (more-few _ nothing (λ i s g. settled-few _ _ (record { old = g .old; new = g .new })) (failed-few 0 0))))))
 
 pub read-few : (s : List ℕ) → Few (readOf s)
 unfolding readOf answered

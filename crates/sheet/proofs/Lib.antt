@@ -7,4 +7,7 @@ pub mod Counts
 pub mod LineEnds
 pub mod Stand
 pub mod Dones
+pub mod LineBytes
+pub mod Tallied
+pub mod LineKept
 pub mod PartText

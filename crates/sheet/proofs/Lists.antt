@@ -73,18 +73,18 @@ along-count w e (n ∷ l) h = along-count w (added w n e) l (more (ltb (e .count
     more true p = let r : e .count < 9 = ltb-true (e .count) 9 p in (omega arith, omega arith)
     more false p = let r : 9 ≤ e .count = ltb-false (e .count) 9 p in (omega arith, omega arith)
 
-along-rises : (w : ℕ) (e : Entries) (l : List ℕ) → along w e l .rises ≡ (e .rises && rising (e .top) l)
+along-falls : (w : ℕ) (e : Entries) (l : List ℕ) → eqb (along w e l .falls) 0 ≡ (eqb (e .falls) 0 && rising (e .top) l)
 unfolding along added rising
-along-rises w e [] = sym (right (e .rises))
+along-falls w e [] = sym (right (eqb (e .falls) 0))
   where
     right : (x : Bool) → (x && true) ≡ x
     right true = refl
     right false = refl
-along-rises w e (v ∷ l) = along-rises w (added w v e) l ∙ step (ltb v (e .top)) refl
+along-falls w e (v ∷ l) = along-falls w (added w v e) l ∙ step (ltb v (e .top)) refl
   where
-    step : (x : Bool) → ltb v (e .top) ≡ x → (cond x false (e .rises) && rising (cond x (e .top) (v + 1)) l) ≡ (e .rises && (leb (e .top) v && rising (suc v) l))
-    step true p = sym (and-false (e .rises)) ∙ ap (λ (y : Bool). e .rises && (y && rising (suc v) l)) (sym (lt-leb (e .top) v (ltb-true v (e .top) p)))
-    step false p = ap (λ (m : ℕ). e .rises && rising m l) (add-one v) ∙ ap (λ (y : Bool). e .rises && (y && rising (suc v) l)) (sym (le-leb (e .top) v (ltb-false v (e .top) p)))
+    step : (x : Bool) → ltb v (e .top) ≡ x → (eqb (cond x 1 (e .falls)) 0 && rising (cond x (e .top) (v + 1)) l) ≡ (eqb (e .falls) 0 && (leb (e .top) v && rising (suc v) l))
+    step true p = sym (and-false (eqb (e .falls) 0)) ∙ ap (λ (y : Bool). eqb (e .falls) 0 && (y && rising (suc v) l)) (sym (lt-leb (e .top) v (ltb-true v (e .top) p)))
+    step false p = ap (λ (m : ℕ). eqb (e .falls) 0 && rising m l) (add-one v) ∙ ap (λ (y : Bool). eqb (e .falls) 0 && (y && rising (suc v) l)) (sym (le-leb (e .top) v (ltb-false v (e .top) p)))
 
 -- ---- a list in hand
 
@@ -109,7 +109,7 @@ unfolding entriesFit listFits
 fits-is w l =
     ap₂ (λ (x y : Bool). x && y)
     (ap (λ (n : ℕ). leb n 8) (count-is w l) ∙ few (leb (length (reverse l)) 8) refl)
-    (ap (λ (e : Entries). e .rises) (as-written w l) ∙ along-rises w noEntries (reverse l))
+    (ap (λ (e : Entries). eqb (e .falls) 0) (as-written w l) ∙ along-falls w noEntries (reverse l))
   where
     few : (x : Bool) → leb (length (reverse l)) 8 ≡ x → leb (min (length (reverse l)) 9) 8 ≡ x
     few true p = le-leb (min (length (reverse l)) 9) 8 (omega (arith, leb-true (length (reverse l)) 8 p))

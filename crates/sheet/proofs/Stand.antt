@@ -247,7 +247,7 @@ dones-stood (m ∷ l) k n rows j s z stood =
 old-stand : (n : ℕ) → Stand (oldHead 1 n (failed 0 0)) (unless (placesFit n) 2 1 ∷ []) (inRoute OldRoute (filled n []) (failed 0 0)) (0 ≤ 64)
 unfolding oldHead inRoute filled headed failed
 old-stand n =
-    subst (λ (o : Outcome). Stand (settled o (withOld (headed n) (failed 0 0))) (unless (placesFit n) 2 1 ∷ []) (withOld (filled n []) (failed 0 0)) (0 ≤ 64)) (one-row (placesFit n))
+    subst (λ (o : Outcome). Stand (settled o (withOld (headed n (failed 0 0 .old)) (failed 0 0))) (unless (placesFit n) 2 1 ∷ []) (withOld (filled n []) (failed 0 0)) (0 ≤ 64)) (one-row (placesFit n))
     (settle (unless (placesFit n) 2 1 ∷ []) _ _ _ (λ passes. (refl, omega arith)))
   where
     one-row : (t : Bool) → first (unless t 2 1 ∷ []) ≡ unless t 2 1
@@ -255,9 +255,9 @@ old-stand n =
     one-row false = unfold first unless in refl
 
 new-stand : (line n places : ℕ) (l : List Form) → length l ≤ 64 → Stand (newHead line n (inRoute OldRoute (filled places (map recordOf l)) (failed 0 0))) (unless (not (eqb (length l) 0)) 4 line ∷ unless (placesFit n) 2 line ∷ []) (inRoute NewRoute (filled n []) (inRoute OldRoute (filled places (map recordOf l)) (failed 0 0))) (0 ≤ 64)
-unfolding newHead inRoute filled headed
+unfolding newHead inRoute filled headed failed
 new-stand line n places l few =
-    subst (λ (m : ℕ). Stand (settled (first (unless (not (eqb m 0)) 4 line ∷ unless (placesFit n) 2 line ∷ [])) (withNew (headed n) (withOld (filled places (map recordOf l)) (failed 0 0)))) (unless (not (eqb (length l) 0)) 4 line ∷ unless (placesFit n) 2 line ∷ []) (withNew (filled n []) (withOld (filled places (map recordOf l)) (failed 0 0))) (0 ≤ 64)) (sym (length-map l recordOf))
+    subst (λ (m : ℕ). Stand (settled (first (unless (not (eqb m 0)) 4 line ∷ unless (placesFit n) 2 line ∷ [])) (withNew (headed n (failed 0 0 .new)) (withOld (filled places (map recordOf l)) (failed 0 0)))) (unless (not (eqb (length l) 0)) 4 line ∷ unless (placesFit n) 2 line ∷ []) (withNew (filled n []) (withOld (filled places (map recordOf l)) (failed 0 0))) (0 ≤ 64)) (sym (length-map l recordOf))
     (settle (unless (not (eqb (length l) 0)) 4 line ∷ unless (placesFit n) 2 line ∷ []) _ _ _ (λ passes. (refl, omega arith)))
 
 lone : (t : Bool) (n k : ℕ) → eqb n 0 ≡ false → first (unless t n k ∷ []) ≡ unless t n k

@@ -26,9 +26,9 @@ failed n k = record { number = n; second = k; old = noRoute; new = noRoute; «do
 unfoldable pub settled : Outcome → Sheet → Sheet
 settled o s = cond (eqb (o .number) 0) s (failed (o .number) (o .second))
 
--- a route with its place count and no step yet; one with one more step
-unfoldable pub headed : ℕ → Route
-headed n = record { places = n; len = 0; steps = replicate 64 blank }
+-- a route with its place count, which its head gives; one with one more step
+unfoldable pub headed : ℕ → Route → Route
+headed n r = record { places = n; len = r .len; steps = r .steps }
 
 unfoldable pub stepped : Route → Step → Route
 stepped r s = cond (ltb (r .len) 64) (record { places = r .places; len = r .len + 1; steps = set (r .steps) (r .len) s }) r
@@ -45,10 +45,10 @@ withDone n s = record { number = s .number; second = s .second; old = s .old; ne
 -- ---- each kind of line, where nothing has been refused above it
 
 unfoldable pub oldHead : ℕ → ℕ → Sheet → Sheet
-oldHead line n s = settled (unless (placesFit n) 2 line) (withOld (headed n) s)
+oldHead line n s = settled (unless (placesFit n) 2 line) (withOld (headed n (s .old)) s)
 
 unfoldable pub newHead : ℕ → ℕ → Sheet → Sheet
-newHead line n s = settled (first (unless (not (eqb (s .old .len) 0)) 4 line ∷ unless (placesFit n) 2 line ∷ [])) (withNew (headed n) s)
+newHead line n s = settled (first (unless (not (eqb (s .old .len) 0)) 4 line ∷ unless (placesFit n) 2 line ∷ [])) (withNew (headed n (s .new)) s)
 
 unfoldable pub jobHead : ℕ → Sheet → Sheet
 jobHead line s = settled (unless (not (eqb (s .new .len) 0)) 4 line) s

@@ -3,5 +3,7 @@ pub mod Forms
 pub mod Facts
 pub mod Pens
 pub mod PenFacts
+pub mod Tallies
+pub mod Lines
 pub mod JobPart
 pub mod SheetRows

@@ -15,6 +15,8 @@ use Rattle.sheet.specs.Facts.{failed, settled, stepped, withOld, withNew
 use Rattle.sheet.specs.Pens.{penRow, penStep, penTook}
 use Rattle.sheet.specs.declared.Pen.{Pen}
 use Rattle.sheet.specs.declared.Sheet.{Sheet}
+use Rattle.sheet.specs.declared.Act.{Act}
+use Rattle.sheet.specs.declared.Act.the-variants.{Moves, Begins, Counts, Ends}
 
 unfoldable pub penIn : Part → ℕ → Pen → Sheet → Sheet
 penIn OldRoute line p s = settled (penRow line (s .old .places) (s .old .len) (names (stepsOf (s .old))) p) (withOld (stepped (s .old) (penStep p)) s)
@@ -60,6 +62,36 @@ endsLine (Gap w q) = false
 endsLine (Closed w q) = false
 endsLine (Lf w q) = true
 endsLine Stuck = false
+
+-- what a byte does at a point
+unfoldable pub actAt : Point → Act
+actAt Start = Moves
+actAt (Open q) = Moves
+actAt (Choice q) = Moves
+actAt (Letters w q k) = Moves
+actAt (Past w q) = Moves
+actAt (Digit w q) = Begins
+actAt (Digits w q k) = Counts w
+actAt (Gap w q) = Moves
+actAt (Closed w q) = Moves
+actAt (Lf w q) = Ends w q
+actAt Stuck = Moves
+
+-- a sheet may end here
+unfoldable pub endsWell : Point → Bool
+endsWell Start = false
+endsWell (Open OldRoute) = false
+endsWell (Open NewRoute) = false
+endsWell (Open JobPart) = true
+endsWell (Choice q) = false
+endsWell (Letters w q k) = false
+endsWell (Past w q) = false
+endsWell (Digit w q) = false
+endsWell (Digits w q k) = false
+endsWell (Gap w q) = false
+endsWell (Closed w q) = false
+endsWell (Lf w q) = false
+endsWell Stuck = false
 
 -- what stands where the bytes end
 unfoldable pub finish : Point → ℕ → Sheet → Sheet

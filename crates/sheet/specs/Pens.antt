@@ -19,7 +19,7 @@ use Rattle.sheet.specs.declared.Entries.{Entries}
 use Rattle.sheet.specs.declared.Pen.{Pen}
 
 abbrev pub noEntries : Entries
-noEntries = record { mask = 0; count = 0; top = 0; rises = true }
+noEntries = record { mask = 0; top = 0; count = 0; falls = 0 }
 
 -- one more entry: its bit where it is below the width, and one more up to 9
 unfoldable pub marked : ℕ → ℕ → ℕ → ℕ
@@ -32,9 +32,9 @@ unfoldable pub added : ℕ → ℕ → Entries → Entries
 added w n e =
     record {
       mask = marked w n (e .mask);
-      count = counted (e .count);
       top = cond (ltb n (e .top)) (e .top) (n + 1);
-      rises = cond (ltb n (e .top)) false (e .rises);
+      count = counted (e .count);
+      falls = cond (ltb n (e .top)) 1 (e .falls);
     }
 
 abbrev pub noPen : Pen
@@ -79,7 +79,7 @@ unfoldable pub penFits : ℕ → Pen → Bool
 penFits places p = nameFits (p .head) && (leb (p .ins .top) places && (leb (p .outs .top) places && (leb (p .reads .top) 32 && leb (p .writes .top) 32)))
 
 unfoldable pub entriesFit : Entries → Bool
-entriesFit e = leb (e .count) 8 && e .rises
+entriesFit e = leb (e .count) 8 && eqb (e .falls) 0
 
 unfoldable pub penLists : Pen → Bool
 penLists p =

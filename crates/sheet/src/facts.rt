@@ -1,14 +1,14 @@
-// A line that has ended: its rows, and its facts put away.
-use crate::Pen;
+// The facts of a sheet from what was put away of its lines.
 use crate::Sheet;
-use crate::rows;
+use crate::Tally;
 use layout::Part;
 use layout::Point;
-use layout::Word;
 use route::Route;
+use route::Step;
 ghost use mathlib.Core.Path.{_≡_};
-ghost use Rattle.sheet.specs.Facts.{failed, headed, oldHead, newHead, jobHead, doneIn};
-ghost use Rattle.sheet.specs.PenFacts.{penIn, penLine, penPut, penKeep, endsLine};
+ghost use Rattle.sheet.specs.Facts.{failed};
+ghost use Rattle.sheet.specs.PenFacts.{endsWell, finish};
+ghost use Rattle.sheet.specs.Tallies.{sheetOf};
 
 impl Sheet {
     // A refusal: all else is 0.
@@ -27,151 +27,17 @@ impl Sheet {
     }
 }
 
-fn headed(n: u32) -> Route
-    ensures { λ r. ⌜ r ≡ headed n ⌝ }
-{
-    let mut r = Route::empty();
-    r.places = n as u64;
-    r
-}
-
-fn old_head(mut s: Sheet, n: u32, line: u64) -> Sheet
-    ensures { λ r. ⌜ r ≡ oldHead line n s ⌝ }
-{
-    if !rows::places_fit(n) {
-        return Sheet::refused(2, line);
-    }
-    let r = headed(n);
-    s.old = r;
-    s
-}
-
-fn new_head(mut s: Sheet, n: u32, line: u64) -> Sheet
-    ensures { λ r. ⌜ r ≡ newHead line n s ⌝ }
-{
-    if s.old.len == 0 {
-        return Sheet::refused(4, line);
-    }
-    if !rows::places_fit(n) {
-        return Sheet::refused(2, line);
-    }
-    let r = headed(n);
-    s.new = r;
-    s
-}
-
-fn job_head(s: Sheet, line: u64) -> Sheet
-    ensures { λ r. ⌜ r ≡ jobHead line s ⌝ }
-{
-    if s.new.len == 0 {
-        return Sheet::refused(4, line);
-    }
-    s
-}
-
-fn done_line(mut s: Sheet, n: u32, line: u64) -> Sheet
-    ensures { λ r. ⌜ r ≡ doneIn line n s ⌝ }
-{
-    let k = s.done_len;
-    if Route::STEPS <= k {
-        return Sheet::refused(4, line);
-    }
-    if !rows::name_fits(n) {
-        return Sheet::refused(2, line);
-    }
-    s.done[k] = n;
-    s.done_len = k + 1;
-    s
-}
-
-fn old_step(mut s: Sheet, pen: Pen, line: u64) -> Sheet
-    ensures { λ r. ⌜ r ≡ penIn Part.OldRoute line pen s ⌝ }
-{
-    let r = s.old;
-    let o = rows::step_row(r, pen, line);
-    if !o.passed() {
-        return Sheet::refused(o.number, o.second);
-    }
-    let t = rows::with_step(r, pen);
-    s.old = t;
-    s
-}
-
-fn new_step(mut s: Sheet, pen: Pen, line: u64) -> Sheet
-    ensures { λ r. ⌜ r ≡ penIn Part.NewRoute line pen s ⌝ }
-{
-    let r = s.new;
-    let o = rows::step_row(r, pen, line);
-    if !o.passed() {
-        return Sheet::refused(o.number, o.second);
-    }
-    let t = rows::with_step(r, pen);
-    s.new = t;
-    s
-}
-
-fn step_line(s: Sheet, pen: Pen, p: Part, line: u64) -> Sheet
-    ensures { λ r. ⌜ r ≡ penIn p line pen s ⌝ }
-{
-    match p {
-        Part::OldRoute => old_step(s, pen, line),
-        Part::NewRoute => new_step(s, pen, line),
-        Part::JobPart => s,
-    }
-}
-
-// The line of a sheet that nothing has refused so far.
-fn line_ended(s: Sheet, pen: Pen, w: Word, p: Part, line: u64) -> Sheet
-    ensures { λ r. ⌜ r ≡ penLine w p line pen s ⌝ }
-{
-    match w {
-        Word::Old => old_head(s, pen.head, line),
-        Word::New => new_head(s, pen.head, line),
-        Word::Job => job_head(s, line),
-        Word::Done => done_line(s, pen.head, line),
-        Word::Step => s,
-        Word::In => s,
-        Word::Out => s,
-        Word::Read => s,
-        Word::Write => step_line(s, pen, p, line),
-    }
-}
-
-fn put(s: Sheet, pen: Pen, w: Word, p: Part, line: u64) -> Sheet
-    ensures { λ r. ⌜ r ≡ penPut w p line pen s ⌝ }
-{
-    if s.number == 0 {
-        line_ended(s, pen, w, p, line)
-    } else {
-        s
-    }
-}
-
-// What is kept past a point.
-pub fn keep(s: Sheet, pen: Pen, at: Point, line: u64) -> Sheet
-    ensures { λ r. ⌜ r ≡ penKeep at line pen s ⌝ }
-{
-    match at {
-        Point::Start => s,
-        Point::Open(_) => s,
-        Point::Choice(_) => s,
-        Point::Letters(_, _, _) => s,
-        Point::Past(_, _) => s,
-        Point::Digit(_, _) => s,
-        Point::Digits(_, _, _) => s,
-        Point::Gap(_, _) => s,
-        Point::Closed(_, _) => s,
-        Point::Lf(w, p) => put(s, pen, w, p, line),
-        Point::Stuck => s,
-    }
-}
-
-pub fn ends_line(at: Point) -> bool
-    ensures { λ r. ⌜ r ≡ endsLine at ⌝ }
+// A sheet may end at this point.
+fn ends_well(at: Point) -> bool
+    ensures { λ r. ⌜ r ≡ endsWell at ⌝ }
 {
     match at {
         Point::Start => false,
-        Point::Open(_) => false,
+        Point::Open(p) => match p {
+            Part::OldRoute => false,
+            Part::NewRoute => false,
+            Part::JobPart => true,
+        },
         Point::Choice(_) => false,
         Point::Letters(_, _, _) => false,
         Point::Past(_, _) => false,
@@ -179,7 +45,42 @@ pub fn ends_line(at: Point) -> bool
         Point::Digits(_, _, _) => false,
         Point::Gap(_, _) => false,
         Point::Closed(_, _) => false,
-        Point::Lf(_, _) => true,
+        Point::Lf(_, _) => false,
         Point::Stuck => false,
+    }
+}
+
+// Where the bytes end.
+pub fn finish(
+    at: Point,
+    i: u64,
+    t: Tally,
+    old: [Step; 64],
+    new: [Step; 64],
+    done: [u32; 64],
+) -> Sheet
+    ensures { λ r. ⌜ r ≡ finish at i (sheetOf t old new done) ⌝ }
+{
+    if !ends_well(at) {
+        return Sheet::refused(1, i);
+    }
+    if t.number != 0 {
+        return Sheet::refused(t.number, t.second);
+    }
+    Sheet {
+        number: 0,
+        second: 0,
+        old: Route {
+            places: t.old_places,
+            len: t.old_len,
+            steps: old,
+        },
+        new: Route {
+            places: t.new_places,
+            len: t.new_len,
+            steps: new,
+        },
+        done_len: t.done_len,
+        done,
     }
 }

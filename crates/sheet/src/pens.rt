@@ -1,11 +1,14 @@
 // What a byte does to the line in hand.
+use crate::Act;
 use crate::Entries;
 use crate::Pen;
 use layout::Point;
 use layout::Word;
 ghost use mathlib.Core.Path.{_≡_};
 ghost use Prim.Native.Nat.{_≤_, _-_};
-ghost use Rattle.sheet.specs.Pens.{noEntries, marked, counted, added, noPen, penNum, penStored, penDigit, penTook};
+ghost use Rattle.layout.specs.Parse.{grown};
+ghost use Rattle.sheet.specs.Pens.{noEntries, marked, counted, added, noPen, penStored};
+ghost use Rattle.sheet.specs.PenFacts.{actAt};
 
 // The mask with one more entry, where it is below the width.
 fn marked(m: u64, n: u32, width: u32) -> u64
@@ -31,9 +34,9 @@ impl Entries {
     {
         Entries {
             mask: 0,
-            count: 0,
             top: 0,
-            rises: true,
+            count: 0,
+            falls: 0,
         }
     }
 
@@ -48,25 +51,32 @@ impl Entries {
         if v < self.top {
             return Entries {
                 mask,
-                count,
                 top: self.top,
-                rises: false,
+                count,
+                falls: 1,
             };
         }
         Entries {
             mask,
-            count,
             top: v + 1,
-            rises: self.rises,
+            count,
+            falls: self.falls,
         }
     }
 }
 
 // The value of a digit's byte.
-fn value(b: u8) -> u32
+pub fn value(b: u8) -> u32
     ensures { λ r. ⌜ r ≡ b - 48 ⌝ }
 {
     if 48 <= b { b as u32 - 48 } else { 0 }
+}
+
+// A number with one more digit. More than five never come, so nothing is lost by the remainder.
+pub fn grown(n: u32, b: u8) -> u32
+    ensures { λ r. ⌜ r ≡ grown n b ⌝ }
+{
+    n % 100000 * 10 + value(b)
 }
 
 impl Pen {
@@ -84,13 +94,6 @@ impl Pen {
         }
     }
 
-    fn with_num(mut self, n: u32) -> Pen
-        ensures { λ r. ⌜ r ≡ penNum n self ⌝ }
-    {
-        self.num = n;
-        self
-    }
-
     fn with_head(mut self) -> Pen
         ensures { λ r. ⌜ r ≡ penStored Word.Step self ⌝ }
     {
@@ -98,8 +101,8 @@ impl Pen {
         self
     }
 
-    // A number that has ended goes where its word says.
-    fn stored(mut self, w: Word) -> Pen
+    // The number in hand has ended, and goes where its word says.
+    pub fn stored(mut self, w: Word) -> Pen
         ensures { λ r. ⌜ r ≡ penStored w self ⌝ }
     {
         let n = self.num;
@@ -127,32 +130,22 @@ impl Pen {
             }
         }
     }
+}
 
-    fn after_digits(self, w: Word, b: u8) -> Pen
-        ensures { λ r. ⌜ r ≡ penDigit w b self ⌝ }
-    {
-        if layout::points::digit(b) {
-            self.with_num(self.num % 100000 * 10 + value(b))
-        } else {
-            self.stored(w)
-        }
-    }
-
-    pub fn took(self, at: Point, b: u8) -> Pen
-        ensures { λ r. ⌜ r ≡ penTook at b self ⌝ }
-    {
-        match at {
-            Point::Start => self,
-            Point::Open(_) => self,
-            Point::Choice(_) => self,
-            Point::Letters(_, _, _) => self,
-            Point::Past(_, _) => self,
-            Point::Digit(_, _) => self.with_num(value(b)),
-            Point::Digits(w, _, _) => self.after_digits(w, b),
-            Point::Gap(_, _) => self,
-            Point::Closed(_, _) => self,
-            Point::Lf(_, _) => Pen::new(),
-            Point::Stuck => self,
-        }
+pub fn act(at: Point) -> Act
+    ensures { λ r. ⌜ r ≡ actAt at ⌝ }
+{
+    match at {
+        Point::Start => Act::Moves,
+        Point::Open(_) => Act::Moves,
+        Point::Choice(_) => Act::Moves,
+        Point::Letters(_, _, _) => Act::Moves,
+        Point::Past(_, _) => Act::Moves,
+        Point::Digit(_, _) => Act::Begins,
+        Point::Digits(w, _, _) => Act::Counts(w),
+        Point::Gap(_, _) => Act::Moves,
+        Point::Closed(_, _) => Act::Moves,
+        Point::Lf(w, p) => Act::Ends(w, p),
+        Point::Stuck => Act::Moves,
     }
 }

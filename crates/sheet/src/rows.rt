@@ -7,10 +7,9 @@ use route::Route;
 use route::Step;
 ghost use mathlib.Core.Path.{_≡_};
 ghost use Prim.Native.Nat.{_≤_, _<_};
-ghost use Rattle.route.specs.Steps.{stepsOf, names};
+ghost use lib.ListN.{length};
 ghost use Rattle.job.specs.Lines.{nameFits, placesFit};
 ghost use Rattle.sheet.specs.Pens.{entriesFit, penFits, penLists, penRow, penStep};
-ghost use Rattle.sheet.specs.Facts.{stepped};
 
 pub fn name_fits(n: u32) -> bool
     ensures { λ r. ⌜ r ≡ nameFits n ⌝ }
@@ -44,7 +43,7 @@ fn pen_fits(places: u64, pen: Pen) -> bool
 fn entries_fit(e: Entries) -> bool
     ensures { λ r. ⌜ r ≡ entriesFit e ⌝ }
 {
-    e.count <= Route::ENTRIES && e.rises
+    e.count <= Route::ENTRIES && e.falls == 0
 }
 
 fn pen_lists(pen: Pen) -> bool
@@ -65,27 +64,26 @@ fn pen_lists(pen: Pen) -> bool
     entries_fit(pen.reads) && entries_fit(pen.writes)
 }
 
-pub fn step_row(r: Route, pen: Pen, line: u64) -> Outcome
-    ensures { λ o. ⌜ o ≡ penRow line (r .places) (r .len) (names (stepsOf r)) pen ⌝ }
+// Given the names of the steps above.
+pub fn step_row(places: u64, names: &[u32], pen: Pen, line: u64) -> Outcome
+    ensures { λ o. ⌜ o ≡ penRow line places (length (now (names .entry))) (now (names .entry)) pen ⌝ }
 {
-    let n = r.len;
-    if Route::STEPS <= n {
+    if Route::STEPS <= names.len() {
         return Outcome::refuse(4, line);
     }
-    if !pen_fits(r.places, pen) {
+    if !pen_fits(places, pen) {
         return Outcome::refuse(2, line);
     }
     if !pen_lists(pen) {
         return Outcome::refuse(3, line);
     }
-    let column = r.names();
-    match route::steps::find(&column[..n], pen.head) {
+    match route::steps::find(names, pen.head) {
         Found::At(_) => Outcome::refuse(5, line),
         Found::Nothing => Outcome::pass(),
     }
 }
 
-fn step_of(pen: Pen) -> Step
+pub fn step_of(pen: Pen) -> Step
     ensures { λ r. ⌜ r ≡ penStep pen ⌝ }
 {
     Step {
@@ -95,17 +93,4 @@ fn step_of(pen: Pen) -> Step
         reads: (pen.reads.mask % 4294967296) as u32,
         writes: (pen.writes.mask % 4294967296) as u32,
     }
-}
-
-// The route with one more step.
-pub fn with_step(mut r: Route, pen: Pen) -> Route
-    ensures { λ t. ⌜ t ≡ stepped r (penStep pen) ⌝ }
-{
-    let n = r.len;
-    if n < Route::STEPS {
-        let s = step_of(pen);
-        r.steps[n] = s;
-        r.len = n + 1;
-    }
-    r
 }

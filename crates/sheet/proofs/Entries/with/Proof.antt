@@ -10,13 +10,13 @@ use Rattle.sheet.proofs.Entries.with.Statement.{statement}
 use Rattle.sheet.proofs.Entries.with.Tie as tie
 
 module _ (w n : ℕ) (e : Entries) (m k : ℕ) (mask : m ≡ marked w n (e .mask)) (count : k ≡ counted (e .count)) where
-  below : n < e .top → record { mask = m; count = k; top = e .top; rises = false } ≡ added w n e
+  below : n < e .top → record { mask = m; top = e .top; count = k; falls = 1 } ≡ added w n e
   unfolding added
-  below h = λ i. record { mask = mask i; count = count i; top = cond (sym (lt-ltb n (e .top) h) i) (e .top) (n + 1); rises = cond (sym (lt-ltb n (e .top) h) i) false (e .rises) }
+  below h = λ i. record { mask = mask i; top = cond (sym (lt-ltb n (e .top) h) i) (e .top) (n + 1); count = count i; falls = cond (sym (lt-ltb n (e .top) h) i) 1 (e .falls) }
 
-  above : e .top ≤ n → record { mask = m; count = k; top = n + 1; rises = e .rises } ≡ added w n e
+  above : e .top ≤ n → record { mask = m; top = n + 1; count = k; falls = e .falls } ≡ added w n e
   unfolding added
-  above h = λ i. record { mask = mask i; count = count i; top = cond (sym (le-ltb n (e .top) h) i) (e .top) (n + 1); rises = cond (sym (le-ltb n (e .top) h) i) false (e .rises) }
+  above h = λ i. record { mask = mask i; top = cond (sym (le-ltb n (e .top) h) i) (e .top) (n + 1); count = count i; falls = cond (sym (le-ltb n (e .top) h) i) 1 (e .falls) }
 
 marked-requires : tie.Need-marked-requires
 marked-requires c κs = search needs

@@ -8,7 +8,7 @@ use Rattle.sheet.proofs.rows.entries_fit.Tie as tie
 
 returns : tie.Need-returns
 unfolding entriesFit
-returns c = and-yes refl (le-leb _ _ (c .if1 .taken)) refl
+returns c = and-yes refl (le-leb _ _ (c .before .if1 .taken)) refl
 
 returns-2 : tie.Need-returns-2
 unfolding entriesFit

@@ -4,7 +4,6 @@ use mathlib.Core.Bool.{Bool, true, false, not}
 use mathlib.Core.List.{List, [], _∷_}
 use Prim.Native.Nat.{ℕ, _≤_, _<_}
 use lib.Dec.{ltb}
-use lib.ListN.{take}
 use borrow.Author.Tests.{lt-ltb, le-ltb, not-true, not-false}
 use Rattle.route.specs.Steps.{position}
 use Rattle.route.specs.Rows.{pass, refuse, unless, first}
@@ -16,7 +15,6 @@ use Rattle.job.specs.Lines.{among}
 use Rattle.job.proofs.Among.{among-found, among-missed}
 use Rattle.sheet.specs.Pens.{penFits, penLists, penRow}
 use Rattle.sheet.specs.declared.Pen.{Pen}
-use lib.Seq.{length-take-le}
 use borrow.Author.Needs.{needs}
 use Rattle.sheet.proofs.rows.step_row.Statement.{statement}
 use Rattle.sheet.proofs.rows.step_row.Tie as tie
@@ -40,14 +38,11 @@ module _ (line places above : ℕ) (earlier : List ℕ) (p : Pen) (o : Outcome) 
     unfolding penRow
     three q t = q ∙ sym (row-refuses (penLists p) 3 line _ (sym lists ∙ not-true l t) refl) ∙ sym (after-two _)
 
-    module _ (column : List ℕ) (at : Found) (names-are : take above column ≡ earlier) (found : at ≡ position (p .head) (take above column)) where
-      among-is : at ≡ position (p .head) earlier
-      among-is = found ∙ ap (λ (k : List ℕ). position (p .head) k) names-are
-
+    module _ (at : Found) (found : at ≡ position (p .head) earlier) where
       five : (k : ℕ) → o ≡ refuse 5 line → not l ≡ false → at ≡ At k → o ≡ penRow line places above earlier p
       unfolding penRow
       five k q t e =
-          q ∙ sym (row-refuses (not (among (p .head) earlier)) 5 line [] (ap not (among-found (p .head) earlier k (sym among-is ∙ e))) refl)
+          q ∙ sym (row-refuses (not (among (p .head) earlier)) 5 line [] (ap not (among-found (p .head) earlier k (sym found ∙ e))) refl)
           ∙ sym (row-passes (penLists p) 3 line _ (sym lists ∙ not-false l t))
           ∙ sym (after-two _)
 
@@ -55,7 +50,7 @@ module _ (line places above : ℕ) (earlier : List ℕ) (p : Pen) (o : Outcome) 
       unfolding penRow
       none q t e =
           q ∙ sym rows-end
-          ∙ sym (row-passes (not (among (p .head) earlier)) 5 line [] (ap not (among-missed (p .head) earlier (sym among-is ∙ e))))
+          ∙ sym (row-passes (not (among (p .head) earlier)) 5 line [] (ap not (among-missed (p .head) earlier (sym found ∙ e))))
           ∙ sym (row-passes (penLists p) 3 line _ (sym lists ∙ not-false l t))
           ∙ sym (after-two _)
 
@@ -82,15 +77,6 @@ refuse-requires-3 c κs = search needs
 
 returns-3 : tie.Need-returns-3
 returns-3 c = search (needs, three)
-
-names-requires : tie.Need-names-requires
-names-requires c κs = search needs
-
-array-share-prefix-column : tie.Need-array-share-prefix-column
-array-share-prefix-column c = search needs
-
-slice-aggregate-find : tie.Need-slice-aggregate-find
-slice-aggregate-find c = sym (length-take-le _ (c .before .names .result) (search needs))
 
 find-requires : tie.Need-find-requires
 find-requires c κs = search needs
@@ -125,9 +111,6 @@ step-row-spec =
     pen-lists-requires
     refuse-requires-3
     returns-3
-    names-requires
-    array-share-prefix-column
-    slice-aggregate-find
     find-requires
     enum-told
     refuse-requires-4
