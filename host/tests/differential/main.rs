@@ -1,14 +1,19 @@
-//! The engine through its static library, held to the second program.
+//! The engine through its static library, held to the second program: every
+//! answer, and every byte of every slice that a call is lent.
+//!
+//! The variable SEED gives the seed; else the clock does.
 
-#[test]
-fn the_empty_sheet() {
-    let mut out = [7; 14];
-    let printed = host::print(b"", &mut [1; 8_192], &mut out);
-    assert_eq!(
-        (printed.number, printed.second, printed.written),
-        (0, 0, 14)
-    );
-    assert_eq!(&out, b"(refused 1 0)\n");
-    let tried = host::try_order(b"", b"");
-    assert_eq!((tried.number, tried.second, tried.marking), (1, 0, 0));
-}
+mod compare;
+mod damaged;
+mod example;
+mod guarded;
+mod hard;
+mod large;
+mod listings;
+mod long;
+mod orders;
+mod parts;
+mod seed;
+mod slices;
+mod some_order;
+mod tally;
