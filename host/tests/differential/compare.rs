@@ -19,25 +19,17 @@ pub fn compare_print(sheet: &[u8], work: &[u8], out: &[u8], dice: &mut Dice) -> 
     };
     let lent = Guarded::new(sheet, dice);
     let (mut work, mut out) = (Guarded::new(work, dice), Guarded::new(out, dice));
-    let expected_buffers = [
+    let buffers_after = [
         lent.with(sheet),
         work.with(&work_after),
         out.with(&out_after),
     ];
     let answer = host::print(lent.slice(), work.slice_mut(), out.slice_mut());
-    let text = |bytes: &[u8]| String::from_utf8_lossy(bytes).into_owned();
-    same(
-        sheet,
-        &(answer, text(out.slice())),
-        &(expected, text(&out_after)),
-    );
-    for (name, now, then) in [
-        ("sheet", lent.now(), &expected_buffers[0]),
-        ("work", work.now(), &expected_buffers[1]),
-        ("out", out.now(), &expected_buffers[2]),
-    ] {
-        same(sheet, &(name, differs(now, then)), &(name, None));
-    }
+    let [engine, second_program] = [out.slice(), &out_after].map(String::from_utf8_lossy);
+    same(sheet, &(answer, engine), &(expected, second_program));
+    same_buffer(sheet, "sheet", lent.buffer(), &buffers_after[0]);
+    same_buffer(sheet, "work", work.buffer(), &buffers_after[1]);
+    same_buffer(sheet, "out", out.buffer(), &buffers_after[2]);
     (answer, out_after)
 }
 
@@ -47,11 +39,12 @@ pub fn compare_try(sheet: &[u8], order: &[u8], dice: &mut Dice) -> Tried {
         Ok(marking) => tried(0, 0, mask(&marking)),
         Err(refusal) => tried(refusal.number, refusal.second, 0),
     };
-    let lent = [Guarded::new(sheet, dice), Guarded::new(order, dice)];
-    let answer = host::try_order(lent[0].slice(), lent[1].slice());
+    let (lent, list) = (Guarded::new(sheet, dice), Guarded::new(order, dice));
+    let buffers_after = [lent.with(sheet), list.with(order)];
+    let answer = host::try_order(lent.slice(), list.slice());
     same(sheet, &(order, answer), &(order, expected));
-    let lent_after = lent.each_ref().map(Guarded::slice);
-    same(sheet, &lent_after, &[sheet, order]);
+    same_buffer(sheet, "sheet", lent.buffer(), &buffers_after[0]);
+    same_buffer(sheet, "order", list.buffer(), &buffers_after[1]);
     answer
 }
 
@@ -64,10 +57,13 @@ pub fn same<T: Debug + PartialEq>(sheet: &[u8], engine: &T, second_program: &T) 
     }
 }
 
-/// The first place where two buffers of the same length differ, and both bytes there.
-fn differs(now: &[u8], then: &[u8]) -> Option<(usize, u8, u8)> {
-    let at = now.iter().zip(then).position(|(a, b)| a != b)?;
-    Some((at, now[at], then[at]))
+/// Panics with the first byte that differs, if one does.
+#[track_caller]
+fn same_buffer(sheet: &[u8], name: &str, now: &[u8], expected: &[u8]) {
+    let mut pairs = now.iter().zip(expected).enumerate();
+    if let Some((at, (byte, other))) = pairs.find(|(_, (byte, other))| byte != other) {
+        same(sheet, &(name, at, byte), &(name, at, other));
+    }
 }
 
 fn printed(number: u32, second: usize, written: usize) -> Printed {

@@ -9,7 +9,7 @@ use reference::sheet;
 
 #[test]
 fn damaged_sheets() {
-    let mut tally = Tally::new("damaged sheets");
+    let mut tally = Tally::default();
     for_each_case("damaged sheets", 50_000, &mut |dice| {
         let facts = match dice.below(5) {
             0 => large::sheet(dice),
@@ -18,13 +18,14 @@ fn damaged_sheets() {
         let bytes = damage(sheet::text(&facts).as_bytes(), dice);
         compare_listing(&bytes, &mut tally, dice);
     });
-    tally.finish(20, 0..=13);
+    let numbers: Vec<u32> = (0..=13).collect();
+    tally.finish("damaged sheets", "moved", 20, &numbers);
 }
 
 /// Each prefix of a sheet, and each sheet with one byte left out.
 #[test]
 fn every_cut_of_a_sheet() {
-    let mut tally = Tally::new("cuts");
+    let mut tally = Tally::default();
     for_each_case("cuts", 40, &mut |dice| {
         let bytes = sheet::text(&random::sheet(dice)).into_bytes();
         for at in 0..bytes.len() {
@@ -33,5 +34,5 @@ fn every_cut_of_a_sheet() {
             compare_listing(&without, &mut tally, dice);
         }
     });
-    tally.finish(20, [0, 1]);
+    tally.finish("cut sheets", "moved", 20, &[0, 1]);
 }

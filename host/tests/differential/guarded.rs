@@ -42,8 +42,8 @@ impl Guarded {
         .concat()
     }
 
-    /// The whole buffer as it is now.
-    pub fn now(&self) -> &[u8] {
+    /// The whole buffer.
+    pub fn buffer(&self) -> &[u8] {
         &self.buffer
     }
 }

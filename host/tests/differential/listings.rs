@@ -11,6 +11,9 @@ use reference::random;
 use reference::random::dice::Dice;
 use reference::sheet;
 
+/// What sheets that read come to, 0 for moved.
+const NUMBERS: [u32; 7] = [0, 8, 9, 10, 11, 12, 13];
+
 /// Compares the listing of a sheet, with room for it and at times some more.
 pub fn compare_listing(bytes: &[u8], tally: &mut Tally, dice: &mut Dice) {
     let work = random_bytes(WORK + dice.below(9), dice);
@@ -22,20 +25,20 @@ pub fn compare_listing(bytes: &[u8], tally: &mut Tally, dice: &mut Dice) {
 
 #[test]
 fn random_sheets() {
-    let mut tally = Tally::new("random sheets");
+    let mut tally = Tally::default();
     for_each_case("random sheets", 100_000, &mut |dice| {
         let text = sheet::text(&random::sheet(dice));
         compare_listing(text.as_bytes(), &mut tally, dice);
     });
-    tally.finish(100, [0, 6, 7, 8, 9, 10, 11, 12, 13]);
+    tally.finish("random sheets", "moved", 100, &NUMBERS);
 }
 
 #[test]
 fn large_sheets() {
-    let mut tally = Tally::new("large sheets");
+    let mut tally = Tally::default();
     for_each_case("large sheets", 20_000, &mut |dice| {
         let text = sheet::text(&large::sheet(dice));
         compare_listing(text.as_bytes(), &mut tally, dice);
     });
-    tally.finish(20, [0, 8, 9, 10, 11, 12, 13]);
+    tally.finish("large sheets", "moved", 20, &NUMBERS);
 }

@@ -32,11 +32,11 @@ fn long_sheet(dice: &mut Dice) -> Vec<u8> {
 
 #[test]
 fn long_sheets() {
-    let mut tally = Tally::new("long sheets");
+    let mut tally = Tally::default();
     for_each_case("long sheets", 200, &mut |dice| {
         let bytes = long_sheet(dice);
         compare_listing(&bytes, &mut tally, dice);
         compare_try(&bytes, &[], dice);
     });
-    tally.finish(5, [1, 3, 4]);
+    tally.finish("long sheets", "moved", 3, &[1, 3, 4]);
 }

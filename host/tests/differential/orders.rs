@@ -37,7 +37,7 @@ fn is_judges(facts: &Sheet, order: &[u8]) -> bool {
 
 #[test]
 fn random_orders() {
-    let mut tally = Tally::new("orders");
+    let mut tally = Tally::default();
     let mut others = 0;
     for_each_case("orders", 30_000, &mut |dice| {
         let bytes = match dice.below(5) {
@@ -56,6 +56,6 @@ fn random_orders() {
     });
     println!("orders: {others} accepted that judge doesn't give");
     assert!(others > 1_000);
-    let numbers = (0..=12).chain(16..=18);
-    tally.finish(20, numbers);
+    let numbers: Vec<u32> = (0..=12).chain(16..=18).collect();
+    tally.finish("orders", "accepted", 20, &numbers);
 }

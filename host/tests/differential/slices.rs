@@ -11,7 +11,7 @@ use reference::random;
 
 #[test]
 fn lengths_of_work_and_out() {
-    let mut tally = Tally::new("lengths of work and out");
+    let mut tally = Tally::default();
     let mut searched = [0; 3];
     for_each_case("slices", 2_000, &mut |dice| {
         let bytes = random::bytes(dice);
@@ -28,9 +28,9 @@ fn lengths_of_work_and_out() {
         }
         searched[outcome(&bytes)] += 1;
     });
-    println!("sheets without a search, found, not found: {searched:?}");
+    println!("lengths of slices: without a search, found, not found {searched:?}");
     assert!(searched.iter().all(|&count| count > 50));
-    tally.finish(1_000, [0, 14, 15]);
+    tally.finish("prints with lengths of slices", "done", 1_000, &[0, 14, 15]);
 }
 
 /// 0 without a search; after one 1 for an order found and 2 for none.

@@ -2,24 +2,17 @@
 
 use std::collections::BTreeMap;
 
+#[derive(Default)]
 pub struct Tally {
-    test: &'static str,
     counts: BTreeMap<u32, usize>,
 }
 
 impl Tally {
-    pub fn new(test: &'static str) -> Tally {
-        Tally {
-            test,
-            counts: BTreeMap::new(),
-        }
-    }
-
     pub fn add(&mut self, number: u32) {
         *self.counts.entry(number).or_default() += 1;
     }
 
-    /// Counts a listing by the number that it refuses with, or as moved.
+    /// Counts a listing by the number that it refuses with, or 0 if it moves.
     pub fn add_listing(&mut self, listing: &[u8]) {
         let text = String::from_utf8_lossy(listing);
         let number = match text.strip_prefix("(refused ") {
@@ -29,18 +22,21 @@ impl Tally {
         self.add(number.expect("no listing"));
     }
 
-    /// Prints the counts; each of these numbers must have been met.
-    pub fn finish(self, least: usize, numbers: impl IntoIterator<Item = u32>) {
-        let (test, counts) = (self.test, &self.counts);
-        let all: usize = counts.values().sum();
-        let count = |number| counts.get(&number).copied().unwrap_or(0);
-        println!("{test}: {all}, of them with 0: {}", count(0));
-        for (number, count) in counts.iter().filter(|(number, _)| **number > 0) {
-            println!("{test}: number {number:2} {count:7} times");
-        }
+    /// Prints the counts, with words for all and for those with 0. Each of the
+    /// numbers must have been met so many times.
+    pub fn finish(&self, all: &str, good: &str, least: usize, numbers: &[u32]) {
+        let count = |number| self.counts.get(number).copied().unwrap_or(0);
+        let sum: usize = self.counts.values().sum();
+        let refused: Vec<String> = self
+            .counts
+            .iter()
+            .filter(|(number, _)| **number != 0)
+            .map(|(number, count)| format!("{number}: {count}"))
+            .collect();
+        let refused = refused.join(", ");
+        println!("{sum} {all}, {} {good}, by number {{{refused}}}", count(&0));
         for number in numbers {
-            let met = count(number);
-            assert!(met >= least, "{test}: number {number} met {met} times");
+            assert!(count(number) >= least, "{all}: number {number}");
         }
     }
 }
