@@ -47,7 +47,7 @@ pub struct Tried {
 /// Prints the listing of the sheet into the out slice.
 pub fn print(sheet: &[u8], work: &mut [u8], out: &mut [u8]) -> Printed {
     let (mut second, mut written) = (UNSET, UNSET);
-    // Each pointer comes with the length of its slice; the three slices and the
+    // SAFETY: each pointer comes with the length of its slice; the three slices and the
     // two numbers don't overlap, and they outlive the call.
     let number = unsafe {
         reroute_print(
@@ -71,7 +71,7 @@ pub fn print(sheet: &[u8], work: &mut [u8], out: &mut [u8]) -> Printed {
 /// Tries an order, occurrence numbers as bytes, on the job of the sheet.
 pub fn try_order(sheet: &[u8], order: &[u8]) -> Tried {
     let (mut second, mut marking) = (UNSET, UNSET);
-    // Each pointer comes with the length of its slice; the slices are only read,
+    // SAFETY: each pointer comes with the length of its slice; the slices are only read,
     // and the numbers outlive the call.
     let number = unsafe {
         reroute_try(

@@ -4,7 +4,7 @@ use crate::large;
 use crate::listings::compare_listing;
 use crate::seed::for_each_case;
 use crate::tally::Tally;
-use reference::random::{self, damage::damage};
+use reference::random::{self, damage::damage, dice::Dice};
 use reference::sheet;
 
 #[test]
@@ -22,17 +22,29 @@ fn damaged_sheets() {
     tally.finish("damaged sheets", "moved", 20, &numbers);
 }
 
-/// Each prefix of a sheet, and each sheet with one byte left out.
+/// A byte that is at home in a sheet, or any other.
+fn some_byte(dice: &mut Dice) -> u8 {
+    match dice.below(4) {
+        0 => dice.below(256) as u8,
+        1 => b"()\n "[dice.below(4)],
+        _ => b'0' + dice.below(10) as u8,
+    }
+}
+
+/// A sheet cut off at each of its bytes, without that byte, and with another there.
 #[test]
-fn every_cut_of_a_sheet() {
+fn every_byte_of_a_sheet() {
     let mut tally = Tally::default();
-    for_each_case("cuts", 40, &mut |dice| {
+    for_each_case("bytes", 40, &mut |dice| {
         let bytes = sheet::text(&random::sheet(dice)).into_bytes();
         for at in 0..bytes.len() {
             compare_listing(&bytes[..at], &mut tally, dice);
-            let without = [&bytes[..at], &bytes[at + 1..]].concat();
-            compare_listing(&without, &mut tally, dice);
+            let mut damaged = bytes.clone();
+            damaged[at] = some_byte(dice);
+            compare_listing(&damaged, &mut tally, dice);
+            damaged.remove(at);
+            compare_listing(&damaged, &mut tally, dice);
         }
     });
-    tally.finish("cut sheets", "moved", 20, &[0, 1]);
+    tally.finish("sheets with a byte damaged", "moved", 20, &[0, 1]);
 }
