@@ -4,6 +4,7 @@
 //! The variable SEED gives the seed; else the clock does.
 
 mod compare;
+mod crowded;
 mod damaged;
 mod example;
 mod guarded;
