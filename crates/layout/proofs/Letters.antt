@@ -1,12 +1,12 @@
 -- The table of words, entry by entry.
 -- Assumes nothing.
-use mathlib.Core.Path.{_≡_, refl}
+use mathlib.Core.Path.{_≡_, refl, ap, ap₂, _∙_}
 use mathlib.Core.List.{List, [], _∷_}
 use Prim.Native.Nat.{ℕ, zero, suc, _+_, _*_, _≤_, _<_}
 use native.Mathlib.Omega.{arith}
 use lib.Dec.{lit<, lit≤}
 use lib.ListN.{length, getD}
-use Rattle.layout.specs.Words.{spelling, numberOf}
+use Rattle.layout.specs.Words.{wordTable, spelling, numberOf}
 use Rattle.layout.specs.declared.Word.{Word}
 use Rattle.layout.specs.declared.Word.the-variants.{Old, New, Job, Done, Step, In, Out, Read, Write}
 
@@ -34,12 +34,6 @@ row-below Out = lit< tt
 row-below Read = lit< tt
 row-below Write = lit< tt
 
-abbrev pub bytes : List ℕ
-bytes = 111 ∷ 108 ∷ 100 ∷ 0 ∷ 0 ∷ 110 ∷ 101 ∷ 119 ∷ 0 ∷ 0 ∷ 106 ∷ 111 ∷ 98 ∷ 0 ∷ 0 ∷ 100 ∷ 111 ∷ 110 ∷ 101 ∷ 0 ∷ 115 ∷ 116 ∷ 101 ∷ 112 ∷ 0 ∷ 105 ∷ 110 ∷ 0 ∷ 0 ∷ 0 ∷ 111 ∷ 117 ∷ 116 ∷ 0 ∷ 0 ∷ 114 ∷ 101 ∷ 97 ∷ 100 ∷ 0 ∷ 119 ∷ 114 ∷ 105 ∷ 116 ∷ 101 ∷ []
-
-abbrev pub lengths : List ℕ
-lengths = 3 ∷ 3 ∷ 3 ∷ 4 ∷ 4 ∷ 2 ∷ 3 ∷ 4 ∷ 5 ∷ []
-
 pub each-of-five : (P : ℕ → Type 0) → P 0 → P 1 → P 2 → P 3 → P 4 → (k : ℕ) → k < 5 → P k
 each-of-five P a b c d e zero h = a
 each-of-five P a b c d e (suc zero) h = b
@@ -49,19 +43,19 @@ each-of-five P a b c d e (suc (suc (suc (suc zero)))) h = e
 each-of-five P a b c d e (suc (suc (suc (suc (suc k))))) h = absurd (omega arith)
 
 -- row by row: the table's bytes are the words' letters
-pub letter-at : (w : Word) (k : ℕ) → k < 5 → getD bytes (numberOf w * 5 + k) 0 ≡ getD (spelling w) k 0
+pub letter-at : (w : Word) (k : ℕ) → k < 5 → getD wordTable (numberOf w * 6 + 1 + k) 0 ≡ getD (spelling w) k 0
 unfolding spelling numberOf
-letter-at Old = each-of-five (λ k. getD bytes (numberOf Old * 5 + k) 0 ≡ getD (spelling Old) k 0) refl refl refl refl refl
-letter-at New = each-of-five (λ k. getD bytes (numberOf New * 5 + k) 0 ≡ getD (spelling New) k 0) refl refl refl refl refl
-letter-at Job = each-of-five (λ k. getD bytes (numberOf Job * 5 + k) 0 ≡ getD (spelling Job) k 0) refl refl refl refl refl
-letter-at Done = each-of-five (λ k. getD bytes (numberOf Done * 5 + k) 0 ≡ getD (spelling Done) k 0) refl refl refl refl refl
-letter-at Step = each-of-five (λ k. getD bytes (numberOf Step * 5 + k) 0 ≡ getD (spelling Step) k 0) refl refl refl refl refl
-letter-at In = each-of-five (λ k. getD bytes (numberOf In * 5 + k) 0 ≡ getD (spelling In) k 0) refl refl refl refl refl
-letter-at Out = each-of-five (λ k. getD bytes (numberOf Out * 5 + k) 0 ≡ getD (spelling Out) k 0) refl refl refl refl refl
-letter-at Read = each-of-five (λ k. getD bytes (numberOf Read * 5 + k) 0 ≡ getD (spelling Read) k 0) refl refl refl refl refl
-letter-at Write = each-of-five (λ k. getD bytes (numberOf Write * 5 + k) 0 ≡ getD (spelling Write) k 0) refl refl refl refl refl
+letter-at Old = each-of-five (λ k. getD wordTable (numberOf Old * 6 + 1 + k) 0 ≡ getD (spelling Old) k 0) refl refl refl refl refl
+letter-at New = each-of-five (λ k. getD wordTable (numberOf New * 6 + 1 + k) 0 ≡ getD (spelling New) k 0) refl refl refl refl refl
+letter-at Job = each-of-five (λ k. getD wordTable (numberOf Job * 6 + 1 + k) 0 ≡ getD (spelling Job) k 0) refl refl refl refl refl
+letter-at Done = each-of-five (λ k. getD wordTable (numberOf Done * 6 + 1 + k) 0 ≡ getD (spelling Done) k 0) refl refl refl refl refl
+letter-at Step = each-of-five (λ k. getD wordTable (numberOf Step * 6 + 1 + k) 0 ≡ getD (spelling Step) k 0) refl refl refl refl refl
+letter-at In = each-of-five (λ k. getD wordTable (numberOf In * 6 + 1 + k) 0 ≡ getD (spelling In) k 0) refl refl refl refl refl
+letter-at Out = each-of-five (λ k. getD wordTable (numberOf Out * 6 + 1 + k) 0 ≡ getD (spelling Out) k 0) refl refl refl refl refl
+letter-at Read = each-of-five (λ k. getD wordTable (numberOf Read * 6 + 1 + k) 0 ≡ getD (spelling Read) k 0) refl refl refl refl refl
+letter-at Write = each-of-five (λ k. getD wordTable (numberOf Write * 6 + 1 + k) 0 ≡ getD (spelling Write) k 0) refl refl refl refl refl
 
-pub length-at : (w : Word) → getD lengths (numberOf w) 0 ≡ length (spelling w)
+pub length-at : (w : Word) → getD wordTable (numberOf w * 6) 0 ≡ length (spelling w)
 unfolding spelling numberOf
 length-at Old = refl
 length-at New = refl
@@ -72,3 +66,14 @@ length-at In = refl
 length-at Out = refl
 length-at Read = refl
 length-at Write = refl
+
+-- a table that was lent, by the row that the code found
+module _ (t : List ℕ) (n : ℕ) (w : Word) (is : t ≡ wordTable) (row : n ≡ numberOf w) where
+  pub table-length : getD t (n * 6) 0 ≡ length (spelling w)
+  table-length = ap₂ (λ (l : List ℕ) (m : ℕ). getD l (m * 6) 0) is row ∙ length-at w
+
+  pub table-letter : (k : ℕ) → k < 5 → getD t (n * 6 + 1 + k) 0 ≡ getD (spelling w) k 0
+  table-letter k h = ap₂ (λ (l : List ℕ) (m : ℕ). getD l (m * 6 + 1 + k) 0) is row ∙ letter-at w k h
+
+  pub table-room : (k : ℕ) → k < 6 → n * 6 + k < length t
+  table-room k h = omega (arith, ap length is, row, row-below w)

@@ -4,6 +4,7 @@ use crate::Point;
 use crate::Word;
 use crate::words;
 ghost use mathlib.Core.Path.{_≡_};
+ghost use Rattle.layout.specs.Words.{wordTable};
 ghost use Rattle.layout.specs.Points.{digit, expect, alive, chosen, spelt, pastWord, inList, first, more, ended, closed, next};
 
 // 0 to 9
@@ -61,14 +62,15 @@ fn chosen(p: Part, b: u8) -> Point
     }
 }
 
-fn spelt(w: Word, p: Part, k: usize, b: u8) -> Point
+fn spelt(table: &[u8], w: Word, p: Part, k: usize, b: u8) -> Point
+    requires { ⌜ now table ≡ wordTable ⌝ }
     ensures { λ r. ⌜ r ≡ spelt w p k b ⌝ }
 {
-    let n = words::size(w);
+    let n = words::size(table, w);
     if n <= k {
         return Point::Stuck;
     }
-    let c = words::letter(w, k);
+    let c = words::letter(table, w, k);
     if b != c {
         return Point::Stuck;
     }
@@ -169,14 +171,16 @@ fn closed(w: Word, p: Part, b: u8) -> Point
     }
 }
 
-pub fn next(at: Point, b: u8) -> Point
+// The table of words is lent.
+pub fn next(table: &[u8], at: Point, b: u8) -> Point
+    requires { ⌜ now table ≡ wordTable ⌝ }
     ensures { λ r. ⌜ r ≡ next at b ⌝ }
 {
     match at {
         Point::Start => expect(b, 40, Point::Letters(Word::Old, Part::OldRoute, 0)),
         Point::Open(p) => expect(b, 40, Point::Choice(p)),
         Point::Choice(p) => chosen(p, b),
-        Point::Letters(w, p, k) => spelt(w, p, k, b),
+        Point::Letters(w, p, k) => spelt(table, w, p, k, b),
         Point::Past(w, p) => past_word(w, p, b),
         Point::Digit(w, p) => first(w, p, b),
         Point::Digits(w, p, k) => more(w, p, k, b),

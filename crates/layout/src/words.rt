@@ -3,58 +3,65 @@ use crate::Word;
 ghost use mathlib.Core.Path.{_≡_};
 ghost use Prim.Native.Nat.{_<_};
 ghost use lib.ListN.{length, getD};
-ghost use Rattle.layout.specs.Words.{spelling, numberOf};
+ghost use Rattle.layout.specs.Words.{wordTable, spelling, numberOf};
 
-// Five bytes for each word, filled up with 0.
-const BYTES: [u8; 45] = [
+// Six bytes for each word: its length, and its letters filled up with 0. A reader or a writer copies the table once and lends it.
+pub const TABLE: [u8; 54] = [
+    3,
     111,
     108,
     100,
     0,
     0, // old
+    3,
     110,
     101,
     119,
     0,
     0, // new
+    3,
     106,
     111,
     98,
     0,
     0, // job
+    4,
     100,
     111,
     110,
     101,
     0, // done
+    4,
     115,
     116,
     101,
     112,
     0, // step
+    2,
     105,
     110,
     0,
     0,
     0, // in
+    3,
     111,
     117,
     116,
     0,
     0, // out
+    4,
     114,
     101,
     97,
     100,
     0, // read
+    5,
     119,
     114,
     105,
     116,
     101, // write
 ];
-
-const LENGTHS: [usize; 9] = [3, 3, 3, 4, 4, 2, 3, 4, 5];
 
 fn place(w: Word) -> usize
     ensures { λ r. ⌜ r ≡ numberOf w ⌝ }
@@ -72,18 +79,20 @@ fn place(w: Word) -> usize
     }
 }
 
-pub fn size(w: Word) -> usize
+pub fn size(table: &[u8], w: Word) -> usize
+    requires { ⌜ now table ≡ wordTable ⌝ }
     ensures { λ r. ⌜ r ≡ length (spelling w) ⌝ }
 {
     let n = place(w);
-    LENGTHS[n]
+    table[n * 6] as usize
 }
 
 // The letter of a word, from 0.
-pub fn letter(w: Word, k: usize) -> u8
+pub fn letter(table: &[u8], w: Word, k: usize) -> u8
+    requires { ⌜ now table ≡ wordTable ⌝ }
     requires { ⌜ k < 5 ⌝ }
     ensures { λ r. ⌜ r ≡ getD (spelling w) k 0 ⌝ }
 {
     let n = place(w);
-    BYTES[n * 5 + k]
+    table[n * 6 + 1 + k]
 }

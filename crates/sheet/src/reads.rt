@@ -26,12 +26,13 @@ fn line(sheet: &[u8], from: usize, start: Point) -> Ended
     requires { ⌜ from ≤ length (now sheet) ⌝ }
     ensures { λ r. ⌜ LineFrom (now (sheet .entry)) from start r ⌝ }
 {
+    let words = layout::words::TABLE;
     let mut at = start;
     let mut pen = Pen::new();
     let mut i = from;
     while i < sheet.len() {
         let b = sheet[i];
-        let to = points::next(at, b);
+        let to = points::next(&words, at, b);
         if !points::alive(to) {
             return Ended { at, to, pen, i };
         }

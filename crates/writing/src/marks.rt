@@ -20,11 +20,12 @@ pub fn put(out: &mut [u8], at: usize, b: u8) -> usize
 pub fn word(out: &mut [u8], at: usize, w: Word) -> usize
     ensures { λ r. ⌜ Emits (λ s. spelling w ++ s) (now (out .entry)) at (now (out .exit)) r ⌝ }
 {
-    let n = layout::words::size(w);
+    let words = layout::words::TABLE;
+    let n = layout::words::size(&words, w);
     let mut p = at;
     let mut k = 0;
     while k < n {
-        p = put(out, p, layout::words::letter(w, k));
+        p = put(out, p, layout::words::letter(&words, w, k));
         k += 1;
     }
     p

@@ -47,7 +47,7 @@ returns : tie.Need-returns
 returns c = search (needs, over, other, last, inner)
 
 letter-requires : tie.Need-letter-requires
-letter-requires c κs = omega (arith, c .before .size .ensures, word-short (c .before .before .args .w))
+letter-requires c κs = (search needs, omega (arith, c .before .size .ensures, word-short (c .before .before .before .args .w)))
 
 returns-2 : tie.Need-returns-2
 returns-2 c = search (needs, over, other, last, inner)
@@ -55,8 +55,8 @@ returns-2 c = search (needs, over, other, last, inner)
 add-if3 : tie.Need-add-if3
 add-if3 c = search needs
 
-add-t10 : tie.Need-add-t10
-add-t10 c = search needs
+add-t11 : tie.Need-add-t11
+add-t11 c = search needs
 
 returns-3 : tie.Need-returns-3
 returns-3 c = search (needs, over, other, last, inner)
@@ -67,4 +67,4 @@ returns-4 c = search (needs, over, other, last, inner)
 pub spelt-spec : {M : Type 1} → statement M
 spelt-spec =
     tie.close
-    (tie.spec size-requires returns letter-requires returns-2 add-if3 add-t10 returns-3 returns-4)
+    (tie.spec size-requires returns letter-requires returns-2 add-if3 add-t11 returns-3 returns-4)

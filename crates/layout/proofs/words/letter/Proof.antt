@@ -1,11 +1,8 @@
--- `layout::words::letter`: the row of the word, five bytes to a row.
-use mathlib.Core.Path.{_≡_, ap, _∙_}
-use Prim.Native.Nat.{ℕ, _+_, _*_, _<_}
+-- `layout::words::letter`: the row of the word, six bytes to a row.
+use Prim.Native.Nat.{_+_}
 use native.Mathlib.Omega.{arith}
 use borrow.Author.Needs.{needs}
-use lib.ListN.{getD}
-use Rattle.layout.specs.Words.{numberOf}
-use Rattle.layout.proofs.Letters.{bytes, letter-at, row-below}
+use Rattle.layout.proofs.Letters.{row-below, table-letter, table-room}
 use Rattle.layout.proofs.words.letter.Statement.{statement}
 use Rattle.layout.proofs.words.letter.Tie as tie
 
@@ -13,16 +10,21 @@ place-requires : tie.Need-place-requires
 place-requires c κs = search needs
 
 mul-result : tie.Need-mul-result
-mul-result c = omega (arith, c .place .ensures, row-below (c .before .args .w))
+mul-result c = omega (arith, c .place .ensures, row-below (c .before .before .args .w))
 
 add-result : tie.Need-add-result
-add-result c = omega (arith, c .place .ensures, row-below (c .before .args .w))
+add-result c = omega (arith, c .place .ensures, row-below (c .before .before .args .w))
 
-array-read-result : tie.Need-array-read-result
-array-read-result c = omega (arith, c .place .ensures, row-below (c .before .args .w))
+add-result-2 : tie.Need-add-result-2
+add-result-2 c = omega (arith, c .place .ensures, row-below (c .before .before .args .w), c .before .before .pre .1)
+
+shared-slice-read-result : tie.Need-shared-slice-read-result
+shared-slice-read-result c = omega (arith, table-room _ _ (c .before .before .before .args .w) (c .before .before .before .pre .0) (c .before .place .ensures) (1 + c .before .before .before .args .k) (omega (arith, c .before .before .before .pre .1)))
 
 returns : tie.Need-returns
-returns c = ap (λ (n : ℕ). getD bytes (n * 5 + c .before .args .k) 0) (c .place .ensures) ∙ letter-at (c .before .args .w) (c .before .args .k) (c .before .pre)
+returns c = table-letter _ _ (c .before .before .before .args .w) (c .before .before .before .pre .0) (c .before .place .ensures) (c .before .before .before .args .k) (c .before .before .before .pre .1)
 
 pub letter-spec : {M : Type 1} → statement M
-letter-spec = tie.close (tie.spec place-requires mul-result add-result array-read-result returns)
+letter-spec =
+    tie.close
+    (tie.spec place-requires mul-result add-result add-result-2 shared-slice-read-result returns)

@@ -11,10 +11,10 @@ use Rattle.sheet.proofs.reads.line.Statement.{statement}
 use Rattle.sheet.proofs.reads.line.Tie as tie
 
 abbrev Inv-loop : tie.InvT-loop
-Inv-loop sheet from at₀ pen₀ i₀ at pen i = (from ≤ i) × ((i ≤ length sheet) × Onward sheet at₀ noPen from at pen i)
+Inv-loop sheet from words at₀ pen₀ i₀ at pen i = (from ≤ i) × ((i ≤ length sheet) × Onward sheet at₀ noPen from at pen i)
 
 abbrev μ-loop : tie.MeasureT-loop
-μ-loop sheet from at₀ pen₀ i₀ at pen i = length sheet - i
+μ-loop sheet from words at₀ pen₀ i₀ at pen i = length sheet - i
 
 new-requires : tie.Need-new-requires Inv-loop μ-loop
 new-requires c κs = search needs
@@ -24,6 +24,9 @@ loop-holds c = (search needs, (search needs, search (needs, starts)))
 
 shared-slice-read-b : tie.Need-shared-slice-read-b Inv-loop μ-loop
 shared-slice-read-b c = search needs
+
+slice-aggregate-next : tie.Need-slice-aggregate-next Inv-loop μ-loop
+slice-aggregate-next c = search needs
 
 next-requires : tie.Need-next-requires Inv-loop μ-loop
 next-requires c κs = search needs
@@ -91,12 +94,12 @@ loop-less-4 c = search needs
 loop-again-4 : tie.Need-loop-again-4 Inv-loop μ-loop
 loop-again-4 c =
     let told = c .before .before .before .before .before .before in
-    let at = told .before .before .before .before .before .before in
+    let at = told .before .before .before .before .before .before .before in
     let s = at .before .before .before .args in (
       search needs,
       (
         search needs,
-        on-stored (s .sheet .now) (s .start) (s .from) (at .loop .at) (at .loop .pen) (at .loop .i) (at .loop .inv .1 .1) (told .before .before .before .before .before .loop-test .taken) _ (told .before .before .before .next .ensures) _ (told .before .before .alive .ensures) (told .before .if1 .left) _ _ _ _ (told .act .ensures) (search needs) (c .before .before .digit .ensures) (c .before .if2 .left) (c .stored .ensures),
+        on-stored (s .sheet .now) (s .start) (s .from) (at .loop .at) (at .loop .pen) (at .loop .i) (at .loop .inv .1 .1) (told .before .before .before .before .before .before .loop-test .taken) _ (told .before .before .before .next .ensures) _ (told .before .before .alive .ensures) (told .before .if1 .left) _ _ _ _ (told .act .ensures) (search needs) (c .before .before .digit .ensures) (c .before .if2 .left) (c .stored .ensures),
       ),
     )
 
@@ -118,6 +121,7 @@ line-spec =
     new-requires
     loop-holds
     shared-slice-read-b
+    slice-aggregate-next
     next-requires
     alive-requires
     returns
