@@ -16,7 +16,8 @@ use Rattle.route.specs.declared.Step.{Step}
 use Rattle.job.specs.Job.{Job, jobLine}
 use Rattle.job.specs.Run.{ran}
 use Rattle.slice.specs.Order.{inTurn}
-use Rattle.fit.specs.Straight.{isSome, sameStep, fireAll, stepsOn, runsStraight}
+use Rattle.search.specs.Search.{isSome}
+use Rattle.fit.specs.Straight.{sameStep, fireAll, stepsOn, runsStraight}
 use Rattle.fit.specs.Fit.{keptOf, KeptFit, FitAt, Fit}
 use Rattle.fit.specs.KeptRows.{keptRows}
 use Rattle.fit.specs.Try.{tryStopped, tryAccepted, sameList, listRow, tryFrom, tryList, tryRows, tried}

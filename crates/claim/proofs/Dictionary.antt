@@ -4,7 +4,7 @@ use mathlib.Core.List.{List, _∷_, map}
 use Prim.Native.Nat.{ℕ, suc, _<_}
 use native.Mathlib.Omega.{arith}
 use Rattle.slice.specs.Order.{times}
-use Rattle.fit.specs.Dictionary.{NotAfter, beginning, smaller, same}
+use Rattle.search.specs.Dictionary.{NotAfter, beginning, smaller, same}
 use Rattle.claim.proofs.Entries.{once}
 
 pub map-order : (f : ℕ → ℕ) {a b : List ℕ} → ((x y : ℕ) → x < y → 0 < times y b → f x < f y) → NotAfter a b → NotAfter (map f a) (map f b)

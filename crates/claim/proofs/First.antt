@@ -14,12 +14,13 @@ use Rattle.mask.proofs.Laws.{has-zero}
 use Rattle.route.specs.Firing.{start}
 use Rattle.route.specs.declared.Step.{Step}
 use Rattle.slice.specs.Order.{times, EachOnce}
-use Rattle.fit.specs.Straight.{isSome, sameStep, fireAll, stepsOn}
+use Rattle.search.specs.Search.{isSome, search}
+use Rattle.fit.specs.Straight.{sameStep, fireAll, stepsOn}
 use Rattle.fit.specs.Fit.{keptOf, KeptFit}
-use Rattle.fit.specs.Dictionary.{NotAfter}
-use Rattle.fit.specs.Search.{search, placeNext}
+use Rattle.search.specs.Dictionary.{NotAfter}
+use Rattle.fit.specs.Placing.{placeNext}
 use Rattle.fit.specs.Judge.{firstOf, firstFit}
-use Rattle.fit.proofs.Finds.{Allowed, search-sound, search-complete, search-least}
+use Rattle.search.proofs.Finds.{Allowed, search-sound, search-complete, search-least}
 use Rattle.claim.proofs.Entries.{entry-member, member-entry, each-all}
 use Rattle.claim.proofs.Count.{one, count-none, count-full}
 use Rattle.claim.proofs.Fresh.{marks, fresh, fresh-times, fresh-count, once-count}

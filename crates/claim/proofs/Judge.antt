@@ -21,7 +21,7 @@ use Rattle.job.specs.Run.{ran}
 use Rattle.slice.specs.Order.{inTurn}
 use Rattle.fit.specs.Straight.{fireAll, stepsOn, runsStraight}
 use Rattle.fit.specs.Fit.{keptOf, FitAt}
-use Rattle.fit.specs.Dictionary.{NotAfter}
+use Rattle.search.specs.Dictionary.{NotAfter}
 use Rattle.fit.specs.KeptRows.{keptRows}
 use Rattle.fit.specs.Judge.{padded, judgeStopped, answer, firstFit, judgeFound, judgeRows, judged}
 use Rattle.fit.specs.declared.Judged.{Judged}

@@ -19,7 +19,8 @@ use Rattle.route.proofs.RowList.{row-passes, rows-end}
 use Rattle.slice.specs.Slice.{variables}
 use Rattle.slice.specs.Order.{times, EachOnce}
 use Rattle.slice.proofs.Laws.{kept-below}
-use Rattle.fit.specs.Straight.{isSome, sameData, sameStep, runsStraight}
+use Rattle.search.specs.Search.{isSome}
+use Rattle.fit.specs.Straight.{sameData, sameStep, runsStraight}
 use Rattle.fit.specs.Fit.{keptOf, FitAt}
 use Rattle.fit.specs.KeptRows.{keptRow, keptLines, keptRows}
 use Rattle.claim.proofs.Pass.{passes, row-holds, rows-hold, row-most, rows-most}

@@ -20,8 +20,9 @@ use Rattle.route.specs.declared.Step.{Step}
 use Rattle.slice.specs.Precedence.{comesAfter}
 use Rattle.slice.specs.Order.{times, noneOf, inOrder}
 use Rattle.fit.specs.Straight.{fireStep, fireAll, stepsOn}
-use Rattle.fit.specs.Search.{before, fireNext, placeNext}
-use Rattle.fit.proofs.Finds.{Allowed, done, then}
+use Rattle.search.specs.Search.{fireNext}
+use Rattle.fit.specs.Placing.{before, placeNext}
+use Rattle.search.proofs.Finds.{Allowed, done, then}
 use Rattle.claim.proofs.Entries.{once, each-entry, none-each, each-none, head-order}
 use Rattle.claim.proofs.Own.{not-after}
 use Rattle.claim.proofs.Count.{one, one-some, one-same, has-more}

@@ -7,7 +7,7 @@ use lib.ListN.{length}
 use Rattle.job.specs.Job.{Job}
 use Rattle.slice.specs.Order.{inTurn}
 use Rattle.fit.specs.Straight.{runsStraight}
-use Rattle.fit.specs.Dictionary.{NotAfter}
+use Rattle.search.specs.Dictionary.{NotAfter}
 use Rattle.claim.specs.Demand3.{stepsDone, FitFor}
 
 -- "The engine gives the straight list if there is one; else, of all fit lists, the first in dictionary order of occurrence numbers."

@@ -9,10 +9,11 @@ use Rattle.job.specs.Run.{runStep, runFrom, ran}
 use Rattle.slice.specs.Order.{inTurn}
 use Rattle.slice.specs.Precedence.{clash, comesAfter, row}
 use Rattle.slice.specs.Slice.{performed, variables, sweepStep, sweep, keptMask}
-use Rattle.fit.specs.Straight.{isSome, sameData, sameStep, allOf, fireStep, fireAll, stepsOn, runsStraight}
+use Rattle.search.specs.Search.{isSome, orElse, onwards, tryEach, search, fireNext}
+use Rattle.fit.specs.Straight.{sameData, sameStep, allOf, fireStep, fireAll, stepsOn, runsStraight}
 use Rattle.fit.specs.Fit.{keptOf}
 use Rattle.fit.specs.KeptRows.{keptRow, keptLines, keptRows}
-use Rattle.fit.specs.Search.{orElse, onwards, tryEach, search, before, fireNext, placeNext}
+use Rattle.fit.specs.Placing.{before, placeNext}
 use Rattle.fit.specs.Judge.{padded, lastWriter, afterOf, writerOf, answer, firstOf, firstFit, judgeFound, judgeRows, judged}
 use Rattle.layout.specs.Words.{spelling}
 use Rattle.layout.specs.Points.{digit, alive, expect, chosen, spelt, inList, pastWord, first as firstDigit, ended, more as moreDigits, closed, next}

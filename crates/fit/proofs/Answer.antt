@@ -5,11 +5,11 @@ use mathlib.Core.Option.{none, some}
 use Prim.Native.Nat.{ℕ, _^_, _/_, _%_, _<_}
 use native.Mathlib.Omega.{arith}
 use lib.ListN.{length, getD}
-use Rattle.fit.specs.Candidates.{Candidates, nextOf, firstOrder, sequence}
-use Rattle.fit.specs.declared.Sequence.{Sequence}
-use Rattle.fit.specs.declared.Sequence.the-variants.{Of, Nothing}
-use Rattle.fit.proofs.Pack.{pack-item, sequence-of, sequence-nothing}
-use Rattle.fit.proofs.Found.{search-length, search-below, below-more, below-at}
+use Rattle.search.specs.Candidates.{Candidates, nextOf, firstOrder, sequence}
+use Rattle.search.specs.declared.Sequence.{Sequence}
+use Rattle.search.specs.declared.Sequence.the-variants.{Of, Nothing}
+use Rattle.search.proofs.Pack.{pack-item, sequence-of, sequence-nothing}
+use Rattle.search.proofs.Found.{search-length, search-below, below-more, below-at}
 
 pub record Unpacked (ins outs before : List ℕ) (m x : ℕ) : Type 0 where
   pub order : List ℕ

@@ -21,7 +21,7 @@ use Rattle.fit.specs.Fit.{keptOf}
 use Rattle.fit.specs.KeptRows.{keptRows}
 use Rattle.fit.specs.Case.{straightOf}
 use Rattle.fit.specs.Judge.{judgeStopped, answer, firstFit, judgeFound, judgeRows}
-use Rattle.fit.specs.Told.{CutFits, KeptOf, Ready}
+use Rattle.fit.specs.Told.{CutFits, KeptOf, ToJudge}
 use Rattle.fit.specs.declared.Case.{Case}
 use Rattle.fit.specs.declared.Fires.{Fires}
 use Rattle.fit.specs.declared.Fires.the-variants.{To, Stuck}
@@ -72,7 +72,7 @@ module _ (line places : ℕ) (new l : List Step) where
 
 -- ---- a job that no row to 12 refuses
 
-module _ {c : Case} {vars line : ℕ} (k : Ready c vars line) where
+module _ {c : Case} {vars line : ℕ} (k : ToJudge c vars line) where
   abbrev done : List Step
   done = performed (k .job .old) (k .job .done)
 

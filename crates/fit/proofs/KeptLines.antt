@@ -20,7 +20,8 @@ use Rattle.route.specs.declared.Outcome.{Outcome}
 use Rattle.route.proofs.RowList.{row-passes, row-refuses, row-passed, head-passes, head-passed, head-refuses, rows-end}
 use Rattle.slice.specs.Slice.{variables}
 use Rattle.slice.proofs.Laws.{kept-below}
-use Rattle.fit.specs.Straight.{isSome, sameStep, fireAll, runsStraight}
+use Rattle.search.specs.Search.{isSome}
+use Rattle.fit.specs.Straight.{sameStep, fireAll, runsStraight}
 use Rattle.fit.specs.Fit.{keptOf}
 use Rattle.fit.specs.KeptRows.{keptRow, keptLines, keptRows}
 use Rattle.fit.specs.Case.{MetOf, straightOf}

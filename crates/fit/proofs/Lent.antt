@@ -4,7 +4,7 @@ use Prim.Native.Nat.{_≤_}
 use native.Mathlib.Omega.{arith}
 use lib.ListN.{length, take}
 use lib.Seq.{length-take-le}
-use Rattle.fit.specs.Candidates.{Candidates}
+use Rattle.search.specs.Candidates.{Candidates}
 use Rattle.fit.specs.declared.Picked.{Picked}
 
 -- the columns have room for 16

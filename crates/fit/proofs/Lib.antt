@@ -1,14 +1,4 @@
--- What the search finds, and that the code finds the same.
-pub mod Finds
-pub mod Clear
-pub mod Walk
-pub mod Table
-pub mod Next
-pub mod Rest
-pub mod Pack
-pub mod Found
-pub mod Tests
-pub mod Descent
+-- That the code gives what the specs say.
 pub mod Same
 pub mod Answer
 pub mod Occurrence
@@ -29,7 +19,7 @@ pub mod Padded
 pub mod Writers
 pub mod Members
 pub mod Located
-pub mod FiresTo
+pub mod MovesTo
 pub mod Shown
 pub mod Passed
 pub mod Lent

@@ -18,7 +18,7 @@ use Rattle.slice.specs.declared.Cut.{Cut}
 use Rattle.slice.proofs.Filled.{turn-at}
 use Rattle.slice.proofs.Laws.{kept-below, row-exact}
 use Rattle.fit.specs.Straight.{sameData, sameStep}
-use Rattle.fit.specs.Search.{before}
+use Rattle.fit.specs.Placing.{before}
 use Rattle.fit.specs.Case.{fieldOf}
 use Rattle.fit.specs.Told.{PickedOf, KeptOf}
 use Rattle.fit.specs.declared.Met.{Met}

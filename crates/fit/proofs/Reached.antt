@@ -18,7 +18,8 @@ use Rattle.route.specs.declared.Step.{Step}
 use Rattle.slice.specs.Uses.{bare, UsesOf}
 use Rattle.slice.specs.declared.Uses.{Uses}
 use Rattle.slice.proofs.Filled.{Filled, filled-none, filled-more}
-use Rattle.fit.specs.Straight.{isSome, sameData, sameStep}
+use Rattle.search.specs.Search.{isSome}
+use Rattle.fit.specs.Straight.{sameData, sameStep}
 use Rattle.fit.specs.Case.{fieldOf, MetOf}
 use Rattle.fit.specs.declared.Met.{Met}
 use Rattle.fit.proofs.Occurrence.{name-at, reads-at, writes-at}

@@ -17,7 +17,8 @@ use Rattle.mask.proofs.Truth.{split, both}
 use Rattle.route.specs.Steps.{blank}
 use Rattle.route.specs.Firing.{canFire, fire, start}
 use Rattle.route.specs.declared.Step.{Step}
-use Rattle.fit.specs.Straight.{isSome, sameStep, allOf, fireStep, fireAll, runsStraight}
+use Rattle.search.specs.Search.{isSome}
+use Rattle.fit.specs.Straight.{sameStep, allOf, fireStep, fireAll, runsStraight}
 use Rattle.fit.specs.Case.{MetOf, straightOf}
 use Rattle.fit.specs.Ready.{firesTo}
 use Rattle.fit.specs.declared.Met.{Met}

@@ -12,9 +12,10 @@ use Rattle.route.specs.Steps.{blank, lookup}
 use Rattle.route.specs.Firing.{canFire, fire}
 use Rattle.route.specs.declared.Step.{Step}
 use Rattle.slice.specs.Order.{inTurn}
-use Rattle.fit.specs.Search.{orElse, onwards, tryEach, search, before, fireNext, placeNext}
-use Rattle.fit.specs.Candidates.{stepAt, nextOf, firstOrder}
-use Rattle.fit.proofs.Finds.{search-same}
+use Rattle.search.specs.Search.{orElse, onwards, tryEach, search, fireNext}
+use Rattle.fit.specs.Placing.{before, placeNext}
+use Rattle.search.specs.Candidates.{stepAt, nextOf, firstOrder}
+use Rattle.search.proofs.Finds.{search-same}
 
 -- firing looks at a step's places alone
 pub fire-same : (m : ℕ) (s t : Step) → s .ins ≡ t .ins → s .outs ≡ t .outs → fireNext m (some s) ≡ fireNext m (some t)

@@ -14,13 +14,13 @@ use Rattle.job.specs.Run.{ran}
 use Rattle.slice.specs.Slice.{performed, variables}
 use Rattle.fit.specs.Straight.{runsStraight}
 use Rattle.fit.specs.KeptRows.{keptRows}
-use Rattle.fit.specs.Candidates.{cleared}
+use Rattle.search.specs.Candidates.{cleared}
 use Rattle.fit.specs.Case.{rowsTo12, CaseOf}
 use Rattle.fit.specs.Judge.{judgeStopped, judgeRows, judged, searched, workAfter}
-use Rattle.fit.specs.Told.{Ready}
+use Rattle.fit.specs.Told.{ToJudge}
 use Rattle.fit.specs.declared.Case.{Case}
 use Rattle.fit.proofs.Choice.{cond-yes, cond-no}
-use Rattle.fit.proofs.Clear.{cleared-is}
+use Rattle.search.proofs.Clear.{cleared-is}
 
 rows-refused : (line places : ℕ) (new l : List Step) → (keptRows line places new l .number ≡ 0 → ⊥) → judgeStopped (keptRows line places new l .number) (keptRows line places new l .second) ≡ judgeRows line places new l
 unfolding judgeRows
@@ -77,7 +77,7 @@ module _ (j : Job) where
         go true p e = (eqb-true (ran j .number) 0 p, e)
         go false p e = absurd (eqb-false (ran j .number) 0 p e)
 
-    abbrev pub ready : (vars line : ℕ) → vars ≡ variables (j .new) → line ≡ jobLine j → Ready c vars line
+    abbrev pub ready : (vars line : ℕ) → vars ≡ variables (j .new) → line ≡ jobLine j → ToJudge c vars line
     ready vars line v l = record { job = j; case-is = is; runs = rows-to-12 .0; passes = rows-to-12 .1; vars-are = v; line-is = l }
 
     pub judged-passed : (room line : ℕ) → 8192 ≤ room → line ≡ jobLine j → judgeRows line (j .newPlaces) (j .new) (performed (j .old) (j .done)) ≡ judged j room

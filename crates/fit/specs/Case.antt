@@ -16,7 +16,8 @@ use Rattle.job.specs.Job.{Job, jobLine}
 use Rattle.job.specs.Run.{ran}
 use Rattle.slice.specs.Slice.{performed, variables}
 use Rattle.slice.specs.Uses.{CutOf}
-use Rattle.fit.specs.Straight.{isSome, sameStep, fireAll, runsStraight}
+use Rattle.search.specs.Search.{isSome}
+use Rattle.fit.specs.Straight.{sameStep, fireAll, runsStraight}
 use Rattle.fit.specs.KeptRows.{keptRows}
 use Rattle.fit.specs.declared.Met.{Met}
 use Rattle.fit.specs.declared.Case.{Case}

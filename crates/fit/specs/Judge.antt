@@ -17,7 +17,8 @@ use Rattle.slice.specs.Order.{inTurn}
 use Rattle.fit.specs.Straight.{fireAll, stepsOn, runsStraight}
 use Rattle.fit.specs.Fit.{keptOf}
 use Rattle.fit.specs.KeptRows.{keptRows}
-use Rattle.fit.specs.Search.{search, placeNext}
+use Rattle.search.specs.Search.{search}
+use Rattle.fit.specs.Placing.{placeNext}
 use Rattle.fit.specs.declared.Judged.{Judged}
 
 -- n entries: those of a list, and 0 in the unused ones

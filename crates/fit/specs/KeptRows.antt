@@ -9,7 +9,8 @@ use Rattle.route.specs.Steps.{blank, lookup}
 use Rattle.route.specs.Rows.{unless, first}
 use Rattle.route.specs.declared.Step.{Step}
 use Rattle.route.specs.declared.Outcome.{Outcome}
-use Rattle.fit.specs.Straight.{isSome, sameStep, runsStraight}
+use Rattle.search.specs.Search.{isSome}
+use Rattle.fit.specs.Straight.{sameStep, runsStraight}
 use Rattle.fit.specs.Fit.{keptOf}
 
 -- 11: not in the new route; 12: reads or writes differ; at its done line

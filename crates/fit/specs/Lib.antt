@@ -3,10 +3,7 @@ pub mod Straight
 pub mod Fit
 pub mod KeptRows
 pub mod Try
-pub mod Dictionary
-pub mod Search
-pub mod Candidates
-pub mod Dead
+pub mod Placing
 pub mod Judge
 pub mod Case
 pub mod Ready

@@ -10,10 +10,7 @@ use Rattle.route.specs.Steps.{blank, lookup}
 use Rattle.route.specs.Firing.{canFire, fire, start}
 use Rattle.route.specs.declared.Step.{Step}
 use Rattle.slice.specs.Order.{inTurn}
-
-unfoldable pub isSome : {A : Type 0} → Option A → Bool
-isSome none = false
-isSome (some a) = true
+use Rattle.search.specs.Search.{isSome}
 
 unfoldable pub sameData : Step → Option Step → Bool
 sameData s none = false

@@ -15,7 +15,7 @@ use Rattle.slice.specs.Uses.{CutOf}
 use Rattle.slice.specs.declared.Cut.{Cut}
 use Rattle.fit.specs.Straight.{sameStep}
 use Rattle.fit.specs.KeptRows.{keptRows}
-use Rattle.fit.specs.Candidates.{stepAt}
+use Rattle.search.specs.Candidates.{stepAt}
 use Rattle.fit.specs.Case.{MetOf, CaseOf}
 use Rattle.fit.specs.declared.Case.{Case}
 use Rattle.fit.specs.declared.Met.{Met}
@@ -36,9 +36,9 @@ pub record PickedOf (kept : ℕ) (met : Met) (table : List ℕ) (p : Picked) : T
   pub before-are : (k : ℕ) → k < p .len → getD (p .before) k 0 ≡ collect (λ (j : ℕ). has (getD table (getD (p .at) k 0) 0) (getD (p .at) j 0)) (p .len)
 
 -- the marking after candidates have fired in turn, whether they can or not
-unfoldable pub firesTo : List ℕ → List ℕ → ℕ → List ℕ → ℕ
-firesTo ins outs m [] = m
-firesTo ins outs m (k ∷ o) = firesTo ins outs (fire m (stepAt ins outs k)) o
+unfoldable pub movesTo : List ℕ → List ℕ → ℕ → List ℕ → ℕ
+movesTo ins outs m [] = m
+movesTo ins outs m (k ∷ o) = movesTo ins outs (fire m (stepAt ins outs k)) o
 
 -- an order of candidates in one number, item by item
 pub record ItemsOf (order len : ℕ) (o : List ℕ) : Type 0 where
@@ -59,7 +59,7 @@ pub record KeptOf (places : ℕ) (new l : List Step) (cut : Cut) (met : Met) (va
   pub known : (k : ℕ) → k < length (members 64 (cut .kept)) → sameStep new (getD l (getD (members 64 (cut .kept)) k 0) blank) ≡ true
 
 -- a job whose case this is, that no row to 12 refuses
-pub record Ready (c : Case) (vars line : ℕ) : Type 0 where
+pub record ToJudge (c : Case) (vars line : ℕ) : Type 0 where
   pub job : Job
   pub case-is : CaseOf job c
   pub runs : ran job .number ≡ 0

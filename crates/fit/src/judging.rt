@@ -4,7 +4,6 @@ use crate::Fires;
 use crate::Judged;
 use crate::Met;
 use crate::Picked;
-use crate::Sequence;
 use crate::answering::answered;
 use crate::answering::stop;
 use crate::answering::straight_order;
@@ -12,8 +11,9 @@ use crate::candidates::fired;
 use crate::candidates::numbers;
 use crate::candidates::pick;
 use crate::preparing::prepare;
-use crate::search::first_order;
 use route::Route;
+use search::Sequence;
+use search::searching::first_order;
 use slice::Cut;
 use slice::using::variables_of;
 ghost use mathlib.Core.Path.{_≡_};
@@ -29,10 +29,10 @@ ghost use Rattle.slice.specs.Slice.{performed, variables};
 ghost use Rattle.slice.specs.Order.{inTurn};
 ghost use Rattle.slice.specs.Uses.{CutOf};
 ghost use Rattle.fit.specs.Straight.{fireAll, stepsOn, runsStraight};
-ghost use Rattle.fit.specs.Candidates.{firstOrder, sequence, cleared};
+ghost use Rattle.search.specs.Candidates.{firstOrder, sequence, cleared};
 ghost use Rattle.job.specs.Job.{jobOf};
 ghost use Rattle.fit.specs.Judge.{answer, firstFit, judgeFound, judgeRows, judged, workAfter};
-ghost use Rattle.fit.specs.Told.{firesTo, ItemsOf, CutFits, KeptOf, Ready};
+ghost use Rattle.fit.specs.Told.{movesTo, ItemsOf, CutFits, KeptOf, ToJudge};
 
 // Lends the candidates to the search.
 fn search_kept(p: Picked, m: u64, work: &mut [u8]) -> Sequence
@@ -65,7 +65,7 @@ fn judge_found(cut: Cut, vars: u32, p: Picked, order: u64, m: u64) -> Judged
     requires { ⌜ CutFits cut ⌝ }
     requires { ⌜ p .len ≤ 16 ⌝ }
     requires { ⌜ ((k : ℕ) → getD (p .at) k 0 < 64) ⌝ }
-    ensures { λ r. ⌜ ((places : ℕ) (new l : List Step) (o : List ℕ) → CutOf l (variables new) cut → vars ≡ variables new → ItemsOf order (p .len) o → firesTo (p .ins) (p .outs) m o ≡ Option·getD (fireAll new (start places new) (stepsOn l (map (λ (k : ℕ). getD (p .at) k 0) o))) 0 → r ≡ answer places new l (cut .kept) (map (λ (k : ℕ). getD (p .at) k 0) o)) ⌝ }
+    ensures { λ r. ⌜ ((places : ℕ) (new l : List Step) (o : List ℕ) → CutOf l (variables new) cut → vars ≡ variables new → ItemsOf order (p .len) o → movesTo (p .ins) (p .outs) m o ≡ Option·getD (fireAll new (start places new) (stepsOn l (map (λ (k : ℕ). getD (p .at) k 0) o))) 0 → r ≡ answer places new l (cut .kept) (map (λ (k : ℕ). getD (p .at) k 0) o)) ⌝ }
 {
     let len = p.len;
     let at = p.at;
@@ -95,10 +95,10 @@ fn judge_kept(cut: Cut, met: Met, vars: u32, m: u64, line: u64, work: &mut [u8])
 
 // What judge answers in a job that no row to 12 refuses; `line` is that of `(job)`.
 pub fn judge_case(c: Case, vars: u32, line: u64, work: &mut [u8]) -> Judged
-    requires { ⌜ Ready c vars line ⌝ }
+    requires { ⌜ ToJudge c vars line ⌝ }
     requires { ⌜ 8192 ≤ length (now work) ⌝ }
-    ensures { λ r. ⌜ ((k : Ready c vars line) → r ≡ judgeRows line (k .job .newPlaces) (k .job .new) (performed (k .job .old) (k .job .done))) ⌝ }
-    ensures { λ _. ⌜ ((k : Ready c vars line) → now (work .exit) ≡ cond (runsStraight (k .job .newPlaces) (k .job .new) (performed (k .job .old) (k .job .done))) (now (work .entry)) (cleared 8192 (now (work .entry)))) ⌝ }
+    ensures { λ r. ⌜ ((k : ToJudge c vars line) → r ≡ judgeRows line (k .job .newPlaces) (k .job .new) (performed (k .job .old) (k .job .done))) ⌝ }
+    ensures { λ _. ⌜ ((k : ToJudge c vars line) → now (work .exit) ≡ cond (runsStraight (k .job .newPlaces) (k .job .new) (performed (k .job .old) (k .job .done))) (now (work .entry)) (cleared 8192 (now (work .entry)))) ⌝ }
 {
     let straight = c.straight;
     let cut = c.cut;

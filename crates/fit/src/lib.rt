@@ -1,17 +1,15 @@
-// Straight replay, try, the search and judge.
+// Straight replay, try and judge.
 use route::Outcome;
 use slice::Cut;
 
 pub mod answering;
 pub mod candidates;
-pub mod dead;
 pub mod entries;
 pub mod judging;
 pub mod limits;
 pub mod meeting;
 pub mod preparing;
 pub mod replaying;
-pub mod search;
 pub mod trying;
 
 // How the new route meets each occurrence: whether it has the step, whether that reads and writes the same, and the step's places.
@@ -55,12 +53,6 @@ pub struct Judged {
     pub marking: u64,
     pub after: [u64; 64],
     pub writers: [u8; 32],
-}
-
-// An order of candidates, 4 bits an item, the first item lowest.
-pub enum Sequence {
-    Of(u64),
-    Nothing,
 }
 
 // The positions of at most 16 occurrences, rising; entries past `len` are 0.
