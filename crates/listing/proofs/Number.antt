@@ -37,6 +37,9 @@ number-one {n} h w = same (sym (one-digit n h)) w
 pub number-more : {n at m k : ℕ} {o p q : List ℕ} → 10 ≤ n → n < 2 ^ 64 → Wrote (decimal (n / 10)) o at p m → Wrote ((48 + n % 10) ∷ []) p m q k → Wrote (decimal n) o at q k
 number-more {n} h b w x = same (sym (more-digits n h b)) (then w x)
 
+pub number-pair : {n at m k : ℕ} {o p q : List ℕ} → (10 ≤ n) × (n < 100) → Wrote ((48 + n / 10) ∷ []) o at p m → Wrote ((48 + n % 10) ∷ []) p m q k → Wrote (decimal n) o at q k
+number-pair {n} (low, high) w x = number-more low (omega arith) (number-one (omega arith) w) x
+
 pub entry-wrote : (n : ℕ) {at m k : ℕ} {o p q : List ℕ} → Wrote (32 ∷ []) o at p m → Wrote (decimal n) p m q k → Wrote (entry n) o at q k
 unfolding entry
 entry-wrote n w x = then w x

@@ -1,5 +1,6 @@
 // The emitters: each writes its text from `at` on where the slice has room, and returns the place after it. Only `put` touches the slice.
 ghost use mathlib.Core.List.{[], _∷_, _++_};
+ghost use Prim.Native.Nat.{_≤_, _<_};
 ghost use Rattle.listing.specs.Listing.{decimal, entry as entryText};
 ghost use Rattle.listing.specs.Emit.{Wrote};
 
@@ -25,14 +26,37 @@ pub fn word(out: &mut [u8], at: usize, w: &[u8]) -> usize
     end
 }
 
+// Any number, digit by digit.
+fn digits(out: &mut [u8], at: usize, n: u64) -> usize
+    ensures { λ r. ⌜ Wrote (decimal n) (now (out .entry)) at (now (out .exit)) r ⌝ }
+{
+    if n < 10 {
+        return put(out, at, 48 + n as u8);
+    }
+    let last = digits(out, at, n / 10);
+    put(out, last, 48 + (n % 10) as u8)
+}
+
+// Two digits.
+fn pair(out: &mut [u8], at: usize, n: u64) -> usize
+    requires { ⌜ (10 ≤ n) × (n < 100) ⌝ }
+    ensures { λ r. ⌜ Wrote (decimal n) (now (out .entry)) at (now (out .exit)) r ⌝ }
+{
+    let last = put(out, at, 48 + (n / 10) as u8);
+    put(out, last, 48 + (n % 10) as u8)
+}
+
+// Most numbers have one or two digits, and then `digits` is not called.
 fn number(out: &mut [u8], at: usize, n: u64) -> usize
     ensures { λ r. ⌜ Wrote (decimal n) (now (out .entry)) at (now (out .exit)) r ⌝ }
 {
     if n < 10 {
         return put(out, at, 48 + n as u8);
     }
-    let last = number(out, at, n / 10);
-    put(out, last, 48 + (n % 10) as u8)
+    if n < 100 {
+        return pair(out, at, n);
+    }
+    digits(out, at, n)
 }
 
 // One space and a number.
