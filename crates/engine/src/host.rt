@@ -1,18 +1,21 @@
 // Try and print as C functions: an answer's number is returned, its other numbers are stored, on every path.
 use fit::Tried;
-use fit::trying::try_order;
+use fit::trying::try_checked;
 use listing::print::print;
 use sheet::Sheet;
 use sheet::reads::read;
 ghost use mathlib.Core.Path.{_≡_};
 ghost use Prim.Native.Nat.{_≤_};
 ghost use lib.ListN.{length};
+ghost use Rattle.job.specs.Lines.{LinesPass};
+ghost use Rattle.sheet.specs.Facts.{jobRead};
 ghost use Rattle.listing.specs.Print.{printed, outPrinted, workPrinted};
 ghost use Rattle.engine.specs.SheetTry.{triedFacts, triedSheet};
 
-// An order tried on a sheet's facts; a refused sheet's number and place stand for it.
+// An order tried on a sheet's facts, whose lines reading has checked; a refused sheet's number and place stand for it.
 fn try_facts(s: Sheet, order: &[u8]) -> Tried
     requires { ⌜ (s .«done_len» ≤ 64) × (length (s .done) ≡ 64) ⌝ }
+    requires { ⌜ (s .number ≡ 0 → LinesPass (jobRead s)) ⌝ }
     ensures { λ r. ⌜ r ≡ triedFacts s (now (order .entry)) ⌝ }
 {
     if s.number != 0 {
@@ -23,7 +26,7 @@ fn try_facts(s: Sheet, order: &[u8]) -> Tried
         };
     }
     let done = s.done;
-    try_order(s.old, s.new, &done[..s.done_len], order)
+    try_checked(s.old, s.new, &done[..s.done_len], order)
 }
 
 #[no_mangle]

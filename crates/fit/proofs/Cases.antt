@@ -4,12 +4,14 @@ use mathlib.Core.Bool.{Bool, true, false, cond}
 use mathlib.Core.List.{List}
 use lib.Dec.{eqb}
 use borrow.Author.Tests.{eq-eqb, ne-eqb, eqb-true}
-use Rattle.route.specs.Rows.{refuse}
+use Rattle.route.specs.Rows.{refuse, first}
 use Rattle.route.specs.declared.Step.{Step}
 use Rattle.route.specs.declared.Outcome.{Outcome}
 use Rattle.job.specs.Job.{Job, jobLine}
-use Rattle.job.specs.Run.{ran}
+use Rattle.job.specs.Lines.{lineRows}
+use Rattle.job.specs.Run.{stopped, ran}
 use Rattle.job.specs.declared.Ran.{Ran}
+use Rattle.job.proofs.RunLine.{ran-refused, checked-lines}
 use Rattle.slice.specs.Slice.{performed}
 use Rattle.fit.specs.KeptRows.{keptRows}
 use Rattle.fit.specs.Case.{rowsTo12, CaseOf}
@@ -28,6 +30,12 @@ module _ (j : Job) where
   picked : (t : Bool) → eqb (ran j .number) 0 ≡ t → cond t jobRows (refuse (ran j .number) (ran j .second)) ≡ rowsTo12 j
   unfolding rowsTo12
   picked t e = ap (λ (x : Bool). cond x jobRows (refuse (ran j .number) (ran j .second))) (sym e)
+
+  -- a line is refused
+  pub lines-refused : (o : Outcome) → o ≡ first (lineRows j) → eqb (o .number) 0 ≡ false → o ≡ rowsTo12 j
+  lines-refused o is e =
+      let stops : stopped (o .number) (o .second) ≡ ran j = ran-refused j o (checked-lines j o is e) e in
+      ap (λ (x : Ran). refuse (x .number) (x .second)) stops ∙ picked false (ap (λ (x : Ran). eqb (x .number) 0) (sym stops) ∙ e)
 
   pub case-refused : (r : Ran) (c : Case) → r ≡ ran j → (r .number ≡ 0 → ⊥) → c .outcome ≡ refuse (r .number) (r .second) → CaseOf j c
   case-refused r c is off to =

@@ -17,7 +17,7 @@ use Rattle.slice.specs.Order.{inTurn}
 use Rattle.fit.specs.Straight.{fireAll, runsStraight}
 use Rattle.fit.specs.Fit.{keptOf}
 use Rattle.fit.specs.Try.{tryStopped, tryAccepted, sameList, listRow, tryFrom, tryList, tryRows, tried}
-use Rattle.fit.specs.Case.{straightOf, rowsTo12, CaseOf}
+use Rattle.fit.specs.Case.{straightOf, rowsTo12}
 use Rattle.fit.specs.Ready.{CaseAt, Ready, byRows}
 use Rattle.fit.specs.declared.Case.{Case}
 use Rattle.fit.specs.declared.Tried.{Tried}
@@ -88,7 +88,7 @@ case-ready line places new l c short a passes =
 
 -- ---- the operation
 
-module _ (j : Job) (o : List ℕ) (c : Case) (is : CaseOf j c) where
+module _ (j : Job) (o : List ℕ) (w : Outcome) (is : w ≡ rowsTo12 j) where
   abbrev list : Tried
   list = tryList (j .newPlaces) (j .new) (doneSteps j) o
 
@@ -101,14 +101,14 @@ module _ (j : Job) (o : List ℕ) (c : Case) (is : CaseOf j c) where
       go true e = refl
       go false e = ap (λ (b : Bool). cond b list (tryStopped (ran j .number) (ran j .second))) (sym e)
 
-  by-case : (t : Bool) → eqb (c .outcome .number) 0 ≡ t → cond t list (tryStopped (c .outcome .number) (c .outcome .second)) ≡ tried j o
-  by-case t e =
-      ap (λ (b : Bool). cond b list (tryStopped (c .outcome .number) (c .outcome .second))) (sym e)
-      ∙ ap (λ (x : Outcome). cond (eqb (x .number) 0) list (tryStopped (x .number) (x .second))) (is .outcome-is)
+  by-row : (t : Bool) → eqb (w .number) 0 ≡ t → cond t list (tryStopped (w .number) (w .second)) ≡ tried j o
+  by-row t e =
+      ap (λ (b : Bool). cond b list (tryStopped (w .number) (w .second))) (sym e)
+      ∙ ap (λ (x : Outcome). cond (eqb (x .number) 0) list (tryStopped (x .number) (x .second))) is
       ∙ sym by-outcome
 
-  pub tried-refused : eqb (c .outcome .number) 0 ≡ false → tryStopped (c .outcome .number) (c .outcome .second) ≡ tried j o
-  tried-refused e = by-case false e
+  pub tried-refused : eqb (w .number) 0 ≡ false → tryStopped (w .number) (w .second) ≡ tried j o
+  tried-refused e = by-row false e
 
-  pub tried-list : eqb (c .outcome .number) 0 ≡ true → list ≡ tried j o
-  tried-list e = by-case true e
+  pub tried-list : eqb (w .number) 0 ≡ true → list ≡ tried j o
+  tried-list e = by-row true e

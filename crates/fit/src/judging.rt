@@ -1,4 +1,4 @@
-// The operation judge: row 14, the rows to 12, then the straight list where there is one, else the first fit list of the kept.
+// The operation judge: row 14, the lines, the rows to 12, then the straight list where there is one, else the first fit list of the kept.
 use crate::Case;
 use crate::Fires;
 use crate::Judged;
@@ -11,6 +11,7 @@ use crate::candidates::fired;
 use crate::candidates::numbers;
 use crate::candidates::pick;
 use crate::preparing::prepare;
+use job::lines::check_lines;
 use route::Route;
 use search::Sequence;
 use search::searching::first_order;
@@ -31,6 +32,7 @@ ghost use Rattle.slice.specs.Uses.{CutOf};
 ghost use Rattle.fit.specs.Straight.{fireAll, stepsOn, runsStraight};
 ghost use Rattle.search.specs.Candidates.{firstOrder, sequence, cleared};
 ghost use Rattle.job.specs.Job.{jobOf};
+ghost use Rattle.job.specs.Lines.{LinesPass};
 ghost use Rattle.fit.specs.Judge.{answer, firstFit, judgeFound, judgeRows, judged, workAfter};
 ghost use Rattle.fit.specs.Told.{movesTo, ItemsOf, CutFits, KeptOf, ToJudge};
 
@@ -109,6 +111,22 @@ pub fn judge_case(c: Case, vars: u32, line: u64, work: &mut [u8]) -> Judged
     }
 }
 
+// Judge from row 6 on, with room to work.
+pub fn judge_checked(old: Route, new: Route, done: &[u32], work: &mut [u8]) -> Judged
+    requires { ⌜ LinesPass (jobOf old new (now done)) ⌝ }
+    requires { ⌜ 8192 ≤ length (now work) ⌝ }
+    ensures { λ r. ⌜ r ≡ judged (jobOf old new (now (done .entry))) (length (now (work .entry))) ⌝ }
+    ensures { λ _. ⌜ now (work .exit) ≡ workAfter (jobOf old new (now (done .entry))) (now (work .entry)) ⌝ }
+{
+    let c = prepare(old, new, done);
+    let o = c.outcome;
+    if o.number != 0 {
+        return stop(o.number, o.second);
+    }
+    let vars = variables_of(new);
+    judge_case(c, vars, 3 + old.len as u64 + new.len as u64, work)
+}
+
 // Any records, any done list, any work slice.
 pub fn judge(old: Route, new: Route, done: &[u32], work: &mut [u8]) -> Judged
     ensures { λ r. ⌜ r ≡ judged (jobOf old new (now (done .entry))) (length (now (work .entry))) ⌝ }
@@ -117,11 +135,9 @@ pub fn judge(old: Route, new: Route, done: &[u32], work: &mut [u8]) -> Judged
     if work.len() < 8192 {
         return stop(14, 0);
     }
-    let c = prepare(old, new, done);
-    let o = c.outcome;
-    if o.number != 0 {
-        return stop(o.number, o.second);
+    let lines = check_lines(old, new, done);
+    if !lines.passed() {
+        return stop(lines.number, lines.second);
     }
-    let vars = variables_of(new);
-    judge_case(c, vars, 3 + old.len as u64 + new.len as u64, work)
+    judge_checked(old, new, done, work)
 }

@@ -16,6 +16,7 @@ ghost use Rattle.route.specs.Steps.{stepsOf};
 ghost use Rattle.route.specs.Rows.{refuse};
 ghost use Rattle.route.specs.declared.Step.{Step};
 ghost use Rattle.job.specs.Job.{jobOf, afterSteps};
+ghost use Rattle.job.specs.Lines.{LinesPass};
 ghost use Rattle.slice.specs.Slice.{variables};
 ghost use Rattle.slice.specs.Uses.{CutOf};
 ghost use Rattle.fit.specs.Case.{CaseOf};
@@ -71,10 +72,12 @@ fn weigh(new: Route, cut: Cut, line: u64) -> Case
     }
 }
 
+// The rows from 6 to 12, where all lines pass.
 pub fn prepare(old: Route, new: Route, done: &[u32]) -> Case
+    requires { ⌜ LinesPass (jobOf old new (now done)) ⌝ }
     ensures { λ r. ⌜ CaseOf (jobOf old new (now (done .entry))) r ⌝ }
 {
-    let r = job::runs::run(old, new, done);
+    let r = job::runs::run_checked(old, new, done);
     if r.number != 0 {
         return refused(r.number, r.second);
     }

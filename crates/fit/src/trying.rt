@@ -5,6 +5,7 @@ use crate::Tried;
 use crate::entries::by_rows;
 use crate::entries::stop;
 use crate::preparing::prepare;
+use job::lines::check_lines;
 use route::Route;
 ghost use mathlib.Core.Path.{_≡_};
 ghost use mathlib.Core.Bool.{true, cond};
@@ -14,6 +15,7 @@ ghost use lib.Dec.{eqb};
 ghost use lib.ListN.{length};
 ghost use Rattle.route.specs.declared.Step.{Step};
 ghost use Rattle.job.specs.Job.{jobOf};
+ghost use Rattle.job.specs.Lines.{LinesPass};
 ghost use Rattle.slice.specs.Order.{inTurn};
 ghost use Rattle.fit.specs.Try.{sameList, tryList, tried};
 ghost use Rattle.fit.specs.Ready.{CaseAt};
@@ -65,7 +67,9 @@ fn try_list(c: Case, order: &[u8]) -> Tried
     }
 }
 
-pub fn try_order(old: Route, new: Route, done: &[u32], order: &[u8]) -> Tried
+// Try from row 6 on.
+pub fn try_checked(old: Route, new: Route, done: &[u32], order: &[u8]) -> Tried
+    requires { ⌜ LinesPass (jobOf old new (now done)) ⌝ }
     ensures { λ r. ⌜ r ≡ tried (jobOf old new (now (done .entry))) (now (order .entry)) ⌝ }
 {
     let c = prepare(old, new, done);
@@ -74,4 +78,15 @@ pub fn try_order(old: Route, new: Route, done: &[u32], order: &[u8]) -> Tried
         return stop(o);
     }
     try_list(c, order)
+}
+
+// Any records, any done list, any order.
+pub fn try_order(old: Route, new: Route, done: &[u32], order: &[u8]) -> Tried
+    ensures { λ r. ⌜ r ≡ tried (jobOf old new (now (done .entry))) (now (order .entry)) ⌝ }
+{
+    let lines = check_lines(old, new, done);
+    if !lines.passed() {
+        return stop(lines);
+    }
+    try_checked(old, new, done, order)
 }

@@ -1,4 +1,5 @@
 -- Rows 4, 2, 3 and 5: each line, top down, and for each line the rows in this order.
+use mathlib.Core.Path.{_≡_}
 use mathlib.Core.Bool.{Bool, true, false, not, _&&_, _||_}
 use mathlib.Core.List.{List, [], _∷_, _++_}
 use Prim.Native.Nat.{ℕ, zero, suc, _+_}
@@ -71,6 +72,10 @@ unfoldable pub lineRows : Job → List Outcome
 lineRows j =
     routeRows 1 (j .oldPlaces) (j .old)
     ++ (routeRows (newLine j) (j .newPlaces) (j .new) ++ doneRows (jobLine j + 1) 0 (j .done))
+
+-- no line is refused
+abbrev pub LinesPass : Job → Type 0
+LinesPass j = first (lineRows j) .number ≡ 0
 
 -- all lines, then rows 6 and 7 of the old route, then of the new
 unfoldable pub checked : Job → Outcome

@@ -12,6 +12,7 @@ ghost use Prim.Native.Nat.{_≤_};
 ghost use lib.ListN.{length};
 ghost use Rattle.route.specs.Steps.{stepsOf};
 ghost use Rattle.job.specs.Job.{jobOf};
+ghost use Rattle.job.specs.Lines.{LinesPass};
 ghost use Rattle.job.specs.Run.{stopped, runFrom, openedBoth, ran};
 
 fn stop(o: Outcome) -> Ran
@@ -67,6 +68,20 @@ fn walk(old: Route, start: Marking, done: &[u32], line: u64) -> Ran
     }
 }
 
+// Rows 6 to 9 where all lines pass, and the old route's marking.
+pub fn run_checked(old: Route, new: Route, done: &[u32]) -> Ran
+    requires { ⌜ LinesPass (jobOf old new (now done)) ⌝ }
+    ensures { λ r. ⌜ r ≡ ran (jobOf old new (now (done .entry))) ⌝ }
+{
+    let a = open_both(old, new);
+    let p = a.outcome;
+    if !p.passed() {
+        return stop(p);
+    }
+    let start = a.marking;
+    walk(old, start, done, 4 + old.len as u64 + new.len as u64)
+}
+
 // The rows to 9, and the old route's marking.
 pub fn run(old: Route, new: Route, done: &[u32]) -> Ran
     ensures { λ r. ⌜ r ≡ ran (jobOf old new (now (done .entry))) ⌝ }
@@ -75,11 +90,5 @@ pub fn run(old: Route, new: Route, done: &[u32]) -> Ran
     if !o.passed() {
         return stop(o);
     }
-    let a = open_both(old, new);
-    let p = a.outcome;
-    if !p.passed() {
-        return stop(p);
-    }
-    let start = a.marking;
-    walk(old, start, done, 4 + old.len as u64 + new.len as u64)
+    run_checked(old, new, done)
 }

@@ -3,7 +3,7 @@ use crate::Written;
 use crate::printing::write_listing;
 use fit::Judged;
 use fit::answering::stop;
-use fit::judging::judge;
+use fit::judging::judge_checked;
 use sheet::Sheet;
 use sheet::reads::read;
 ghost use mathlib.Core.Path.{_≡_};
@@ -11,13 +11,16 @@ ghost use mathlib.Core.Bool.{cond};
 ghost use Prim.Native.Nat.{_≤_};
 ghost use lib.Dec.{eqb};
 ghost use lib.ListN.{length};
+ghost use Rattle.job.specs.Lines.{LinesPass};
 ghost use Rattle.sheet.specs.Facts.{jobRead};
 ghost use Rattle.fit.specs.Judge.{judged, judgeStopped, workAfter};
 ghost use Rattle.listing.specs.Print.{printed, outPrinted, workPrinted};
 
-// What judge answers of a sheet's facts; a refused sheet's number and place stand for it.
+// What judge answers of a sheet's facts, whose lines reading has checked; a refused sheet's number and place stand for it.
 fn answer(s: Sheet, work: &mut [u8]) -> Judged
     requires { ⌜ (s .«done_len» ≤ 64) × (length (s .done) ≡ 64) ⌝ }
+    requires { ⌜ (s .number ≡ 0 → LinesPass (jobRead s)) ⌝ }
+    requires { ⌜ 8192 ≤ length (now work) ⌝ }
     ensures { λ r. ⌜ r ≡ cond (eqb (s .number) 0) (judged (jobRead s) (length (now (work .entry)))) (judgeStopped (s .number) (s .second)) ⌝ }
     ensures { λ _. ⌜ now (work .exit) ≡ cond (eqb (s .number) 0) (workAfter (jobRead s) (now (work .entry))) (now (work .entry)) ⌝ }
 {
@@ -25,7 +28,7 @@ fn answer(s: Sheet, work: &mut [u8]) -> Judged
         return stop(s.number, s.second);
     }
     let done = s.done;
-    judge(s.old, s.new, &done[..s.done_len], work)
+    judge_checked(s.old, s.new, &done[..s.done_len], work)
 }
 
 // Any sheet, any work slice, any out slice.

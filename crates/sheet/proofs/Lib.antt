@@ -11,3 +11,8 @@ pub mod LineBytes
 pub mod Tallied
 pub mod LineKept
 pub mod PartText
+pub mod Members
+pub mod Masks
+pub mod Fine
+pub mod Ties
+pub mod Records

@@ -7,3 +7,4 @@ pub mod Tallies
 pub mod Lines
 pub mod JobPart
 pub mod SheetRows
+pub mod Back

@@ -24,10 +24,11 @@ use Rattle.sheet.specs.Facts.{factsOf, answered, readOf}
 use Rattle.sheet.specs.declared.Sheet.{Sheet}
 use Rattle.sheet.proofs.Stand.{reads-facts}
 use Rattle.job.specs.Job as J
-use Rattle.writing.specs.Written.{linesOf, written, AllWide}
-use Rattle.writing.proofs.Fine.{Passes, Fine, AllFine, AllLines, lines-fine}
-use Rattle.writing.proofs.Ties.{tie}
-use Rattle.writing.proofs.Round.{read-is}
+use Rattle.sheet.specs.Back.{linesOf, AllWide}
+use Rattle.writing.specs.Written.{written}
+use Rattle.sheet.proofs.Fine.{Passes, Fine, AllFine, AllLines, lines-fine}
+use Rattle.sheet.proofs.Ties.{tie}
+use Rattle.sheet.proofs.Records.{read-is}
 
 long-digits : (f k n : ℕ) (s : List ℕ) → n < 10 ^ suc k → length (digits f n s) ≤ suc k + length s
 unfolding digits

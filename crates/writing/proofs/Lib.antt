@@ -1,8 +1,4 @@
 -- Laws on what writing gives.
-pub mod Entries
-pub mod Ties
-pub mod Masks
-pub mod Fine
 pub mod Round
 pub mod Bound
 pub mod Longest

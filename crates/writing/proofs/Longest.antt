@@ -14,8 +14,9 @@ use Rattle.sheet.specs.Forms.{allBelow, rising, listFits, formFits, formLists, 
 use Rattle.sheet.specs.Facts.{readOf}
 use Rattle.sheet.specs.SheetRows.{formRows, routeFormRows, sheetRows, factsRecord}
 use Rattle.sheet.specs.declared.Sheet.{Sheet}
-use Rattle.writing.proofs.Fine.{Passes, lines-fine, lines-short}
-use Rattle.writing.proofs.Round.{read-is, standing}
+use Rattle.sheet.proofs.Fine.{Passes, lines-fine, lines-short}
+use Rattle.writing.proofs.Round.{standing}
+use Rattle.sheet.proofs.Records.{read-is}
 
 -- the k numbers from n on
 unfoldable pub from : ℕ → ℕ → List ℕ

@@ -12,7 +12,7 @@ use Rattle.route.specs.declared.Step.{Step}
 use Rattle.route.specs.declared.Route.{Route}
 use Rattle.route.proofs.Step as S
 use Rattle.route.proofs.Route as R
-use Rattle.writing.specs.Written.{AllWide}
+use Rattle.sheet.specs.Back.{AllWide}
 
 wide-each : (l : List Step) (us : List Val) → shadow (each _ (S.the-field .row .own) (map (S.the-field .into) l) us) → AllWide l
 wide-each [] us g = tt

@@ -7,7 +7,7 @@ use Rattle.layout.specs.Words.{spelling}
 use Rattle.layout.specs.Text.{Form, listed, wordLine, jobLine, stepLines, doneLines}
 use Rattle.layout.specs.declared.Word.{Word}
 use Rattle.layout.specs.declared.Word.the-variants.{Old, New, In, Out, Read, Write}
-use Rattle.writing.specs.Written.{formOf}
+use Rattle.sheet.specs.Back.{formOf}
 
 abbrev pub opening : Word → List ℕ → List ℕ
 opening w s = 40 ∷ (spelling w ++ s)

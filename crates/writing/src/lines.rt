@@ -10,7 +10,7 @@ ghost use Rattle.route.specs.Steps.{stepsOf};
 ghost use Rattle.layout.specs.Words.{spelling};
 ghost use Rattle.layout.specs.Text.{listed, stepLine, stepLines, wordLine, jobLine, doneLines, jobText};
 ghost use Rattle.writing.specs.Runs.{Emits};
-ghost use Rattle.writing.specs.Written.{formOf};
+ghost use Rattle.sheet.specs.Back.{formOf};
 ghost use Rattle.writing.specs.Parts.{opening, closing, lists, routeText};
 
 // `(` and the word.

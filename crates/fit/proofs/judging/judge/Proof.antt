@@ -1,37 +1,16 @@
--- `fit::judging::judge`: row 14, the rows to 12 as the case has them, and what follows.
-use mathlib.Core.Path.{_≡_, _∙_}
-use Prim.Native.Nat.{ℕ, _+_, _≤_}
-use native.Mathlib.Omega.{arith}
+-- `fit::judging::judge`: row 14, then the lines, and where they pass the rest.
+use mathlib.Core.Path.{sym, ap, _∙_}
 use borrow.Author.Needs.{needs}
-use lib.ListN.{length}
-use Rattle.route.proofs.Full.{full}
-use Rattle.route.proofs.StepList.{length-steps}
-use Rattle.job.specs.Job.{Job, jobOf, jobLine}
-use Rattle.job.proofs.Rows.{LinesFit}
-use Rattle.job.proofs.RunLine.{ran-fits}
-use Rattle.fit.proofs.Whole.{judged-short, work-short, judged-refused, work-refused, rows-to-12, ready, judged-passed, work-passed}
+use borrow.Author.Tests.{not-true, not-false, eqb-true, eqb-false}
+use Rattle.route.specs.declared.Outcome.{Outcome}
+use Rattle.job.specs.Job.{Job, jobOf}
+use Rattle.fit.proofs.Cases.{lines-refused}
+use Rattle.fit.proofs.Whole.{judged-short, work-short, judged-refused, work-refused}
 use Rattle.fit.proofs.judging.judge.Statement.{statement}
 use Rattle.fit.proofs.judging.judge.Tie as tie
 
 abbrev jobAt : tie.Start → Job
 jobAt s = jobOf (s .args .old) (s .args .new) (s .args .done .now)
-
--- after the rows to 12 have passed
-module _ (c : tie.Else2) where
-  abbrev start : tie.Start
-  start = c .before .before .before .before .before .before .before
-
-  fits : LinesFit (jobAt start)
-  fits = ran-fits (jobAt start) (rows-to-12 (jobAt start) _ (c .before .before .before .prepare .ensures) (c .if2 .left) .0)
-
-  old-short : start .args .old .len ≤ 64
-  old-short = omega (arith, fits .old-fits .steps-fit, length-steps (start .args .old) (full (start .args .old) _ (start .good .0)))
-
-  new-short : start .args .new .len ≤ 64
-  new-short = omega (arith, fits .new-fits .steps-fit, length-steps (start .args .new) (full (start .args .new) _ (start .good .1 .0)))
-
-  line-is : 3 + start .args .old .len + start .args .new .len ≡ jobLine (jobAt start)
-  line-is = omega (arith, length-steps (start .args .old) (full (start .args .old) _ (start .good .0)), length-steps (start .args .new) (full (start .args .new) _ (start .good .1 .0)))
 
 stop-requires : tie.Need-stop-requires
 stop-requires c κs = search needs
@@ -41,42 +20,33 @@ returns c =
     let s = c .before .before .before .before in
     (c .stop .ensures ∙ judged-short (jobAt s) _ (c .before .if1 .taken), work-short (jobAt s) _ (c .before .if1 .taken))
 
-prepare-requires : tie.Need-prepare-requires
-prepare-requires c κs = search needs
+check-lines-requires : tie.Need-check-lines-requires
+check-lines-requires c κs = search needs
+
+passed-requires : tie.Need-passed-requires
+passed-requires c κs = search needs
 
 stop-requires-2 : tie.Need-stop-requires-2
 stop-requires-2 c κs = search needs
 
 returns-2 : tie.Need-returns-2
 returns-2 c =
-    let s = c .before .before .before .before .before .before .before .before in
-    let o = c .before .before .before .before .prepare .ensures .outcome-is in
-    (c .stop2 .ensures ∙ judged-refused (jobAt s) _ o (c .before .if2 .taken) _ (c .before .before .before .before .before .if1 .left), work-refused (jobAt s) _ o (c .before .if2 .taken) _)
+    let l = c .before .before .before in
+    let j = jobAt (l .before .before .before .before) in
+    let e = sym (c .before .before .passed .ensures) ∙ not-true _ (c .before .if2 .taken) in
+    let o = lines-refused j _ (l .check-lines .ensures) e in
+    (c .stop2 .ensures ∙ judged-refused j _ o (eqb-false _ 0 e) _ (l .before .if1 .left), work-refused j _ o (eqb-false _ 0 e) _)
 
-variables-of-requires : tie.Need-variables-of-requires
-variables-of-requires c κs = new-short c
-
-add-judge-case : tie.Need-add-judge-case
-add-judge-case c = record { fits = omega (arith, old-short (c .before)) }
-
-add-judge-case-2 : tie.Need-add-judge-case-2
-add-judge-case-2 c = record { fits = omega (arith, old-short (c .before), new-short (c .before)) }
-
-judge-case-requires : tie.Need-judge-case-requires
-judge-case-requires c κs =
-    let e = c .before .before in
-    (ready (jobAt (start e)) _ (e .before .before .before .prepare .ensures) (e .if2 .left) _ _ (c .before .variables-of .ensures) (line-is e), e .before .before .before .before .if1 .left)
+judge-checked-requires : tie.Need-judge-checked-requires
+judge-checked-requires c κs =
+    let l = c .before .before .before in
+    (ap (λ (o : Outcome). o .number) (sym (l .check-lines .ensures)) ∙ eqb-true _ 0 (sym (c .before .before .passed .ensures) ∙ not-false _ (c .before .if2 .left)), l .before .if1 .left)
 
 same-length : tie.Need-same-length
 same-length c = search needs
 
 returns-3 : tie.Need-returns-3
-returns-3 c =
-    let e = c .before .before .before .before .before in
-    let case = e .before .before .before .prepare .ensures in
-    let k = ready (jobAt (start e)) _ case (e .if2 .left) _ _ (c .before .before .before .before .variables-of .ensures) (line-is e) in
-    let long = e .before .before .before .before .if1 .left in
-    (c .before .before .judge-case .ensures .0 k ∙ judged-passed (jobAt (start e)) _ case (e .if2 .left) _ _ long (line-is e), c .before .before .judge-case .ensures .1 k ∙ work-passed (jobAt (start e)) _ case (e .if2 .left) _ long)
+returns-3 c = search needs
 
 pub judge-spec : {M : Type 1} → statement M
-judge-spec = tie.close (tie.spec stop-requires returns prepare-requires stop-requires-2 returns-2 variables-of-requires add-judge-case add-judge-case-2 judge-case-requires same-length returns-3)
+judge-spec = tie.close (tie.spec stop-requires returns check-lines-requires passed-requires stop-requires-2 returns-2 judge-checked-requires same-length returns-3)

@@ -1,4 +1,4 @@
--- `fit::preparing::prepare`: the rows to 9, and else the new route against the occurrences.
+-- `fit::preparing::prepare`: the rows from 6 to 9, and else the new route against the occurrences.
 use mathlib.Core.Path.{_≡_, sym, ap, _∙_}
 use Prim.Native.Nat.{_+_}
 use native.Mathlib.Omega.{arith}
@@ -22,7 +22,7 @@ module _ (c : tie.Else1) where
   job = jobOf (c .before .before .before .before .args .old) (c .before .before .before .before .args .new) (c .before .before .before .before .args .done .now)
 
   runs : ran job .number ≡ 0
-  runs = ap (λ (r : Ran). r .number) (sym (c .before .before .run .ensures)) ∙ c .if1 .left
+  runs = ap (λ (r : Ran). r .number) (sym (c .before .before .run-checked .ensures)) ∙ c .if1 .left
 
   fits : LinesFit job
   fits = ran-fits job runs
@@ -33,8 +33,8 @@ module _ (c : tie.Else1) where
   new-length : length (job .new) ≡ c .before .before .before .before .args .new .len
   new-length = length-steps _ (full (c .before .before .before .before .args .new) _ (c .before .before .before .before .good .1 .0))
 
-run-requires : tie.Need-run-requires
-run-requires c κs = search needs
+run-checked-requires : tie.Need-run-checked-requires
+run-checked-requires c κs = search needs
 
 refused-requires : tie.Need-refused-requires
 refused-requires c κs = search needs
@@ -43,7 +43,7 @@ returns : tie.Need-returns
 returns c =
     let r = c .before .before .before in
     let a = r .before .before .args in
-    case-refused (jobOf (a .old) (a .new) (a .done .now)) _ _ (r .run .ensures) (c .before .if1 .taken) (c .refused .ensures)
+    case-refused (jobOf (a .old) (a .new) (a .done .now)) _ _ (r .run-checked .ensures) (c .before .if1 .taken) (c .refused .ensures)
 
 cut-requires : tie.Need-cut-requires
 cut-requires c κs = ((omega (arith, fits c .old-fits .steps-fit, old-length c), omega (arith, fits c .new-fits .steps-fit, new-length c)), fits c .done-fit)
@@ -70,7 +70,7 @@ pub prepare-spec : {M : Type 1} → statement M
 prepare-spec =
     tie.close
     (tie.spec
-    run-requires
+    run-checked-requires
     refused-requires
     returns
     cut-requires

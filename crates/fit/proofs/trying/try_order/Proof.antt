@@ -1,20 +1,16 @@
--- `fit::trying::try_order`: the rows to 12, and else the list.
-use mathlib.Core.Path.{sym, _∙_}
-use Prim.Native.Nat.{_≤_}
-use native.Mathlib.Omega.{arith}
+-- `fit::trying::try_order`: the lines, and where they pass the rest.
+use mathlib.Core.Path.{sym, ap, _∙_}
 use borrow.Author.Needs.{needs}
-use borrow.Author.Tests.{not-true, not-false}
-use lib.ListN.{length}
-use Rattle.job.specs.Job.{Job, jobOf, jobLine}
-use Rattle.job.proofs.RunLine.{ran-fits}
-use Rattle.slice.proofs.Done.{length-performed}
-use Rattle.fit.proofs.Cases.{doneSteps, case-ran, case-at}
-use Rattle.fit.proofs.TryRows.{tried-refused, tried-list}
+use borrow.Author.Tests.{not-true, not-false, eqb-true}
+use Rattle.route.specs.declared.Outcome.{Outcome}
+use Rattle.job.specs.Job.{jobOf}
+use Rattle.fit.proofs.Cases.{lines-refused}
+use Rattle.fit.proofs.TryRows.{tried-refused}
 use Rattle.fit.proofs.trying.try_order.Statement.{statement}
 use Rattle.fit.proofs.trying.try_order.Tie as tie
 
-prepare-requires : tie.Need-prepare-requires
-prepare-requires c κs = search needs
+check-lines-requires : tie.Need-check-lines-requires
+check-lines-requires c κs = search needs
 
 passed-requires : tie.Need-passed-requires
 passed-requires c κs = search needs
@@ -24,26 +20,19 @@ stop-requires c κs = search needs
 
 returns : tie.Need-returns
 returns c =
-    let p = c .before .before in
-    let r = p .before .before in
-    let a = r .before .before .before .args in
-    c .stop .ensures ∙ tried-refused (jobOf (a .old) (a .new) (a .done .now)) _ _ (r .prepare .ensures) (sym (p .passed .ensures) ∙ not-true _ (c .before .if1 .taken))
+    let l = c .before .before .before in
+    let a = l .before .before .before .args in
+    let j = jobOf (a .old) (a .new) (a .done .now) in
+    let e = sym (c .before .before .passed .ensures) ∙ not-true _ (c .before .if1 .taken) in
+    c .stop .ensures ∙ tried-refused j _ _ (lines-refused j _ (l .check-lines .ensures) e) e
 
-try-list-requires : tie.Need-try-list-requires
-try-list-requires c κs = search needs
+try-checked-requires : tie.Need-try-checked-requires
+try-checked-requires c κs =
+    ap (λ (o : Outcome). o .number) (sym (c .before .before .check-lines .ensures))
+    ∙ eqb-true _ 0 (sym (c .before .passed .ensures) ∙ not-false _ (c .if1 .left))
 
 returns-2 : tie.Need-returns-2
-returns-2 c =
-    let p = c .before .before in
-    let r = p .before .before in
-    let a = r .before .before .before .args in
-    let j : Job = jobOf (a .old) (a .new) (a .done .now) in
-    let is = r .prepare .ensures in
-    let passes = sym (p .passed .ensures) ∙ not-false _ (c .before .if1 .left) in
-    let short : length (doneSteps j) ≤ 64 = omega (arith, length-performed (j .old) (j .done), ran-fits j (case-ran j _ is passes) .done-fit) in
-    c .try-list .ensures (jobLine j) (j .newPlaces) (j .new) (doneSteps j) short (case-at j _ is passes) passes ∙ tried-list j _ _ is passes
+returns-2 c = search needs
 
 pub try-order-spec : {M : Type 1} → statement M
-try-order-spec =
-    tie.close
-    (tie.spec prepare-requires passed-requires stop-requires returns try-list-requires returns-2)
+try-order-spec = tie.close (tie.spec check-lines-requires passed-requires stop-requires returns try-checked-requires returns-2)

@@ -16,13 +16,13 @@ returns c =
     (c .stop .ensures ∙ law .0, law .1)
 
 array-share-prefix-done : tie.Need-array-share-prefix-done
-array-share-prefix-done c = let s = c .before .before .before .before in omega (arith, s .pre .0, s .pre .1)
+array-share-prefix-done c = let s = c .before .before .before .before in omega (arith, s .pre .0 .0, s .pre .0 .1)
 
-slice-aggregate-judge : tie.Need-slice-aggregate-judge
-slice-aggregate-judge c = let s = c .before .before .before .before .before in sym (length-take-le _ _ (omega (arith, s .pre .0, s .pre .1)))
+slice-aggregate-judge-checked : tie.Need-slice-aggregate-judge-checked
+slice-aggregate-judge-checked c = let s = c .before .before .before .before .before in sym (length-take-le _ _ (omega (arith, s .pre .0 .0, s .pre .0 .1)))
 
-judge-requires : tie.Need-judge-requires
-judge-requires c κs = search needs
+judge-checked-requires : tie.Need-judge-checked-requires
+judge-checked-requires c κs = let s = c .before .before .before .before .before .before in (s .pre .1 .0 (c .before .before .before .if1 .left), s .pre .1 .1)
 
 same-length : tie.Need-same-length
 same-length c = search needs
@@ -31,7 +31,7 @@ returns-2 : tie.Need-returns-2
 returns-2 c =
     let s = c .before .before .before .before .before .before .before .before .before in
     let law = facts-judged (s .args .s) (s .args .work .now) (c .before .before .before .before .before .before .if1 .left) in
-    (c .before .before .judge .ensures .0 ∙ law .0, c .before .before .judge .ensures .1 ∙ law .1)
+    (c .before .before .judge-checked .ensures .0 ∙ law .0, c .before .before .judge-checked .ensures .1 ∙ law .1)
 
 pub answer-spec : {M : Type 1} → statement M
-answer-spec = tie.close (tie.spec stop-requires returns array-share-prefix-done slice-aggregate-judge judge-requires same-length returns-2)
+answer-spec = tie.close (tie.spec stop-requires returns array-share-prefix-done slice-aggregate-judge-checked judge-checked-requires same-length returns-2)

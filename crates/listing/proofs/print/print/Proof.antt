@@ -1,7 +1,11 @@
 -- `listing::print::print`: row 14, then the answer to the sheet and its listing.
 use mathlib.Core.Path.{_≡_, sym, subst, _∙_}
 use borrow.Author.Needs.{needs}
+use Rattle.job.specs.Lines.{LinesPass}
+use Rattle.sheet.specs.Facts.{jobRead}
+use Rattle.sheet.specs.declared.Sheet.{Sheet}
 use Rattle.sheet.proofs.Dones.{Dones, read-dones}
+use Rattle.sheet.proofs.Records.{read-lines}
 use Rattle.listing.proofs.Prints.{printed-short, out-short, work-short, printed-long, out-long, work-long}
 use Rattle.listing.proofs.print.print.Statement.{statement}
 use Rattle.listing.proofs.print.print.Tie as tie
@@ -16,7 +20,10 @@ read-requires : tie.Need-read-requires
 read-requires c κs = search needs
 
 answer-requires : tie.Need-answer-requires
-answer-requires c κs = let d = subst Dones (sym (c .before .read .ensures)) (read-dones _) in (d .few, d .room)
+answer-requires c κs =
+    let d = subst Dones (sym (c .before .read .ensures)) (read-dones _) in
+    let lines = subst (λ (s : Sheet). s .number ≡ 0 → LinesPass (jobRead s)) (sym (c .before .read .ensures)) (read-lines _) in
+    ((d .few, d .room), (lines, c .before .before .if1 .left))
 
 write-listing-requires : tie.Need-write-listing-requires
 write-listing-requires c κs = search needs

@@ -1,6 +1,6 @@
 -- `writing::lines::four`: the lists in turn.
 use borrow.Author.Needs.{needs}
-use Rattle.writing.specs.Written.{formOf}
+use Rattle.sheet.specs.Back.{formOf}
 use Rattle.writing.proofs.Emitting.{next}
 use Rattle.writing.proofs.lines.four.Statement.{statement}
 use Rattle.writing.proofs.lines.four.Tie as tie

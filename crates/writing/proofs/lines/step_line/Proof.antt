@@ -1,7 +1,7 @@
 -- `writing::lines::step_line`: its parts in turn.
 use borrow.Author.Needs.{needs}
 use Rattle.layout.specs.Text.{stepLine}
-use Rattle.writing.specs.Written.{formOf}
+use Rattle.sheet.specs.Back.{formOf}
 use Rattle.writing.proofs.Emitting.{next}
 use Rattle.writing.proofs.lines.step_line.Statement.{statement}
 use Rattle.writing.proofs.lines.step_line.Tie as tie

@@ -11,7 +11,7 @@ use Rattle.route.proofs.Full.{full}
 use Rattle.route.proofs.StepList.{steps-on, steps-end}
 use Rattle.layout.specs.Text.{stepLine, stepLines}
 use Rattle.writing.specs.Runs.{Leads}
-use Rattle.writing.specs.Written.{formOf}
+use Rattle.sheet.specs.Back.{formOf}
 use Rattle.writing.proofs.Emitting.{still, more, over}
 use Rattle.writing.proofs.lines.step_lines.Statement.{statement}
 use Rattle.writing.proofs.lines.step_lines.Tie as tie

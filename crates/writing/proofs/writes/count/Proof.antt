@@ -1,7 +1,8 @@
 -- `writing::writes::count`: the place is the text's length.
 use borrow.Author.Needs.{needs}
 use Rattle.layout.specs.Text.{text, jobText}
-use Rattle.writing.specs.Written.{linesOf, written}
+use Rattle.sheet.specs.Back.{linesOf}
+use Rattle.writing.specs.Written.{written}
 use Rattle.writing.proofs.Emitting.{counts}
 use Rattle.writing.proofs.writes.count.Statement.{statement}
 use Rattle.writing.proofs.writes.count.Tie as tie

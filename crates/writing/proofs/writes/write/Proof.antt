@@ -13,7 +13,8 @@ use Rattle.route.proofs.StepList.{length-steps}
 use Rattle.job.specs.Job.{Job, jobOf}
 use Rattle.job.proofs.Rows.{LinesFit, lines-fit}
 use Rattle.layout.specs.Text.{text, jobText}
-use Rattle.writing.specs.Written.{linesOf, written}
+use Rattle.sheet.specs.Back.{linesOf}
+use Rattle.writing.specs.Written.{written}
 use Rattle.writing.proofs.Bound.{written-bounded}
 use Rattle.writing.proofs.Emitting.{lies}
 use Rattle.writing.proofs.Widths.{wide}

@@ -1,20 +1,20 @@
 -- The members of a mask as a list of entries: they rise, stay below the width, and are as many as the mask has.
 -- Assumes nothing.
 use mathlib.Core.Path.{_≡_, refl, sym, ap, ap₂, _∙_}
-use mathlib.Core.Bool.{Bool, true, false, not, cond, _&&_}
+use mathlib.Core.Bool.{Bool, true, false, cond, _&&_}
 use mathlib.Core.List.{List, [], _∷_}
-use Prim.Native.Nat.{ℕ, zero, suc, _+_, _-_, _^_, _/_, _%_, _≤_, _<_}
+use Prim.Native.Nat.{ℕ, zero, suc, _+_, _^_, _%_, _≤_, _<_}
 use native.Mathlib.Nat.{div-eq-of-lt, lt-of-lt-of-le}
 use native.Mathlib.Omega.{arith}
 use lib.Dec.{eqb, ltb, leb}
 use lib.ListN.{length}
 use lib.Pow.{pow-mono}
-use lib.Bits.{bitAnd, and-comm, and-zero-l}
+use lib.Bits.{and-comm, and-zero-l}
 use borrow.Author.Tests.{eq-eqb, ne-eqb, eqb-true, eqb-false, lt-ltb, le-ltb, ltb-true, ltb-false, le-leb}
 use Rattle.mask.specs.Mask.{has, below, within, membersFrom, members, count}
-use Rattle.mask.proofs.Laws.{has-zero, has-below, within-all, all-within, member-of}
+use Rattle.mask.proofs.Laws.{has-below, within-all, all-within}
 use Rattle.mask.proofs.Truth.{both}
 use Rattle.sheet.specs.Forms.{allBelow, rising, listFits}
 
 pub bool-ext : (x y : Bool) → (x ≡ true → y ≡ true) → (y ≡ true → x ≡ true) → x ≡ y
 bool-ext true y f g = sym (f refl)

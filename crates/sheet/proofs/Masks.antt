@@ -7,13 +7,13 @@ use Prim.Native.Nat.{ℕ, zero, suc, _+_, _^_, _≤_, _<_}
 use native.Mathlib.Omega.{arith}
 use lib.Dec.{eqb, ltb, leb}
 use lib.Bits.{bitOr}
-use borrow.Author.Tests.{eq-eqb, ne-eqb, eqb-true, eqb-false, lt-ltb, le-ltb, ltb-true, ltb-false, leb-true, le-leb}
+use borrow.Author.Tests.{eq-eqb, ne-eqb, eqb-true, eqb-false, ltb-true, leb-true, le-leb}
 use Rattle.mask.specs.Mask.{has, bit, membersFrom, members}
 use Rattle.mask.proofs.Laws.{has-ext, has-zero, has-or, has-bit}
 use Rattle.mask.proofs.Truth.{both}
 use Rattle.job.specs.Lines.{among}
 use Rattle.sheet.specs.Forms.{allBelow, rising, masked}
-use Rattle.writing.proofs.Entries.{bool-ext, has-width, all-below-width}
+use Rattle.sheet.proofs.Members.{bool-ext, has-width, all-below-width}
 
 -- u is among the entries
 has-masked : (w m : ℕ) (l : List ℕ) (u : ℕ) → allBelow w l ≡ true → has (masked w m l) u ≡ (has m u || among u l)

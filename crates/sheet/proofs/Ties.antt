@@ -1,25 +1,24 @@
 -- The rows of records are the rows of the lines that writing them gives, one for one.
 -- Assumes nothing.
 use mathlib.Core.Path.{_≡_, refl, sym, ap, ap₂, _∙_}
-use mathlib.Core.Bool.{Bool, true, false, not, cond, _&&_, _||_}
+use mathlib.Core.Bool.{Bool, true, false, not, _&&_, _||_}
 use mathlib.Core.List.{List, [], _∷_, _++_, map}
-use Prim.Native.Nat.{ℕ, zero, suc, _+_, _^_, _<_}
+use Prim.Native.Nat.{ℕ, _+_}
 use lib.Dec.{eqb, ltb, leb}
 use lib.ListN.{length, length-map}
 use lib.Bits.{bitOr}
-use Rattle.mask.specs.Mask.{has, below, within, members, count}
+use Rattle.mask.specs.Mask.{has, below, within, count}
 use Rattle.mask.proofs.Laws.{has-or, within-all, all-within}
 use Rattle.mask.proofs.Truth.{both}
 use Rattle.route.specs.Rows.{unless, first}
 use Rattle.route.specs.declared.Step.{Step}
 use Rattle.route.specs.declared.Outcome.{Outcome}
-use Rattle.job.specs.Job.{Job, afterSteps, newLine, jobLine}
+use Rattle.job.specs.Job.{Job, newLine, jobLine}
 use Rattle.job.specs.Lines.{nameFits, placesFit, stepFits, variableList, placeList, listsFit, among, stepRow, stepRows, routeRows, doneRows, lineRows}
-use Rattle.layout.specs.Text.{Form, Lines}
-use Rattle.sheet.specs.Forms.{allBelow, listFits, formFits, formLists, formRow}
-use Rattle.sheet.specs.SheetRows.{formRows, afterForms, routeFormRows, sheetRows}
-use Rattle.writing.specs.Written.{formOf, linesOf, Wide, AllWide}
-use Rattle.writing.proofs.Entries.{bool-ext, all-below-width, below-is, none-is, fits-is}
+use Rattle.sheet.specs.Forms.{formFits, formLists, formRow}
+use Rattle.sheet.specs.SheetRows.{formRows, routeFormRows, sheetRows}
+use Rattle.sheet.specs.Back.{formOf, linesOf, Wide, AllWide}
+use Rattle.sheet.proofs.Members.{bool-ext, all-below-width, below-is, none-is, fits-is}
 
 or-within : (a b c : ℕ) → within (bitOr a b) c ≡ (within a c && within b c)
 or-within a b c =

@@ -1,22 +1,22 @@
 -- What rows that pass say of the lines: every form fits its range and its lists, no count is over 64, and every number is short.
 -- Assumes nothing.
 use mathlib.Core.Path.{_≡_, refl, sym, ap, _∙_}
-use mathlib.Core.Bool.{Bool, true, false, not, cond, _&&_}
+use mathlib.Core.Bool.{Bool, true, false, _&&_}
 use mathlib.Core.List.{List, [], _∷_, _++_}
-use Prim.Native.Nat.{ℕ, zero, suc, _+_, _≤_, _<_}
+use Prim.Native.Nat.{ℕ, _+_, _≤_, _<_}
 use native.Mathlib.Omega.{arith}
 use lib.Dec.{eqb, ltb, leb}
 use lib.ListN.{length, length-append}
-use borrow.Author.Tests.{leb-true, ltb-true, lt-ltb}
+use borrow.Author.Tests.{leb-true, ltb-true}
 use Rattle.mask.proofs.Truth.{both}
-use Rattle.route.specs.Rows.{unless, first}
+use Rattle.route.specs.Rows.{first}
 use Rattle.route.specs.declared.Outcome.{Outcome}
 use Rattle.route.proofs.RowList.{rows-pass, rows-refuse}
-use Rattle.job.specs.Lines.{nameFits, placesFit, among, doneRow, doneRows}
-use Rattle.layout.specs.Text.{Form, Lines, Short, Shorts, ShortForm, ShortForms, ShortLines}
-use Rattle.sheet.specs.Forms.{allBelow, rising, listFits, formFits, formLists, formRow}
+use Rattle.job.specs.Lines.{nameFits, placesFit, doneRow, doneRows}
+use Rattle.layout.specs.Text.{Form, Lines, Shorts, ShortForm, ShortForms, ShortLines}
+use Rattle.sheet.specs.Forms.{allBelow, formFits, formLists, formRow}
 use Rattle.sheet.specs.SheetRows.{formRows, afterForms, routeFormRows, sheetRows}
 use Rattle.sheet.proofs.Stand.{rows-both, row-holds}
 
 abbrev pub Passes : List Outcome → Type 0
 Passes rows = eqb (first rows .number) 0 ≡ true
