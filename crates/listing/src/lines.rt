@@ -52,13 +52,10 @@ pub fn after_lines(out: &mut [u8], at: usize, kept: u64, rows: [u64; 64]) -> usi
 {
     let mut end = at;
     let mut left = kept;
-    let mut v = 0u64;
     while left != 0 {
         let z = u64::trailing_zeros(left);
-        let k = v + z as u64;
-        left = (left >> z) >> 1;
-        v = k + 1;
-        end = after_line(out, end, k, rows[k as usize]);
+        left = left & (left - 1);
+        end = after_line(out, end, z as u64, rows[z as usize]);
     }
     end
 }

@@ -11,13 +11,10 @@ pub fn mask_entries(out: &mut [u8], at: usize, m: u64, first: u64) -> usize
 {
     let mut end = at;
     let mut left = m;
-    let mut v = first;
     while left != 0 {
         let z = u64::trailing_zeros(left);
-        let k = v + z as u64;
-        left = (left >> z) >> 1;
-        v = k + 1;
-        end = entry(out, end, k);
+        left = left & (left - 1);
+        end = entry(out, end, first + z as u64);
     }
     end
 }
