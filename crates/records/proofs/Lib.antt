@@ -1,0 +1,2 @@
+-- What a loop that copies records has copied after each turn.
+pub mod Copied

@@ -1,0 +1,2 @@
+-- Lent lists of step records, and routes by value.
+pub mod Loaded
