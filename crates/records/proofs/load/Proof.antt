@@ -295,34 +295,6 @@ module _ {M : Type 1} (𝓤 : URA M) (H : Heap 𝓤) (A : Atoms 𝓤) (W : Given
         use1 W (‵ (arr-parts (shares S) 64 .part fullShare blanks l₃ 0)) (array-apart 𝓤 H A W S fullShare tt 64 blanks l₃ 0) $ fsplit ! $ drop ! $
         keep ! (0 ∷ 1 ∷ 27 ∷ 21 ∷ 19 ∷ 17 ∷ 15 ∷ 13 ∷ 11 ∷ 9 ∷ 34 ∷ 29 ∷ 31 ∷ 36 ∷ 38 ∷ 25 ∷ 23 ∷ 7 ∷ 2 ∷ 5 ∷ 39 ∷ 37 ∷ 35 ∷ 33 ∷ 32 ∷ 30 ∷ 28 ∷ 26 ∷ 24 ∷ 22 ∷ 20 ∷ 18 ∷ 16 ∷ 14 ∷ 12 ∷ 10 ∷ 8 ∷ []) $ by ! (loops q′))
 
-  module _ (𝓣 : Tables 𝓤 H) (g : Room S (length ys)) (gp : p < 2 ^ 64) (l₀ l₁ l₂ l₃ l₄ l₅ l₆ l₇ l₈ l₉ l₁₀ l₁₁ l₁₂ l₁₃ l₁₄ l₁₅ l₁₆ : ℕ) where
-    -- once the array is made
-    abbrev Made : List (Item 𝓤)
-    Made = ‵ (froom records l₁₆ 0) ∷ ‵ (fdies records l₁₆) ∷ ‵ (froom tyPtr l₁₅ 0) ∷ ‵ (fdies tyPtr l₁₅) ∷ ‵ (froom tyPtr l₁₄ 0) ∷ ‵ (fdies tyPtr l₁₄) ∷ ‵ (froom word l₁₃ 0) ∷ ‵ (fdies word l₁₃) ∷ ‵ (froom St′.mir l₁₂ 0) ∷ ‵ (fdies St′.mir l₁₂) ∷ ‵ (froom tyPtr l₁₁ 0) ∷ ‵ (fdies tyPtr l₁₁) ∷ ‵ (froom word l₁₀ 0) ∷ ‵ (fdies word l₁₀) ∷ ‵ (froom tyBool l₉ 0) ∷ ‵ (fdies tyBool l₉) ∷ ‵ (froom tyBool l₈ 0) ∷ ‵ (fdies tyBool l₈) ∷ ‵ (fat fullShare St′.mir l₇ 0 bv) ∷ ‵ (fdies St′.mir l₇) ∷ ‵ (froom word l₆ 0) ∷ ‵ (fdies word l₆) ∷ ‵ (froom word l₅ 0) ∷ ‵ (fdies word l₅) ∷ ‵ (froom word l₄ 0) ∷ ‵ (fdies word l₄) ∷ ‵ (fat fullShare records l₃ 0 av) ∷ ‵ (fdies records l₃) ∷ ‵ (fat fullShare slice l₂ 0 sv) ∷ ‵ (fdies slice l₂) ∷ ‵ (fat fullShare word l₁ 0 (vint w64 p)) ∷ ‵ (fdies word l₁) ∷ ‵ (froom Ro′.mir l₀ 0) ∷ ‵ (fdies Ro′.mir l₀) ∷ (‵ (flft κ q) ⊛ ‵ ftrue) ∷ ‵ (owns (u64 ∷ ShrSlice (named 0) κ S ∷ []) (p, (xs, tt)) (vint w64 p ∷ [], (sv ∷ [], tt))) ∷ []
-
-    -- as many records are copied as there are, at most 64
-    counts : ent 𝓤 (⋆ 𝓤 H A Made) (Wp 𝓤 H (𝓣 .C) (𝓣 .Λ) ((Ro′.mir, l₀) ∷ (word, l₁) ∷ (slice, l₂) ∷ (records, l₃) ∷ (word, l₄) ∷ (word, l₅) ∷ (word, l₆) ∷ (St′.mir, l₇) ∷ (tyBool, l₈) ∷ (tyBool, l₉) ∷ (word, l₁₀) ∷ (tyPtr, l₁₁) ∷ (St′.mir, l₁₂) ∷ (word, l₁₃) ∷ (tyPtr, l₁₄) ∷ (tyPtr, l₁₅) ∷ (records, l₁₆) ∷ []) body.t-3 (atReturn 𝓤 H ((Ro′.mir, l₀) ∷ (word, l₁) ∷ (slice, l₂) ∷ (records, l₃) ∷ (word, l₄) ∷ (word, l₅) ∷ (word, l₆) ∷ (St′.mir, l₇) ∷ (tyBool, l₈) ∷ (tyBool, l₉) ∷ (word, l₁₀) ∷ (tyPtr, l₁₁) ∷ (St′.mir, l₁₂) ∷ (word, l₁₃) ∷ (tyPtr, l₁₄) ∷ (tyPtr, l₁₅) ∷ (records, l₁₆) ∷ []) Post))
-    counts =
-        qed W Made ∵ exec ! (𝓣 .C) (𝓣 .Λ) ((Ro′.mir, l₀) ∷ (word, l₁) ∷ (slice, l₂) ∷ (records, l₃) ∷ (word, l₄) ∷ (word, l₅) ∷ (word, l₆) ∷ (St′.mir, l₇) ∷ (tyBool, l₈) ∷ (tyBool, l₉) ∷ (word, l₁₀) ∷ (tyPtr, l₁₁) ∷ (St′.mir, l₁₂) ∷ (word, l₁₃) ∷ (tyPtr, l₁₄) ∷ (tyPtr, l₁₅) ∷ (records, l₁₆) ∷ []) body.t-3 (atRet ((Ro′.mir, l₀) ∷ (word, l₁) ∷ (slice, l₂) ∷ (records, l₃) ∷ (word, l₄) ∷ (word, l₅) ∷ (word, l₆) ∷ (St′.mir, l₇) ∷ (tyBool, l₈) ∷ (tyBool, l₉) ∷ (word, l₁₀) ∷ (tyPtr, l₁₁) ∷ (St′.mir, l₁₂) ∷ (word, l₁₃) ∷ (tyPtr, l₁₄) ∷ (tyPtr, l₁₅) ∷ (records, l₁₆) ∷ []) Post) $
-        assigns ! (of-opd ! (load ! (from ! (fld ! refl (stop !))) (look-in ! 28 (sub ! 1 refl (whole !))))) (from ! (stop !)) (init ! 24 refl (tt, record { fits = g .0 })) $
-        assigns ! (of-opd ! (load ! (from ! (stop !)) (look ! 24 refl))) (from ! (stop !)) (init ! 22 refl (tt, record { fits = g .0 })) $
-        assigns ! (bin ! (lit ! tt) (load ! (from ! (stop !)) (look ! 22 refl)) tt) (from ! (stop !)) (init ! 16 refl (tt, tt)) $
-        first ! $ branches ! (load ! (from ! (stop !)) (look ! 16 refl))
-        (λ long. assigns-last ! (of-opd ! (lit ! tt)) (from ! (stop !)) (store ! 22 refl (tt, record { fits = lit< tt })) $
-        by ! (starts 𝓣 g gp 64 (omega arith) (omega (arith, ltb→lt 64 (length ys) long)) (loads-long p ys (ltb→lt 64 (length ys) long)) l₀ l₁ l₂ l₃ l₄ l₅ l₆ l₇ l₈ l₉ l₁₀ l₁₁ l₁₂ l₁₃ l₁₄ l₁₅ l₁₆ (ltb 64 (length ys))))
-        (λ not-long. skips ! $ by ! (starts 𝓣 g gp (length ys) (nltb→le 64 (length ys) not-long) (omega arith) (loads-short p ys (nltb→le 64 (length ys) not-long)) l₀ l₁ l₂ l₃ l₄ l₅ l₆ l₇ l₈ l₉ l₁₀ l₁₁ l₁₂ l₁₃ l₁₄ l₁₅ l₁₆ (ltb 64 (length ys))))
-
-    -- once the parameters are in
-    abbrev Entered : List (Item 𝓤)
-    Entered = ‵ (froom records l₁₆ 0) ∷ ‵ (fdies records l₁₆) ∷ ‵ (froom tyPtr l₁₅ 0) ∷ ‵ (fdies tyPtr l₁₅) ∷ ‵ (froom tyPtr l₁₄ 0) ∷ ‵ (fdies tyPtr l₁₄) ∷ ‵ (froom word l₁₃ 0) ∷ ‵ (fdies word l₁₃) ∷ ‵ (froom St′.mir l₁₂ 0) ∷ ‵ (fdies St′.mir l₁₂) ∷ ‵ (froom tyPtr l₁₁ 0) ∷ ‵ (fdies tyPtr l₁₁) ∷ ‵ (froom word l₁₀ 0) ∷ ‵ (fdies word l₁₀) ∷ ‵ (froom tyBool l₉ 0) ∷ ‵ (fdies tyBool l₉) ∷ ‵ (froom tyBool l₈ 0) ∷ ‵ (fdies tyBool l₈) ∷ ‵ (froom St′.mir l₇ 0) ∷ ‵ (fdies St′.mir l₇) ∷ ‵ (froom word l₆ 0) ∷ ‵ (fdies word l₆) ∷ ‵ (froom word l₅ 0) ∷ ‵ (fdies word l₅) ∷ ‵ (froom word l₄ 0) ∷ ‵ (fdies word l₄) ∷ ‵ (froom records l₃ 0) ∷ ‵ (fdies records l₃) ∷ ‵ (fat fullShare slice l₂ 0 sv) ∷ ‵ (fdies slice l₂) ∷ ‵ (fat fullShare word l₁ 0 (vint w64 p)) ∷ ‵ (fdies word l₁) ∷ ‵ (froom Ro′.mir l₀ 0) ∷ ‵ (fdies Ro′.mir l₀) ∷ (‵ (flft κ q) ⊛ ‵ ftrue) ∷ ‵ (owns (u64 ∷ ShrSlice (named 0) κ S ∷ []) (p, (xs, tt)) (vint w64 p ∷ [], (sv ∷ [], tt))) ∷ []
-
-    blanked : ent 𝓤 (⋆ 𝓤 H A Entered) (Wp 𝓤 H (𝓣 .C) (𝓣 .Λ) ((Ro′.mir, l₀) ∷ (word, l₁) ∷ (slice, l₂) ∷ (records, l₃) ∷ (word, l₄) ∷ (word, l₅) ∷ (word, l₆) ∷ (St′.mir, l₇) ∷ (tyBool, l₈) ∷ (tyBool, l₉) ∷ (word, l₁₀) ∷ (tyPtr, l₁₁) ∷ (St′.mir, l₁₂) ∷ (word, l₁₃) ∷ (tyPtr, l₁₄) ∷ (tyPtr, l₁₅) ∷ (records, l₁₆) ∷ []) body.t-1 (atReturn 𝓤 H ((Ro′.mir, l₀) ∷ (word, l₁) ∷ (slice, l₂) ∷ (records, l₃) ∷ (word, l₄) ∷ (word, l₅) ∷ (word, l₆) ∷ (St′.mir, l₇) ∷ (tyBool, l₈) ∷ (tyBool, l₉) ∷ (word, l₁₀) ∷ (tyPtr, l₁₁) ∷ (St′.mir, l₁₂) ∷ (word, l₁₃) ∷ (tyPtr, l₁₄) ∷ (tyPtr, l₁₅) ∷ (records, l₁₆) ∷ []) Post))
-    blanked =
-        qed W Entered ∵ exec ! (𝓣 .C) (𝓣 .Λ) ((Ro′.mir, l₀) ∷ (word, l₁) ∷ (slice, l₂) ∷ (records, l₃) ∷ (word, l₄) ∷ (word, l₅) ∷ (word, l₆) ∷ (St′.mir, l₇) ∷ (tyBool, l₈) ∷ (tyBool, l₉) ∷ (word, l₁₀) ∷ (tyPtr, l₁₁) ∷ (St′.mir, l₁₂) ∷ (word, l₁₃) ∷ (tyPtr, l₁₄) ∷ (tyPtr, l₁₅) ∷ (records, l₁₆) ∷ []) body.t-1 (atRet ((Ro′.mir, l₀) ∷ (word, l₁) ∷ (slice, l₂) ∷ (records, l₃) ∷ (word, l₄) ∷ (word, l₅) ∷ (word, l₆) ∷ (St′.mir, l₇) ∷ (tyBool, l₈) ∷ (tyBool, l₉) ∷ (word, l₁₀) ∷ (tyPtr, l₁₁) ∷ (St′.mir, l₁₂) ∷ (word, l₁₃) ∷ (tyPtr, l₁₄) ∷ (tyPtr, l₁₅) ∷ (records, l₁₆) ∷ []) Post) $
-        assigns ! (agg ! (and-then ! (lit ! tt) (and-then ! (lit ! tt) (and-then ! (lit ! tt) (and-then ! (lit ! tt) (and-then ! (lit ! tt) (no-more !))))))) (from ! (stop !)) (init ! 18 refl (typed blank bv is-blank)) $
-        assigns ! (rep ! 64 (load ! (from ! (stop !)) (look ! 18 refl))) (from ! (stop !)) (init ! 26 refl (typed-all blanks av is-blanks)) $
-        by ! counts
-
   -- the MIR from its entry
   walk : (𝓣 : Tables 𝓤 H) → Room S (length ys) → p < 2 ^ 64 → ent 𝓤 (onEntry 𝓤 H A load′.signature (κ, tt) (q, tt) (p, (xs, tt)) (vint w64 p ∷ [], (sv ∷ [], tt)))
       (WpFn 𝓤 H (𝓣 .C) (𝓣 .Λ) function (vint w64 p ∷ sv ∷ []) Post)
@@ -330,7 +302,16 @@ module _ {M : Type 1} (𝓤 : URA M) (H : Heap 𝓤) (A : Atoms 𝓤) (W : Given
       qed W ((‵ (flft κ q) ⊛ ‵ ftrue) ∷ ‵ (owns (u64 ∷ ShrSlice (named 0) κ S ∷ []) (p, (xs, tt)) (vint w64 p ∷ [], (sv ∷ [], tt))) ∷ []) ∵ enter ! (𝓣 .C) (𝓣 .Λ) function (vint w64 p ∷ sv ∷ []) _ $
       alloc1 ! (λ l₀. alloc1 ! (λ l₁. alloc1 ! (λ l₂. alloc1 ! (λ l₃. alloc1 ! (λ l₄. alloc1 ! (λ l₅. alloc1 ! (λ l₆. alloc1 ! (λ l₇. alloc1 ! (λ l₈. alloc1 ! (λ l₉. alloc1 ! (λ l₁₀. alloc1 ! (λ l₁₁. alloc1 ! (λ l₁₂. alloc1 ! (λ l₁₃. alloc1 ! (λ l₁₄. alloc1 ! (λ l₁₅. alloc1 ! (λ l₁₆. alloc0 ! $ params1 ! $
       pass1 ! (init ! 30 refl (tt, record { fits = gp })) $ pass1 ! (init ! 28 refl (tt, (tt, (record { fits = g .0 }, tt)))) $ pass0 ! $
-      by ! (blanked 𝓣 g gp l₀ l₁ l₂ l₃ l₄ l₅ l₆ l₇ l₈ l₉ l₁₀ l₁₁ l₁₂ l₁₃ l₁₄ l₁₅ l₁₆))))))))))))))))))
+      assigns ! (agg ! (and-then ! (lit ! tt) (and-then ! (lit ! tt) (and-then ! (lit ! tt) (and-then ! (lit ! tt) (and-then ! (lit ! tt) (no-more !))))))) (from ! (stop !)) (init ! 18 refl (typed blank bv is-blank)) $
+      assigns ! (rep ! 64 (load ! (from ! (stop !)) (look ! 18 refl))) (from ! (stop !)) (init ! 26 refl (typed-all blanks av is-blanks)) $
+      assigns ! (of-opd ! (load ! (from ! (fld ! refl (stop !))) (look-in ! 28 (sub ! 1 refl (whole !))))) (from ! (stop !)) (init ! 24 refl (tt, record { fits = g .0 })) $
+      assigns ! (of-opd ! (load ! (from ! (stop !)) (look ! 24 refl))) (from ! (stop !)) (init ! 22 refl (tt, record { fits = g .0 })) $
+      assigns ! (bin ! (lit ! tt) (load ! (from ! (stop !)) (look ! 22 refl)) tt) (from ! (stop !)) (init ! 16 refl (tt, tt)) $
+      -- as many records are copied as there are, at most 64
+      first ! $ branches ! (load ! (from ! (stop !)) (look ! 16 refl))
+      (λ long. assigns-last ! (of-opd ! (lit ! tt)) (from ! (stop !)) (store ! 22 refl (tt, record { fits = lit< tt })) $
+      by ! (starts 𝓣 g gp 64 (omega arith) (omega (arith, ltb→lt 64 (length ys) long)) (loads-long p ys (ltb→lt 64 (length ys) long)) l₀ l₁ l₂ l₃ l₄ l₅ l₆ l₇ l₈ l₉ l₁₀ l₁₁ l₁₂ l₁₃ l₁₄ l₁₅ l₁₆ (ltb 64 (length ys))))
+      (λ not-long. skips ! $ by ! (starts 𝓣 g gp (length ys) (nltb→le 64 (length ys) not-long) (omega arith) (loads-short p ys (nltb→le 64 (length ys) not-long)) l₀ l₁ l₂ l₃ l₄ l₅ l₆ l₇ l₈ l₉ l₁₀ l₁₁ l₁₂ l₁₃ l₁₄ l₁₅ l₁₆ (ltb 64 (length ys)))))))))))))))))))))
 
 module _ {M : Type 1} (𝓤 : URA M) (H : Heap 𝓤) (A : Atoms 𝓤) (W : Given 𝓤 H A) (mem : Memory → SProp 𝓤) (run : Routine → Fun 𝓤) (𝓣 : Tables 𝓤 H) where
   load-walks : Walks 𝓤 H A load′.ended stayed (WpFn 𝓤 H (𝓣 .C) (𝓣 .Λ) function) (load′.clauses 𝓤 H A mem run)
