@@ -1,0 +1,4 @@
+-- Why a job of lent lists and the job of the routes that they are loaded into meet the same answer.
+pub mod Over
+pub mod Turned
+pub mod Same

@@ -1,0 +1,2 @@
+-- Jobs whose routes are lent lists of step records.
+pub mod Lent

@@ -1,0 +1,1 @@
+// The operations over lent lists of step records.
