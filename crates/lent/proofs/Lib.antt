@@ -2,3 +2,4 @@
 pub mod Over
 pub mod Turned
 pub mod Same
+pub mod Loads
