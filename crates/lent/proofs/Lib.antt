@@ -3,3 +3,4 @@ pub mod Over
 pub mod Turned
 pub mod Same
 pub mod Loads
+pub mod One
