@@ -4,3 +4,4 @@ pub mod Turned
 pub mod Same
 pub mod Loads
 pub mod One
+pub mod Filled

@@ -1,5 +1,4 @@
 -- `run` meets its contract: both lists are loaded and `job::runs::run` is called (One).
-use mathlib.Core.Path.{refl}
 use contract.Running.{givenOf, tables, tablesOf}
 use denote.Struct.Laws as LL
 use denote.Triple.Spec.{tripleOf}
@@ -29,5 +28,4 @@ run-spec 𝓤 H 𝓜 𝓖 𝓡 =
     (one-meets R.the-row 𝓤 H (𝓖 .A) (givenOf 𝓤 H 𝓜 𝓖) (𝓜 .mem) (𝓡 .run) R′.mir (λ r v is. LL.lawful R.the-type R′.the-laws 𝓤 H (𝓖 .A) (givenOf 𝓤 H 𝓜 𝓖) .typed r _ is .0)
     (λ a b d. ran (jobOf a b d)) (λ p l q m d. ran (lentJob p l q m d)) ran-same core.name (tablesOf 𝓤 H 𝓜 (tables 𝓤 H 𝓜 𝓡 code.env))
     (cited 𝓤 H (Load 𝓤 H (𝓖 .A) (𝓜 .mem) (𝓡 .run)) 𝓜 𝓡 code.env load.name load.routine code.calls-records·load (load-thm.met 𝓤 H 𝓜 𝓖 𝓡))
-    (cited 𝓤 H (Known R.the-row 𝓤 H (𝓖 .A) (givenOf 𝓤 H 𝓜 𝓖) (𝓜 .mem) (𝓡 .run) R′.mir (λ r v is. LL.lawful R.the-type R′.the-laws 𝓤 H (𝓖 .A) (givenOf 𝓤 H 𝓜 𝓖) .typed r _ is .0)
-    (λ a b d. ran (jobOf a b d)) (λ p l q m d. ran (lentJob p l q m d)) ran-same core.name) 𝓜 𝓡 code.env core.name core.routine code.calls-job·runs·run (core-thm.met 𝓤 H 𝓜 𝓖 𝓡)))
+    (cited 𝓤 H (Known R.the-row 𝓤 H (𝓖 .A) (λ a b d. ran (jobOf a b d))) 𝓜 𝓡 code.env core.name core.routine code.calls-job·runs·run (core-thm.met 𝓤 H 𝓜 𝓖 𝓡)))
