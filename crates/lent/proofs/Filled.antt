@@ -37,12 +37,8 @@ use Rattle.route.proofs.Step as St
 use Rattle.route.proofs.Route as Ro
 use Rattle.records.specs.Loaded.{loaded}
 use Rattle.records.proofs.load.Symbol.{name as #load}
-use Rattle.lent.proofs.Loads.{Lent, val, own, owned-route, Load, body-two, calls-two}
+use Rattle.lent.proofs.Loads.{Lent, val, own, owned-route, Load, body-mut, calls-mut}
 use Rattle.lent.proofs.One.{namesTy}
-
--- the bytes as the MIR holds them
-abbrev bytesTy : Ty
-bytesTy = sliceTy (tyRef (named 3) mut (tyInt w8))
 
 -- the parameters: a place count, the two lists, the done list, the bytes
 abbrev places : Slot 4
@@ -167,7 +163,7 @@ module _ (R : RattleType) where
       module _ (C : Calls 𝓤 H) (Λ : Loops 𝓤 H) (fm : FmC 𝓤 H (W .laws) C) (known-load : Triple 𝓤 (C #load) (Load 𝓤 H A mem run)) (known : Triple 𝓤 (C k) (Known 𝓤 H A s)) where
         walk : p₀ < 2 ^ 64 → p₁ < 2 ^ 64 → length (x₀ .now) < 2 ^ 64 → length (x₁ .now) < 2 ^ 64 → length (d .now) < 2 ^ 64 → length (o .now) < 2 ^ 64
             → ent 𝓤 (onEntry 𝓤 H A (lent .signature) (κ₀, (κ₁, (κ₂, (κ₃, tt)))) (q₀, (q₁, (q₂, (q₃, tt)))) (bound .0 .3) (bound .0 .4))
-            (WpFn 𝓤 H C Λ (body-two τ namesTy bytesTy k) (vint w64 p₀ ∷ val x₀ ∷ vint w64 p₁ ∷ val x₁ ∷ dv ∷ ov ∷ []) End)
+            (WpFn 𝓤 H C Λ (body-mut τ namesTy k) (vint w64 p₀ ∷ val x₀ ∷ vint w64 p₁ ∷ val x₁ ∷ dv ∷ ov ∷ []) End)
         walk fits₀ fits₁ room₀ room₁ room₂ room₃ =
             qed W ((‵ (flft κ₀ q₀) ⊛ (‵ (flft κ₁ q₁) ⊛ Tokens)) ∷ ‵ (owns (u64 ∷ ShrSlice (named 0) κ₀ St.the-row ∷ u64 ∷ ShrSlice (named 1) κ₁ St.the-row ∷ ShrSlice (named 2) κ₂ u32 ∷ MutSlice (named 3) κ₃ u8 ∷ []) (bound .0 .3) (bound .0 .4)) ∷ []) ∵
             split ! $ move ! (1 ∷ []) $ split ! $ move ! (1 ∷ []) $ split ! $ move ! (1 ∷ []) $ split ! $
@@ -175,16 +171,16 @@ module _ (R : RattleType) where
             move ! (5 ∷ []) $ fsplit ! $ drop ! $ fsplit ! $ move ! (1 ∷ []) $ fsplit ! $ drop ! $ fsplit ! $ move ! (1 ∷ []) $ fsplit ! $ move ! (1 ∷ []) $ fsplit ! $
             -- [the bytes; true; the done list; the new list; the old one; the last token; true; the third; the second; the first]
             move ! (2 ∷ 0 ∷ []) $ join ! $ move ! (4 ∷ 0 ∷ []) $ join ! $ move ! (5 ∷ 0 ∷ []) $ join ! $ keep ! (6 ∷ 5 ∷ 3 ∷ 2 ∷ 0 ∷ []) $
-            by ! (calls-two 𝓤 H A W mem run C Λ fm known-load κ₀ κ₁ q₀ q₁ p₀ p₁ x₀ x₁ fits₀ fits₁ room₀ room₁ τ namesTy bytesTy k dv ov (tt, (tt, (record { fits = room₂ }, tt))) (tt, (tt, (record { fits = room₃ }, tt)))
+            by ! (calls-mut 𝓤 H A W mem run C Λ fm known-load κ₀ κ₁ q₀ q₁ p₀ p₁ x₀ x₁ fits₀ fits₁ room₀ room₁ τ namesTy k dv (tt, (tt, (record { fits = room₂ }, tt))) (o .ptr .0) (o .ptr .1) (length (o .now)) room₃
             (mean 𝓤 H A Rest) (λ v. mean 𝓤 H A (Told v)) End (λ u w. via 𝓤 (Known 𝓤 H A s .pre (to u w)) (asks u w) (known (to u w))) ends)
 
     pub filled-meets : (𝓣 : Tables 𝓤 H) → Triple 𝓤 (𝓣 .C #load) (Load 𝓤 H A mem run) → Triple 𝓤 (𝓣 .C k) (Known 𝓤 H A s)
-        → Meets 𝓤 H A (lent .signature) (WpFn 𝓤 H (𝓣 .C) (𝓣 .Λ) (body-two τ namesTy bytesTy k)) (closing 𝓤 H A lent (lent-says 𝓤 g h))
+        → Meets 𝓤 H A (lent .signature) (WpFn 𝓤 H (𝓣 .C) (𝓣 .Λ) (body-mut τ namesTy k)) (closing 𝓤 H A lent (lent-says 𝓤 g h))
     filled-meets 𝓣 known-load known = walk-meets 𝓤 H A lent stayed W
         (goes-dropped 𝓤 H A W 4 places yes (λ κs x f. refl), (goes-dropped 𝓤 H A W 4 old yes (λ κs x f. refl), (goes-dropped 𝓤 H A W 4 places yes (λ κs x f. refl),
         (goes-dropped 𝓤 H A W 4 new yes (λ κs x f. refl), (goes-dropped 𝓤 H A W 4 names yes (λ κs x f. refl), (goes-gave-slice 𝓤 H A W 4 3 tt (plain (λ _. u8)), tt))))))
-        (lent-says 𝓤 g h) (WpFn 𝓤 H (𝓣 .C) (𝓣 .Λ) (body-two τ namesTy bytesTy k)) (WpFn-mono 𝓤 H (W .laws) 𝓣 (body-two τ namesTy bytesTy k))
-        (walked 𝓤 H A lent stayed (lent-says 𝓤 g h) (WpFn 𝓤 H (𝓣 .C) (𝓣 .Λ) (body-two τ namesTy bytesTy k))
+        (lent-says 𝓤 g h) (WpFn 𝓤 H (𝓣 .C) (𝓣 .Λ) (body-mut τ namesTy k)) (WpFn-mono 𝓤 H (W .laws) 𝓣 (body-mut τ namesTy k))
+        (walked 𝓤 H A lent stayed (lent-says 𝓤 g h) (WpFn 𝓤 H (𝓣 .C) (𝓣 .Λ) (body-mut τ namesTy k))
         (λ κs. (uint-vals w64, (slice-vals, (uint-vals w64, (slice-vals, (slice-vals, (slice-vals, tt)))))))
         (λ κs. (uint-tells w64, (shr-slice-tells (named 0) (κs .0) St.the-row, (uint-tells w64, (shr-slice-tells (named 1) (κs .1 .0) St.the-row, (shr-slice-tells (named 2) (κs .1 .1 .0) u32, (mut-slice-tells (named 3) (κs .1 .1 .1 .0) u8, tt)))))))
         (λ κs qs bounds a e are. via 𝓤 _ (fst∗ 𝓤 _ (emp 𝓤)) (walk (κs .0) (κs .1 .0) (κs .1 .1 .0) (κs .1 .1 .1 .0) (qs .0) (qs .1 .0) (qs .1 .1 .0) (qs .1 .1 .1 .0) (a .0) (a .1 .1 .0) (a .1 .0) (a .1 .1 .1 .0) (a .1 .1 .1 .1 .0) (a .1 .1 .1 .1 .1 .0)

@@ -1,11 +1,18 @@
 // The operations over lent lists of step records: each loads both lists and calls the operation over routes by value.
+use fit::Judged;
+use fit::Tried;
 use job::Ran;
 use records::load;
 use route::Step;
 use slice::Sliced;
+use writing::Wrote;
 ghost use mathlib.Core.Path.{_≡_};
+ghost use lib.ListN.{length};
 ghost use Rattle.job.specs.Run.{ran};
 ghost use Rattle.slice.specs.Table.{sliced};
+ghost use Rattle.fit.specs.Try.{tried};
+ghost use Rattle.fit.specs.Judge.{judged, workAfter};
+ghost use Rattle.writing.specs.Writes.{wrote, outAfter};
 ghost use Rattle.lent.specs.Lent.{lentJob};
 
 pub fn run(old_places: u64, old: &[Step], new_places: u64, new: &[Step], done: &[u32]) -> Ran
@@ -14,4 +21,38 @@ pub fn run(old_places: u64, old: &[Step], new_places: u64, new: &[Step], done: &
     let a = load(old_places, old);
     let b = load(new_places, new);
     job::runs::run(a, b, done)
+}
+
+pub fn slice(old_places: u64, old: &[Step], new_places: u64, new: &[Step], done: &[u32]) -> Sliced
+    ensures { λ r. ⌜ r ≡ sliced (lentJob «old_places» (now (old .entry)) «new_places» (now (new .entry)) (now (done .entry))) ⌝ }
+{
+    let a = load(old_places, old);
+    let b = load(new_places, new);
+    slice::slicing::slice(a, b, done)
+}
+
+pub fn try_order(old_places: u64, old: &[Step], new_places: u64, new: &[Step], done: &[u32], order: &[u8]) -> Tried
+    ensures { λ r. ⌜ r ≡ tried (lentJob «old_places» (now (old .entry)) «new_places» (now (new .entry)) (now (done .entry))) (now (order .entry)) ⌝ }
+{
+    let a = load(old_places, old);
+    let b = load(new_places, new);
+    fit::trying::try_order(a, b, done, order)
+}
+
+pub fn judge(old_places: u64, old: &[Step], new_places: u64, new: &[Step], done: &[u32], work: &mut [u8]) -> Judged
+    ensures { λ r. ⌜ (r ≡ judged (lentJob «old_places» (now (old .entry)) «new_places» (now (new .entry)) (now (done .entry))) (length (now (work .entry))))
+        × (now (work .exit) ≡ workAfter (lentJob «old_places» (now (old .entry)) «new_places» (now (new .entry)) (now (done .entry))) (now (work .entry))) ⌝ }
+{
+    let a = load(old_places, old);
+    let b = load(new_places, new);
+    fit::judging::judge(a, b, done, work)
+}
+
+pub fn write(old_places: u64, old: &[Step], new_places: u64, new: &[Step], done: &[u32], out: &mut [u8]) -> Wrote
+    ensures { λ r. ⌜ (r ≡ wrote (lentJob «old_places» (now (old .entry)) «new_places» (now (new .entry)) (now (done .entry))) (length (now (out .entry))))
+        × (now (out .exit) ≡ outAfter (lentJob «old_places» (now (old .entry)) «new_places» (now (new .entry)) (now (done .entry))) (now (out .entry))) ⌝ }
+{
+    let a = load(old_places, old);
+    let b = load(new_places, new);
+    writing::writes::write(a, b, done, out)
 }
