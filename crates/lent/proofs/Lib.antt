@@ -5,3 +5,4 @@ pub mod Same
 pub mod Loads
 pub mod One
 pub mod Filled
+pub mod Ordered
