@@ -1,2 +1,3 @@
--- What a loop that copies records has copied after each turn.
+-- What the walks over lent lists use: what a loop that copies has copied after each turn, and the machine values of records.
 pub mod Copied
+pub mod Record

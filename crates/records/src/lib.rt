@@ -2,7 +2,9 @@
 use route::Route;
 use route::Step;
 ghost use mathlib.Core.Path.{_≡_};
-ghost use Rattle.records.specs.Loaded.{loaded};
+ghost use Prim.Native.Nat.{_≤_};
+ghost use lib.ListN.{length};
+ghost use Rattle.records.specs.Loaded.{loaded, laid};
 
 // A lent list as a route by value.
 pub fn load(places: u64, steps: &[Step]) -> Route
@@ -29,5 +31,17 @@ pub fn load(places: u64, steps: &[Step]) -> Route
         places,
         len,
         steps: copied,
+    }
+}
+
+// The first n records into a lent list.
+pub fn fill(out: &mut [Step], n: usize, steps: [Step; 64])
+    requires { ⌜ (n ≤ 64) × (n ≤ length (now out)) ⌝ }
+    ensures { λ _. ⌜ now (out .exit) ≡ laid n steps (now (out .entry)) ⌝ }
+{
+    let mut i = 0;
+    while i < n {
+        out[i] = steps[i];
+        i += 1;
     }
 }
