@@ -6,3 +6,4 @@ pub mod Loads
 pub mod One
 pub mod Filled
 pub mod Ordered
+pub mod Counting

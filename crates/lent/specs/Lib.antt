@@ -1,2 +1,3 @@
 -- Jobs whose routes are lent lists of step records.
 pub mod Lent
+pub mod Reading

@@ -1,3 +1,4 @@
 -- What the walks over lent lists use: what a loop that copies has copied after each turn, and the machine values of records.
+pub mod Laid
 pub mod Copied
 pub mod Record

@@ -10,6 +10,6 @@ use Rattle.route.specs.declared.Route.{Route}
 unfoldable pub loaded : ℕ → List Step → Route
 loaded places l = record { places = places; len = length l; steps = take 64 l ++ replicate (64 - length l) blank }
 
--- the first n records of l, and then what stood there: "Entries of a lent slice past those filled keep their contents"
-unfoldable pub laid : ℕ → List Step → List Step → List Step
+-- the first n entries of l, and then what stood there: "Entries of a lent slice past those filled keep their contents"
+unfoldable pub laid : {X : Type 0} → ℕ → List X → List X → List X
 laid n l out = take n l ++ drop n out

@@ -180,7 +180,7 @@ module _ {M : Type 1} (𝓤 : URA M) (H : Heap 𝓤) (A : Atoms 𝓤) (W : Given
 
     -- the turn that leaves the loop, and the rest of the body
     ends : (X : SProp 𝓤) → ent 𝓤 (⋆ 𝓤 H A (At n)) (Wp 𝓤 H C Λ En body.turn-1 (afterTurn 𝓤 H X Left))
-    unfolding afterTurn partOf laid
+    unfolding afterTurn partOf
     ends X =
         qed W (At n) ∵ exec ! C Λ En body.turn-1 (anyQ (afterTurn 𝓤 H X Left)) $
         assigns ! (bin ! (load ! (from ! (stop !)) (look ! 2 refl)) (load ! (from ! (stop !)) (look ! 11 refl)) tt) (from ! (stop !)) (init ! 3 refl (tt, tt)) $

@@ -1,0 +1,40 @@
+-- What reading into lent lists answers.
+use mathlib.Core.Bool.{cond}
+use mathlib.Core.List.{[], _∷_}
+use Prim.Native.Nat.{ℕ}
+use lib.Dec.{eqb, leb}
+use Rattle.route.specs.Rows.{refuse, unless, first}
+use Rattle.route.specs.declared.Outcome.{Outcome}
+use Rattle.sheet.specs.declared.Sheet.{Sheet}
+use Rattle.lent.specs.declared.Counts.{Counts}
+
+-- "15: a lent list too short; old, new, done in turn", with the length needed, after the rows of reading. The numbers are the lists' lengths
+unfoldable pub readRow : Sheet → ℕ → ℕ → ℕ → Outcome
+readRow s old new done =
+    first
+    (refuse (s .number) (s .second)
+    ∷ unless (leb (s .old .len) old) 15 (s .old .len)
+    ∷ unless (leb (s .new .len) new) 15 (s .new .len)
+    ∷ unless (leb (s .«done_len») done) 15 (s .«done_len»)
+    ∷ [])
+
+-- a refusal: its number and second number, all else 0
+abbrev pub noCounts : ℕ → ℕ → Counts
+noCounts n k = record { number = n; second = k; «old_places» = 0; «old_len» = 0; «new_places» = 0; «new_len» = 0; «done_len» = 0 }
+
+unfoldable pub counts : Sheet → Outcome → Counts
+counts s o =
+    cond (eqb (o .number) 0)
+    (record {
+      number = 0;
+      second = 0;
+      «old_places» = s .old .places;
+      «old_len» = s .old .len;
+      «new_places» = s .new .places;
+      «new_len» = s .new .len;
+      «done_len» = s .«done_len»;
+    })
+    (noCounts (o .number) (o .second))
+
+unfoldable pub counted : Sheet → ℕ → ℕ → ℕ → Counts
+counted s old new done = counts s (readRow s old new done)

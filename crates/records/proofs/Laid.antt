@@ -1,0 +1,26 @@
+-- Entries laid over a list one by one.
+use mathlib.Core.Path.{_≡_, refl, sym, ap, _∙_}
+use mathlib.Core.List.{List, [], _∷_, _++_}
+use Prim.Native.Nat.{ℕ, zero, suc, _+_, _≤_, _<_}
+use native.Mathlib.Omega.{arith}
+use native.Mathlib.Numerals.{add-one}
+use lib.ListN.{length, take, drop, getD, set, length-append, length-drop}
+use lib.Seq.{take-suc, length-take-le, set-at, append-snoc, drop-cons}
+use Rattle.records.specs.Loaded.{laid}
+
+pub laid-none : {X : Type 0} (l a : List X) → laid 0 l a ≡ a
+unfolding laid
+laid-none l a = refl
+
+pub laid-more : {X : Type 0} (d : X) (l a : List X) (i : ℕ) → i < length l → i < length a → set (laid i l a) i (getD l i d) ≡ laid (i + 1) l a
+unfolding laid
+laid-more {X} d l a i h k =
+    ap (λ (x : List X). set (take i l ++ x) i (getD l i d)) (drop-cons a i d k)
+    ∙ set-at (take i l) (getD a i d) (drop (suc i) a) (getD l i d) i (length-take-le i l (omega arith))
+    ∙ sym (append-snoc (take i l) (getD l i d) (drop (suc i) a))
+    ∙ ap (λ (x : List X). x ++ drop (suc i) a) (sym (take-suc l i d h))
+    ∙ ap (λ (n : ℕ). take n l ++ drop n a) (sym (add-one i))
+
+pub length-laid : {X : Type 0} (l a : List X) (i : ℕ) → i ≤ length l → i ≤ length a → length (laid i l a) ≡ length a
+unfolding laid
+length-laid l a i h k = length-append (take i l) (drop i a) ∙ omega (arith, length-take-le i l h, length-drop i a)
