@@ -1,9 +1,14 @@
--- What `count` answers on each of its ways, by the tests that it made.
-use mathlib.Core.Path.{_≡_}
+-- What `count` answers on each of its ways, by the tests that it made; and that its lengths fit.
+use mathlib.Core.Path.{_≡_, refl}
+use mathlib.Core.Bool.{Bool, true, false, cond}
 use Prim.Native.Nat.{ℕ, _≤_, _<_}
-use borrow.Author.Tests.{lt-leb, le-leb, eq-eqb, ne-eqb}
+use native.Mathlib.Omega.{arith}
+use lib.Dec.{eqb, leb}
+use borrow.Author.Tests.{lt-leb, le-leb, eq-eqb, ne-eqb, leb-true}
 use Rattle.route.specs.Rows.{unless, first}
+use Rattle.route.proofs.RowList.{head-passed, row-passed}
 use Rattle.sheet.specs.declared.Sheet.{Sheet}
+use Rattle.sheet.proofs.Counts.{Few}
 use Rattle.lent.specs.declared.Counts.{Counts}
 use Rattle.lent.specs.Reading.{readRow, noCounts, counts, counted}
 
@@ -29,3 +34,23 @@ module _ (s : Sheet) (a b d : ℕ) where
         → record { number = 0; second = 0; «old_places» = s .old .places; «old_len» = s .old .len; «new_places» = s .new .places; «new_len» = s .new .len; «done_len» = s .«done_len» } ≡ counted s a b d
     unfolding counted counts readRow first unless
     count-all h h′ h″ = rw (eq-eqb (s .number) 0 t, le-leb (s .old .len) a h, le-leb (s .new .len) b h′, le-leb (s .«done_len») d h″)
+
+-- what is counted fits the lists, and the arrays that it comes from
+pub record Fits (k : Counts) (a b d : ℕ) : Type 0 where
+  pub old : (k .«old_len» ≤ 64) × (k .«old_len» ≤ a)
+  pub new : (k .«new_len» ≤ 64) × (k .«new_len» ≤ b)
+  pub done : (k .«done_len» ≤ 64) × (k .«done_len» ≤ d)
+
+pub counted-fits : (s : Sheet) (a b d : ℕ) → Few s → Fits (counted s a b d) a b d
+unfolding counted counts readRow
+counted-fits s a b d few = go (eqb (readRow s a b d .number) 0) refl
+  where
+    go : (t : Bool) → eqb (readRow s a b d .number) 0 ≡ t
+        → Fits (cond t (record { number = 0; second = 0; «old_places» = s .old .places; «old_len» = s .old .len; «new_places» = s .new .places; «new_len» = s .new .len; «done_len» = s .«done_len» })
+        (noCounts (readRow s a b d .number) (readRow s a b d .second))) a b d
+    go true e =
+        let at-old = row-passed (leb (s .old .len) a) 15 (s .old .len) _ refl (head-passed _ _ e .1) in
+        let at-new = row-passed (leb (s .new .len) b) 15 (s .new .len) _ refl (at-old .1) in
+        let at-done = row-passed (leb (s .«done_len») d) 15 (s .«done_len») _ refl (at-new .1) in
+        record { old = (few .old, leb-true _ _ (at-old .0)); new = (few .new, leb-true _ _ (at-new .0)); done = (few .done, leb-true _ _ (at-done .0)) }
+    go false e = record { old = (omega arith, omega arith); new = (omega arith, omega arith); done = (omega arith, omega arith) }

@@ -7,3 +7,4 @@ pub mod One
 pub mod Filled
 pub mod Ordered
 pub mod Counting
+pub mod Lays
