@@ -8,3 +8,4 @@ pub mod Filled
 pub mod Ordered
 pub mod Counting
 pub mod Lays
+pub mod Taken

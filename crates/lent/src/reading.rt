@@ -66,10 +66,10 @@ fn put(out: &mut [u32], n: usize, names: [u32; 64])
 }
 
 pub fn read(sheet: &[u8], old: &mut [Step], new: &mut [Step], done: &mut [u32]) -> Counts
-    ensures { λ r. ⌜ r ≡ counted (readOf (now (sheet .entry))) (length (now (old .entry))) (length (now (new .entry))) (length (now (done .entry))) ⌝ }
-    ensures { λ r. ⌜ now (old .exit) ≡ laid (r .«old_len») (readOf (now (sheet .entry)) .old .steps) (now (old .entry)) ⌝ }
-    ensures { λ r. ⌜ now (new .exit) ≡ laid (r .«new_len») (readOf (now (sheet .entry)) .new .steps) (now (new .entry)) ⌝ }
-    ensures { λ r. ⌜ now (done .exit) ≡ laid (r .«done_len») (readOf (now (sheet .entry)) .done) (now (done .entry)) ⌝ }
+    ensures { λ r. ⌜ (r ≡ counted (readOf (now (sheet .entry))) (length (now (old .entry))) (length (now (new .entry))) (length (now (done .entry))))
+        × ((now (old .exit) ≡ laid (r .«old_len») (readOf (now (sheet .entry)) .old .steps) (now (old .entry)))
+        × ((now (new .exit) ≡ laid (r .«new_len») (readOf (now (sheet .entry)) .new .steps) (now (new .entry)))
+        × (now (done .exit) ≡ laid (r .«done_len») (readOf (now (sheet .entry)) .done) (now (done .entry))))) ⌝ }
 {
     let s = sheet::reads::read(sheet);
     let c = count(s, old.len(), new.len(), done.len());
