@@ -176,9 +176,16 @@ module _ (R : RattleType) where
 
     pub filled-meets : (𝓣 : Tables 𝓤 H) → Triple 𝓤 (𝓣 .C #load) (Load 𝓤 H A mem run) → Triple 𝓤 (𝓣 .C k) (Known 𝓤 H A s)
         → Meets 𝓤 H A (lent .signature) (WpFn 𝓤 H (𝓣 .C) (𝓣 .Λ) (body-mut τ namesTy k)) (closing 𝓤 H A lent (lent-says 𝓤 g h))
-    filled-meets 𝓣 known-load known = walk-meets 𝓤 H A lent stayed W
-        (goes-dropped 𝓤 H A W 4 places yes (λ κs x f. refl), (goes-dropped 𝓤 H A W 4 old yes (λ κs x f. refl), (goes-dropped 𝓤 H A W 4 places yes (λ κs x f. refl),
-        (goes-dropped 𝓤 H A W 4 new yes (λ κs x f. refl), (goes-dropped 𝓤 H A W 4 names yes (λ κs x f. refl), (goes-gave-slice 𝓤 H A W 4 3 tt (plain (λ _. u8)), tt))))))
+    filled-meets 𝓣 known-load known = walk-meets 𝓤 H A lent stayed W (
+      goes-dropped 𝓤 H A W 4 places yes (λ κs x f. refl),
+      (
+        goes-dropped 𝓤 H A W 4 old yes (λ κs x f. refl),
+        (
+          goes-dropped 𝓤 H A W 4 places yes (λ κs x f. refl),
+          (goes-dropped 𝓤 H A W 4 new yes (λ κs x f. refl), (goes-dropped 𝓤 H A W 4 names yes (λ κs x f. refl), (goes-gave-slice 𝓤 H A W 4 3 tt (plain (λ _. u8)), tt))),
+        ),
+      ),
+    )
         (lent-says 𝓤 g h) (WpFn 𝓤 H (𝓣 .C) (𝓣 .Λ) (body-mut τ namesTy k)) (WpFn-mono 𝓤 H (W .laws) 𝓣 (body-mut τ namesTy k))
         (walked 𝓤 H A lent stayed (lent-says 𝓤 g h) (WpFn 𝓤 H (𝓣 .C) (𝓣 .Λ) (body-mut τ namesTy k))
         (λ κs. (uint-vals w64, (slice-vals, (uint-vals w64, (slice-vals, (slice-vals, (slice-vals, tt)))))))

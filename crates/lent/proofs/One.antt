@@ -158,9 +158,16 @@ module _ (R : RattleType) where
 
     pub one-meets : (𝓣 : Tables 𝓤 H) → Triple 𝓤 (𝓣 .C #load) (Load 𝓤 H A mem run) → Triple 𝓤 (𝓣 .C k) (Known 𝓤 H A f)
         → Meets 𝓤 H A (lent .signature) (WpFn 𝓤 H (𝓣 .C) (𝓣 .Λ) (body-one τ namesTy k)) (closing 𝓤 H A lent (lent-says 𝓤 g))
-    one-meets 𝓣 known-load known = walk-meets 𝓤 H A lent stayed W
-        (goes-dropped 𝓤 H A W 3 places yes (λ κs x f. refl), (goes-dropped 𝓤 H A W 3 old yes (λ κs x f. refl), (goes-dropped 𝓤 H A W 3 places yes (λ κs x f. refl),
-        (goes-dropped 𝓤 H A W 3 new yes (λ κs x f. refl), (goes-dropped 𝓤 H A W 3 names yes (λ κs x f. refl), tt)))))
+    one-meets 𝓣 known-load known = walk-meets 𝓤 H A lent stayed W (
+      goes-dropped 𝓤 H A W 3 places yes (λ κs x f. refl),
+      (
+        goes-dropped 𝓤 H A W 3 old yes (λ κs x f. refl),
+        (
+          goes-dropped 𝓤 H A W 3 places yes (λ κs x f. refl),
+          (goes-dropped 𝓤 H A W 3 new yes (λ κs x f. refl), (goes-dropped 𝓤 H A W 3 names yes (λ κs x f. refl), tt)),
+        ),
+      ),
+    )
         (lent-says 𝓤 g) (WpFn 𝓤 H (𝓣 .C) (𝓣 .Λ) (body-one τ namesTy k)) (WpFn-mono 𝓤 H (W .laws) 𝓣 (body-one τ namesTy k))
         (walked 𝓤 H A lent stayed (lent-says 𝓤 g) (WpFn 𝓤 H (𝓣 .C) (𝓣 .Λ) (body-one τ namesTy k))
         (λ κs. (uint-vals w64, (slice-vals, (uint-vals w64, (slice-vals, (slice-vals, tt))))))

@@ -170,9 +170,16 @@ module _ (R : RattleType) where
 
     pub ordered-meets : (𝓣 : Tables 𝓤 H) → Triple 𝓤 (𝓣 .C #load) (Load 𝓤 H A mem run) → Triple 𝓤 (𝓣 .C k) (Known 𝓤 H A f)
         → Meets 𝓤 H A (lent .signature) (WpFn 𝓤 H (𝓣 .C) (𝓣 .Λ) (body-two τ namesTy orderTy k)) (closing 𝓤 H A lent (lent-says 𝓤 g))
-    ordered-meets 𝓣 known-load known = walk-meets 𝓤 H A lent stayed W
-        (goes-dropped 𝓤 H A W 4 places yes (λ κs x f. refl), (goes-dropped 𝓤 H A W 4 old yes (λ κs x f. refl), (goes-dropped 𝓤 H A W 4 places yes (λ κs x f. refl),
-        (goes-dropped 𝓤 H A W 4 new yes (λ κs x f. refl), (goes-dropped 𝓤 H A W 4 names yes (λ κs x f. refl), (goes-dropped 𝓤 H A W 4 order yes (λ κs x f. refl), tt))))))
+    ordered-meets 𝓣 known-load known = walk-meets 𝓤 H A lent stayed W (
+      goes-dropped 𝓤 H A W 4 places yes (λ κs x f. refl),
+      (
+        goes-dropped 𝓤 H A W 4 old yes (λ κs x f. refl),
+        (
+          goes-dropped 𝓤 H A W 4 places yes (λ κs x f. refl),
+          (goes-dropped 𝓤 H A W 4 new yes (λ κs x f. refl), (goes-dropped 𝓤 H A W 4 names yes (λ κs x f. refl), (goes-dropped 𝓤 H A W 4 order yes (λ κs x f. refl), tt))),
+        ),
+      ),
+    )
         (lent-says 𝓤 g) (WpFn 𝓤 H (𝓣 .C) (𝓣 .Λ) (body-two τ namesTy orderTy k)) (WpFn-mono 𝓤 H (W .laws) 𝓣 (body-two τ namesTy orderTy k))
         (walked 𝓤 H A lent stayed (lent-says 𝓤 g) (WpFn 𝓤 H (𝓣 .C) (𝓣 .Λ) (body-two τ namesTy orderTy k))
         (λ κs. (uint-vals w64, (slice-vals, (uint-vals w64, (slice-vals, (slice-vals, (slice-vals, tt)))))))

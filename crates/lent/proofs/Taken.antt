@@ -28,10 +28,13 @@ back f g into h (x ∷ xs) (u ∷ us) s = (h x (u ∷ []) (s .0), back f g into 
 
 pub route-steps : (r : Route) (vs : List Val) → Is Ro.the-row r vs → Is (Array St.the-row 64) (r .steps) (arrayVal (map St′.lowered (r .steps)) ∷ [])
 route-steps r vs is =
-    let held = is .1 .1 .1 .1 .0 in
-    (held .0,
-     ((ap (λ (us : List Val). arrayVal us ∷ []) (sym (LL.each-low St.the-field St′.the-field-laws (r .steps) (held .0) (held .1 .1))), sym (length-map (r .steps) (St.the-field .into)) ∙ held .1 .0 .1),
-      back _ (St.the-row .own) (St.the-field .into) (λ x us s. s) (r .steps) (held .0) (held .1 .1)))
+    let held = is .1 .1 .1 .1 .0 in (
+      held .0,
+      (
+        (ap (λ (us : List Val). arrayVal us ∷ []) (sym (LL.each-low St.the-field St′.the-field-laws (r .steps) (held .0) (held .1 .1))), sym (length-map (r .steps) (St.the-field .into)) ∙ held .1 .0 .1),
+        back _ (St.the-row .own) (St.the-field .into) (λ x us s. s) (r .steps) (held .0) (held .1 .1),
+      ),
+    )
 
 module _ (s : Sheet) (vs : List Val) (is : Is Sh.the-row s vs) where
   pub old-steps : Is (Array St.the-row 64) (s .old .steps) (arrayVal (map St′.lowered (s .old .steps)) ∷ [])
@@ -42,7 +45,10 @@ module _ (s : Sheet) (vs : List Val) (is : Is Sh.the-row s vs) where
 
   pub done-names : Is (Array u32 64) (s .done) (arrayVal (map (λ n. vint w32 n) (s .done)) ∷ [])
   done-names =
-      let held = is .1 .1 .1 .1 .1 .1 .1 .0 in
-      (held .0,
-       ((ap (λ (us : List Val). arrayVal us ∷ []) (sym (LL.each-low u32-field LL.u32-laws (s .done) (held .0) (held .1 .1))), sym (length-map (s .done) (u32-field .into)) ∙ held .1 .0 .1),
-        back _ (u32 .own) (u32-field .into) (λ x us e. e) (s .done) (held .0) (held .1 .1)))
+      let held = is .1 .1 .1 .1 .1 .1 .1 .0 in (
+        held .0,
+        (
+          (ap (λ (us : List Val). arrayVal us ∷ []) (sym (LL.each-low u32-field LL.u32-laws (s .done) (held .0) (held .1 .1))), sym (length-map (s .done) (u32-field .into)) ∙ held .1 .0 .1),
+          back _ (u32 .own) (u32-field .into) (λ x us e. e) (s .done) (held .0) (held .1 .1),
+        ),
+      )

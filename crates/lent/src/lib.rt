@@ -44,7 +44,14 @@ pub fn slice(old_places: u64, old: &[Step], new_places: u64, new: &[Step], done:
     slice::slicing::slice(a, b, done)
 }
 
-pub fn try_order(old_places: u64, old: &[Step], new_places: u64, new: &[Step], done: &[u32], order: &[u8]) -> Tried
+pub fn try_order(
+    old_places: u64,
+    old: &[Step],
+    new_places: u64,
+    new: &[Step],
+    done: &[u32],
+    order: &[u8],
+) -> Tried
     ensures { λ r. ⌜ r ≡ tried (lentJob «old_places» (now (old .entry)) «new_places» (now (new .entry)) (now (done .entry))) (now (order .entry)) ⌝ }
 {
     let a = load(old_places, old);
@@ -52,7 +59,14 @@ pub fn try_order(old_places: u64, old: &[Step], new_places: u64, new: &[Step], d
     fit::trying::try_order(a, b, done, order)
 }
 
-pub fn judge(old_places: u64, old: &[Step], new_places: u64, new: &[Step], done: &[u32], work: &mut [u8]) -> Judged
+pub fn judge(
+    old_places: u64,
+    old: &[Step],
+    new_places: u64,
+    new: &[Step],
+    done: &[u32],
+    work: &mut [u8],
+) -> Judged
     ensures { λ r. ⌜ (r ≡ judged (lentJob «old_places» (now (old .entry)) «new_places» (now (new .entry)) (now (done .entry))) (length (now (work .entry))))
         × (now (work .exit) ≡ workAfter (lentJob «old_places» (now (old .entry)) «new_places» (now (new .entry)) (now (done .entry))) (now (work .entry))) ⌝ }
 {
@@ -61,7 +75,14 @@ pub fn judge(old_places: u64, old: &[Step], new_places: u64, new: &[Step], done:
     fit::judging::judge(a, b, done, work)
 }
 
-pub fn write(old_places: u64, old: &[Step], new_places: u64, new: &[Step], done: &[u32], out: &mut [u8]) -> Wrote
+pub fn write(
+    old_places: u64,
+    old: &[Step],
+    new_places: u64,
+    new: &[Step],
+    done: &[u32],
+    out: &mut [u8],
+) -> Wrote
     ensures { λ r. ⌜ (r ≡ wrote (lentJob «old_places» (now (old .entry)) «new_places» (now (new .entry)) (now (done .entry))) (length (now (out .entry))))
         × (now (out .exit) ≡ outAfter (lentJob «old_places» (now (old .entry)) «new_places» (now (new .entry)) (now (done .entry))) (now (out .entry))) ⌝ }
 {

@@ -138,7 +138,7 @@ module _ {M : Type 1} (𝓤 : URA M) (H : Heap 𝓤) (A : Atoms 𝓤) (W : Given
       -- what no turn touches
       abbrev Frame : List (Item 𝓤)
       Frame = ‵ (fat fullShare slice l₂ 0 sv) ∷ ‵ (fat fullShare word l₅ 0 (vint w64 n)) ∷ ‵ (fat fullShare word l₄ 0 (vint w64 (length ys))) ∷ ‵ (fat fullShare word l₁ 0 (vint w64 p)) ∷ ‵ (froom Ro′.mir l₀ 0) ∷ ‵ (froom St′.mir l₇ 0) ∷ ‵ (froom tyBool l₈ 0) ∷ ‵ (froom records l₁₆ 0) ∷ ‵ (fobor κ q (arr-parts (shares S) (length ys) .part q′ ys b o)) ∷ ‵ Own
-        ∷ ‵ (fdies Ro′.mir l₀) ∷ ‵ (fdies word l₁) ∷ ‵ (fdies slice l₂) ∷ ‵ (fdies records l₃) ∷ ‵ (fdies word l₄) ∷ ‵ (fdies word l₅) ∷ ‵ (fdies word l₆) ∷ ‵ (fdies St′.mir l₇) ∷ ‵ (fdies tyBool l₈) ∷ ‵ (fdies tyBool l₉) ∷ ‵ (fdies word l₁₀) ∷ ‵ (fdies tyPtr l₁₁) ∷ ‵ (fdies St′.mir l₁₂) ∷ ‵ (fdies word l₁₃) ∷ ‵ (fdies tyPtr l₁₄) ∷ ‵ (fdies tyPtr l₁₅) ∷ ‵ (fdies records l₁₆) ∷ []
+          ∷ ‵ (fdies Ro′.mir l₀) ∷ ‵ (fdies word l₁) ∷ ‵ (fdies slice l₂) ∷ ‵ (fdies records l₃) ∷ ‵ (fdies word l₄) ∷ ‵ (fdies word l₅) ∷ ‵ (fdies word l₆) ∷ ‵ (fdies St′.mir l₇) ∷ ‵ (fdies tyBool l₈) ∷ ‵ (fdies tyBool l₉) ∷ ‵ (fdies word l₁₀) ∷ ‵ (fdies tyPtr l₁₁) ∷ ‵ (fdies St′.mir l₁₂) ∷ ‵ (fdies word l₁₃) ∷ ‵ (fdies tyPtr l₁₄) ∷ ‵ (fdies tyPtr l₁₅) ∷ ‵ (fdies records l₁₆) ∷ []
 
       -- i records are copied
       abbrev At : ℕ → List (Item 𝓤)

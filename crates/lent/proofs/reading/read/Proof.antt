@@ -186,33 +186,33 @@ module _ {M : Type 1} (𝓤 : URA M) (H : Heap 𝓤) (A : Atoms 𝓤) (W : Given
     steps : ent 𝓤 (⋆ 𝓤 H A Entered) (WpFn 𝓤 H C Λ function (sv ∷ listVal St.the-row x₁ ∷ listVal St.the-row x₂ ∷ listVal u32 x₃ ∷ []) End)
     steps =
         qed W Entered ∵ enter ! C Λ function (sv ∷ listVal St.the-row x₁ ∷ listVal St.the-row x₂ ∷ listVal u32 x₃ ∷ []) _ $
-          alloc1 ! (λ l₀. alloc1 ! (λ l₁. alloc1 ! (λ l₂. alloc1 ! (λ l₃. alloc1 ! (λ l₄. alloc1 ! (λ l₅. alloc1 ! (λ l₆. alloc1 ! (λ l₇. alloc1 ! (λ l₈. alloc1 ! (λ l₉. alloc1 ! (λ l₁₀. alloc1 ! (λ l₁₁. alloc1 ! (λ l₁₂. alloc1 ! (λ l₁₃. alloc1 ! (λ l₁₄. alloc1 ! (λ l₁₅. alloc1 ! (λ l₁₆. alloc0 ! $ params1 ! $
-          pass1 ! (init ! 30 refl (tt, (tt, (record { fits = room₀ }, tt)))) $ pass1 ! (init ! 28 refl (tt, (tt, (record { fits = room₁ }, tt)))) $ pass1 ! (init ! 26 refl (tt, (tt, (record { fits = room₂ }, tt)))) $ pass1 ! (init ! 24 refl (tt, (tt, (record { fits = room₃ }, tt)))) $ pass0 ! $
-          move ! (34 ∷ 35 ∷ []) $ use2 W (raw (Read 𝓤 H A mem run .pre to-read)) asks-read $
-          calls-at ! fm (Read 𝓤 H A mem run) known-read to-read (and-then ! (load ! (from ! (stop !)) (look ! 31 refl)) (no-more !)) (λ v. told-read ! tt v (λ is.
-          land ! (from ! (stop !)) (init ! 23 refl (LL.lawful Sh.the-type Sh′.the-laws 𝓤 H A W .typed s _ is .0)) $ rewrite ! 23 (λ (u : Val). ‵ (fat fullShare Sh′.mir l₅ 0 u)) (ap only (Sh′.lowers .val-is s _ is)) refl $
-          assigns ! (of-opd ! (load ! (from ! (fld ! refl (stop !))) (look-in ! 29 (sub ! 1 refl (whole !))))) (from ! (stop !)) (init ! 19 refl (tt, record { fits = room₁ })) $
-          assigns ! (of-opd ! (load ! (from ! (fld ! refl (stop !))) (look-in ! 27 (sub ! 1 refl (whole !))))) (from ! (stop !)) (init ! 17 refl (tt, record { fits = room₂ })) $
-          assigns ! (of-opd ! (load ! (from ! (fld ! refl (stop !))) (look-in ! 25 (sub ! 1 refl (whole !))))) (from ! (stop !)) (init ! 15 refl (tt, record { fits = room₃ })) $
-          use0 W (raw (Count 𝓤 H A mem run .pre to-count)) (asks-count (subst (Is Sh.the-row s) (Sh′.lowers .val-is s _ is) is)) $
-          calls-at ! fm (Count 𝓤 H A mem run) known-count to-count (and-then ! (load ! (from ! (stop !)) (look ! 24 refl)) (and-then ! (load ! (from ! (stop !)) (look ! 20 refl)) (and-then ! (load ! (from ! (stop !)) (look ! 18 refl)) (and-then ! (load ! (from ! (stop !)) (look ! 16 refl)) (no-more !))))) (λ v′. told-count ! tt v′ (λ is′.
-          land ! (from ! (stop !)) (init ! 21 refl (LL.lawful Ct.the-type Ct′.the-laws 𝓤 H A W .typed c _ is′ .0)) $ rewrite ! 21 (λ (u : Val). ‵ (fat fullShare Ct′.mir l₆ 0 u)) (ap only (Ct′.lowers .val-is c _ is′)) refl $
-          assigns ! (addr ! (from ! (fld ! refl (hop ! (look-in ! 29 (sub ! 0 refl (whole !))) (stop !))))) (from ! (stop !)) (init ! 11 refl (tt, tt)) $
-          assigns ! (agg ! (and-then ! (load ! (from ! (stop !)) (look ! 11 refl)) (and-then ! (load ! (from ! (fld ! refl (stop !))) (look-in ! 29 (sub ! 1 refl (whole !)))) (no-more !)))) (from ! (stop !)) (init ! 9 refl (tt, (tt, (record { fits = room₁ }, tt)))) $
-          move ! (35 ∷ 36 ∷ []) $ lays St.the-row 𝓤 H A W (LL.makes St.the-type St′.the-plain 𝓤 H A) C Λ fm #fill known-fill κ₁ q₁ x₁ (c .«old_len») (s .old .steps) _ (old-steps s _ is) (fits .old) (below (c .«old_len») (fits .old .0)) ! (and-then ! (load ! (from ! (stop !)) (look ! 10 refl)) (and-then ! (load ! (from ! (fld ! refl (stop !))) (look-in ! 22 (sub ! 3 refl (whole !)))) (and-then ! (load ! (from ! (fld ! refl (fld ! refl (stop !)))) (look-in ! 24 (sub ! 2 refl (sub ! 2 refl (whole !))))) (no-more !)))) (λ w₁ typed₁ z₁ e₁ n₁.
-          land ! (from ! (stop !)) (init ! 15 refl typed₁) $
-          assigns ! (addr ! (from ! (fld ! refl (hop ! (look-in ! 29 (sub ! 0 refl (whole !))) (stop !))))) (from ! (stop !)) (init ! 9 refl (tt, tt)) $
-          assigns ! (agg ! (and-then ! (load ! (from ! (stop !)) (look ! 9 refl)) (and-then ! (load ! (from ! (fld ! refl (stop !))) (look-in ! 29 (sub ! 1 refl (whole !)))) (no-more !)))) (from ! (stop !)) (init ! 7 refl (tt, (tt, (record { fits = room₂ }, tt)))) $
-          move ! (37 ∷ 38 ∷ []) $ lays St.the-row 𝓤 H A W (LL.makes St.the-type St′.the-plain 𝓤 H A) C Λ fm #fill known-fill κ₂ q₂ x₂ (c .«new_len») (s .new .steps) _ (new-steps s _ is) (fits .new) (below (c .«new_len») (fits .new .0)) ! (and-then ! (load ! (from ! (stop !)) (look ! 8 refl)) (and-then ! (load ! (from ! (fld ! refl (stop !))) (look-in ! 24 (sub ! 5 refl (whole !)))) (and-then ! (load ! (from ! (fld ! refl (fld ! refl (stop !)))) (look-in ! 26 (sub ! 2 refl (sub ! 3 refl (whole !))))) (no-more !)))) (λ w₂ typed₂ z₂ e₂ n₂.
-          land ! (from ! (stop !)) (store ! 17 refl typed₂) $
-          assigns ! (addr ! (from ! (fld ! refl (hop ! (look-in ! 29 (sub ! 0 refl (whole !))) (stop !))))) (from ! (stop !)) (init ! 7 refl (tt, tt)) $
-          assigns ! (agg ! (and-then ! (load ! (from ! (stop !)) (look ! 7 refl)) (and-then ! (load ! (from ! (fld ! refl (stop !))) (look-in ! 29 (sub ! 1 refl (whole !)))) (no-more !)))) (from ! (stop !)) (init ! 5 refl (tt, (tt, (record { fits = room₃ }, tt)))) $
-          move ! (39 ∷ 40 ∷ []) $ lays u32 𝓤 H A W (uint-makes 𝓤 H A W w32) C Λ fm #put known-put κ₃ q₃ x₃ (c .«done_len») (s .done) _ (done-names s _ is) (fits .done) (below (c .«done_len») (fits .done .0)) ! (and-then ! (load ! (from ! (stop !)) (look ! 6 refl)) (and-then ! (load ! (from ! (fld ! refl (stop !))) (look-in ! 26 (sub ! 6 refl (whole !)))) (and-then ! (load ! (from ! (fld ! refl (stop !))) (look-in ! 28 (sub ! 5 refl (whole !)))) (no-more !)))) (λ w₃ typed₃ z₃ e₃ n₃.
-          land ! (from ! (stop !)) (store ! 19 refl typed₃) $
-          assigns ! (of-opd ! (load ! (from ! (stop !)) (look ! 27 refl))) (from ! (stop !)) (init ! 39 refl (LL.lawful Ct.the-type Ct′.the-laws 𝓤 H A W .typed c _ (subst (Is Ct.the-row c) (Ct′.lowers .val-is c _ is′) is′) .0)) $
-          returns ! (look ! 39 refl) $ forget ! 39 refl $ forget ! 37 refl $ forget ! 35 refl $ forget ! 33 refl $ forget ! 31 refl $ forget ! 29 refl $ forget ! 27 refl $ forget ! 25 refl $ forget ! 23 refl $ forget ! 21 refl $ forget ! 19 refl $ forget ! 17 refl $ forget ! 15 refl $ forget ! 13 refl $ forget ! 11 refl $ forget ! 9 refl $ forget ! 7 refl $
-          move ! (39 ∷ 40 ∷ []) $ free1 ! $ move ! (37 ∷ 38 ∷ []) $ free1 ! $ move ! (35 ∷ 36 ∷ []) $ free1 ! $ move ! (33 ∷ 34 ∷ []) $ free1 ! $ move ! (31 ∷ 32 ∷ []) $ free1 ! $ move ! (29 ∷ 30 ∷ []) $ free1 ! $ move ! (27 ∷ 28 ∷ []) $ free1 ! $ move ! (25 ∷ 26 ∷ []) $ free1 ! $ move ! (23 ∷ 24 ∷ []) $ free1 ! $ move ! (21 ∷ 22 ∷ []) $ free1 ! $ move ! (19 ∷ 20 ∷ []) $ free1 ! $ move ! (17 ∷ 18 ∷ []) $ free1 ! $ move ! (15 ∷ 16 ∷ []) $ free1 ! $ move ! (13 ∷ 14 ∷ []) $ free1 ! $ move ! (11 ∷ 12 ∷ []) $ free1 ! $ move ! (9 ∷ 10 ∷ []) $ free1 ! $ move ! (7 ∷ 8 ∷ []) $ free1 ! $ free0 ! $
-          keep ! (6 ∷ 5 ∷ 3 ∷ 1 ∷ 4 ∷ 2 ∷ 0 ∷ []) $ by ! (exits z₁ z₂ z₃ (refl, (e₁, (e₂, e₃))) n₁ n₂ n₃ (subst (Is Ct.the-row c) (Ct′.lowers .val-is c _ is′) is′))))))))))))))))))))))))))
+        alloc1 ! (λ l₀. alloc1 ! (λ l₁. alloc1 ! (λ l₂. alloc1 ! (λ l₃. alloc1 ! (λ l₄. alloc1 ! (λ l₅. alloc1 ! (λ l₆. alloc1 ! (λ l₇. alloc1 ! (λ l₈. alloc1 ! (λ l₉. alloc1 ! (λ l₁₀. alloc1 ! (λ l₁₁. alloc1 ! (λ l₁₂. alloc1 ! (λ l₁₃. alloc1 ! (λ l₁₄. alloc1 ! (λ l₁₅. alloc1 ! (λ l₁₆. alloc0 ! $ params1 ! $
+        pass1 ! (init ! 30 refl (tt, (tt, (record { fits = room₀ }, tt)))) $ pass1 ! (init ! 28 refl (tt, (tt, (record { fits = room₁ }, tt)))) $ pass1 ! (init ! 26 refl (tt, (tt, (record { fits = room₂ }, tt)))) $ pass1 ! (init ! 24 refl (tt, (tt, (record { fits = room₃ }, tt)))) $ pass0 ! $
+        move ! (34 ∷ 35 ∷ []) $ use2 W (raw (Read 𝓤 H A mem run .pre to-read)) asks-read $
+        calls-at ! fm (Read 𝓤 H A mem run) known-read to-read (and-then ! (load ! (from ! (stop !)) (look ! 31 refl)) (no-more !)) (λ v. told-read ! tt v (λ is.
+        land ! (from ! (stop !)) (init ! 23 refl (LL.lawful Sh.the-type Sh′.the-laws 𝓤 H A W .typed s _ is .0)) $ rewrite ! 23 (λ (u : Val). ‵ (fat fullShare Sh′.mir l₅ 0 u)) (ap only (Sh′.lowers .val-is s _ is)) refl $
+        assigns ! (of-opd ! (load ! (from ! (fld ! refl (stop !))) (look-in ! 29 (sub ! 1 refl (whole !))))) (from ! (stop !)) (init ! 19 refl (tt, record { fits = room₁ })) $
+        assigns ! (of-opd ! (load ! (from ! (fld ! refl (stop !))) (look-in ! 27 (sub ! 1 refl (whole !))))) (from ! (stop !)) (init ! 17 refl (tt, record { fits = room₂ })) $
+        assigns ! (of-opd ! (load ! (from ! (fld ! refl (stop !))) (look-in ! 25 (sub ! 1 refl (whole !))))) (from ! (stop !)) (init ! 15 refl (tt, record { fits = room₃ })) $
+        use0 W (raw (Count 𝓤 H A mem run .pre to-count)) (asks-count (subst (Is Sh.the-row s) (Sh′.lowers .val-is s _ is) is)) $
+        calls-at ! fm (Count 𝓤 H A mem run) known-count to-count (and-then ! (load ! (from ! (stop !)) (look ! 24 refl)) (and-then ! (load ! (from ! (stop !)) (look ! 20 refl)) (and-then ! (load ! (from ! (stop !)) (look ! 18 refl)) (and-then ! (load ! (from ! (stop !)) (look ! 16 refl)) (no-more !))))) (λ v′. told-count ! tt v′ (λ is′.
+        land ! (from ! (stop !)) (init ! 21 refl (LL.lawful Ct.the-type Ct′.the-laws 𝓤 H A W .typed c _ is′ .0)) $ rewrite ! 21 (λ (u : Val). ‵ (fat fullShare Ct′.mir l₆ 0 u)) (ap only (Ct′.lowers .val-is c _ is′)) refl $
+        assigns ! (addr ! (from ! (fld ! refl (hop ! (look-in ! 29 (sub ! 0 refl (whole !))) (stop !))))) (from ! (stop !)) (init ! 11 refl (tt, tt)) $
+        assigns ! (agg ! (and-then ! (load ! (from ! (stop !)) (look ! 11 refl)) (and-then ! (load ! (from ! (fld ! refl (stop !))) (look-in ! 29 (sub ! 1 refl (whole !)))) (no-more !)))) (from ! (stop !)) (init ! 9 refl (tt, (tt, (record { fits = room₁ }, tt)))) $
+        move ! (35 ∷ 36 ∷ []) $ lays St.the-row 𝓤 H A W (LL.makes St.the-type St′.the-plain 𝓤 H A) C Λ fm #fill known-fill κ₁ q₁ x₁ (c .«old_len») (s .old .steps) _ (old-steps s _ is) (fits .old) (below (c .«old_len») (fits .old .0)) ! (and-then ! (load ! (from ! (stop !)) (look ! 10 refl)) (and-then ! (load ! (from ! (fld ! refl (stop !))) (look-in ! 22 (sub ! 3 refl (whole !)))) (and-then ! (load ! (from ! (fld ! refl (fld ! refl (stop !)))) (look-in ! 24 (sub ! 2 refl (sub ! 2 refl (whole !))))) (no-more !)))) (λ w₁ typed₁ z₁ e₁ n₁.
+        land ! (from ! (stop !)) (init ! 15 refl typed₁) $
+        assigns ! (addr ! (from ! (fld ! refl (hop ! (look-in ! 29 (sub ! 0 refl (whole !))) (stop !))))) (from ! (stop !)) (init ! 9 refl (tt, tt)) $
+        assigns ! (agg ! (and-then ! (load ! (from ! (stop !)) (look ! 9 refl)) (and-then ! (load ! (from ! (fld ! refl (stop !))) (look-in ! 29 (sub ! 1 refl (whole !)))) (no-more !)))) (from ! (stop !)) (init ! 7 refl (tt, (tt, (record { fits = room₂ }, tt)))) $
+        move ! (37 ∷ 38 ∷ []) $ lays St.the-row 𝓤 H A W (LL.makes St.the-type St′.the-plain 𝓤 H A) C Λ fm #fill known-fill κ₂ q₂ x₂ (c .«new_len») (s .new .steps) _ (new-steps s _ is) (fits .new) (below (c .«new_len») (fits .new .0)) ! (and-then ! (load ! (from ! (stop !)) (look ! 8 refl)) (and-then ! (load ! (from ! (fld ! refl (stop !))) (look-in ! 24 (sub ! 5 refl (whole !)))) (and-then ! (load ! (from ! (fld ! refl (fld ! refl (stop !)))) (look-in ! 26 (sub ! 2 refl (sub ! 3 refl (whole !))))) (no-more !)))) (λ w₂ typed₂ z₂ e₂ n₂.
+        land ! (from ! (stop !)) (store ! 17 refl typed₂) $
+        assigns ! (addr ! (from ! (fld ! refl (hop ! (look-in ! 29 (sub ! 0 refl (whole !))) (stop !))))) (from ! (stop !)) (init ! 7 refl (tt, tt)) $
+        assigns ! (agg ! (and-then ! (load ! (from ! (stop !)) (look ! 7 refl)) (and-then ! (load ! (from ! (fld ! refl (stop !))) (look-in ! 29 (sub ! 1 refl (whole !)))) (no-more !)))) (from ! (stop !)) (init ! 5 refl (tt, (tt, (record { fits = room₃ }, tt)))) $
+        move ! (39 ∷ 40 ∷ []) $ lays u32 𝓤 H A W (uint-makes 𝓤 H A W w32) C Λ fm #put known-put κ₃ q₃ x₃ (c .«done_len») (s .done) _ (done-names s _ is) (fits .done) (below (c .«done_len») (fits .done .0)) ! (and-then ! (load ! (from ! (stop !)) (look ! 6 refl)) (and-then ! (load ! (from ! (fld ! refl (stop !))) (look-in ! 26 (sub ! 6 refl (whole !)))) (and-then ! (load ! (from ! (fld ! refl (stop !))) (look-in ! 28 (sub ! 5 refl (whole !)))) (no-more !)))) (λ w₃ typed₃ z₃ e₃ n₃.
+        land ! (from ! (stop !)) (store ! 19 refl typed₃) $
+        assigns ! (of-opd ! (load ! (from ! (stop !)) (look ! 27 refl))) (from ! (stop !)) (init ! 39 refl (LL.lawful Ct.the-type Ct′.the-laws 𝓤 H A W .typed c _ (subst (Is Ct.the-row c) (Ct′.lowers .val-is c _ is′) is′) .0)) $
+        returns ! (look ! 39 refl) $ forget ! 39 refl $ forget ! 37 refl $ forget ! 35 refl $ forget ! 33 refl $ forget ! 31 refl $ forget ! 29 refl $ forget ! 27 refl $ forget ! 25 refl $ forget ! 23 refl $ forget ! 21 refl $ forget ! 19 refl $ forget ! 17 refl $ forget ! 15 refl $ forget ! 13 refl $ forget ! 11 refl $ forget ! 9 refl $ forget ! 7 refl $
+        move ! (39 ∷ 40 ∷ []) $ free1 ! $ move ! (37 ∷ 38 ∷ []) $ free1 ! $ move ! (35 ∷ 36 ∷ []) $ free1 ! $ move ! (33 ∷ 34 ∷ []) $ free1 ! $ move ! (31 ∷ 32 ∷ []) $ free1 ! $ move ! (29 ∷ 30 ∷ []) $ free1 ! $ move ! (27 ∷ 28 ∷ []) $ free1 ! $ move ! (25 ∷ 26 ∷ []) $ free1 ! $ move ! (23 ∷ 24 ∷ []) $ free1 ! $ move ! (21 ∷ 22 ∷ []) $ free1 ! $ move ! (19 ∷ 20 ∷ []) $ free1 ! $ move ! (17 ∷ 18 ∷ []) $ free1 ! $ move ! (15 ∷ 16 ∷ []) $ free1 ! $ move ! (13 ∷ 14 ∷ []) $ free1 ! $ move ! (11 ∷ 12 ∷ []) $ free1 ! $ move ! (9 ∷ 10 ∷ []) $ free1 ! $ move ! (7 ∷ 8 ∷ []) $ free1 ! $ free0 ! $
+        keep ! (6 ∷ 5 ∷ 3 ∷ 1 ∷ 4 ∷ 2 ∷ 0 ∷ []) $ by ! (exits z₁ z₂ z₃ (refl, (e₁, (e₂, e₃))) n₁ n₂ n₃ (subst (Is Ct.the-row c) (Ct′.lowers .val-is c _ is′) is′))))))))))))))))))))))))))
 
     walk : ent 𝓤 (onEntry 𝓤 H A read.signature (bound .0 .0) (bound .0 .1) (bound .0 .3) (bound .0 .4)) (WpFn 𝓤 H C Λ function (sv ∷ listVal St.the-row x₁ ∷ listVal St.the-row x₂ ∷ listVal u32 x₃ ∷ []) End)
     walk =
