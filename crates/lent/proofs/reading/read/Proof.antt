@@ -45,6 +45,7 @@ use Rattle.route.proofs.Step.Laws as St′
 use Rattle.sheet.specs.Facts.{readOf}
 use Rattle.sheet.specs.declared.Sheet.{Sheet}
 use Rattle.sheet.proofs.Counts.{read-few}
+use Rattle.sheet.proofs.Dones.{read-dones}
 use Rattle.sheet.proofs.Sheet as Sh
 use Rattle.sheet.proofs.Sheet.Laws as Sh′
 use Rattle.sheet.proofs.reads.read as read-sheet
@@ -120,7 +121,7 @@ module _ {M : Type 1} (𝓤 : URA M) (H : Heap 𝓤) (A : Atoms 𝓤) (W : Given
   c = counted s (length (x₁ .now)) (length (x₂ .now)) (length (x₃ .now))
 
   fits : Fits c (length (x₁ .now)) (length (x₂ .now)) (length (x₃ .now))
-  fits = counted-fits s (length (x₁ .now)) (length (x₂ .now)) (length (x₃ .now)) (read-few (now x₀))
+  fits = counted-fits s (length (x₁ .now)) (length (x₂ .now)) (length (x₃ .now)) (read-few (now x₀)) (read-dones (now x₀))
 
   abbrev bound : walkOf 𝓤 H A read.ended stayed (read.clauses 𝓤 H A mem run) .Ghost
   bound = (((κ₀, (κ₁, (κ₂, (κ₃, tt)))), (q₀, (q₁, (q₂, (q₃, tt)))), tt, (x₀, (x₁, (x₂, (x₃, tt)))), (sv ∷ [], (listVal St.the-row x₁ ∷ [], (listVal St.the-row x₂ ∷ [], (listVal u32 x₃ ∷ [], tt))))), tt)
