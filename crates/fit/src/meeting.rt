@@ -30,13 +30,14 @@ pub fn meet(new: Route, u: Uses) -> Met
 {
     let column = new.names();
     let len = new.len;
+    let hint = route::steps::hints(&column[..len]);
     let mut known = 0u64;
     let mut same = 0u64;
     let mut ins = [0u64; 64];
     let mut outs = [0u64; 64];
     let mut i = 0;
     while i < u.len {
-        let Found::At(k) = route::steps::find(&column[..len], u.names[i]) else {
+        let Found::At(k) = route::steps::find_by(&hint[..256], &column[..len], u.names[i]) else {
             i += 1;
             continue;
         };

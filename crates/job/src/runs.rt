@@ -48,10 +48,11 @@ fn walk(old: Route, start: Marking, done: &[u32], line: u64) -> Ran
 {
     let column = old.names();
     let len = old.len;
+    let hint = route::steps::hints(&column[..len]);
     let mut m = start;
     let mut i = 0;
     while i < done.len() {
-        let Found::At(k) = route::steps::find(&column[..len], done[i]) else {
+        let Found::At(k) = route::steps::find_by(&hint[..256], &column[..len], done[i]) else {
             return stop(Outcome::refuse(8, line + i as u64));
         };
         let s = old.steps[k];

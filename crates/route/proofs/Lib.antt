@@ -3,5 +3,6 @@ pub mod Full
 pub mod StepList
 pub mod Lookup
 pub mod Column
+pub mod Hinted
 pub mod Toggle
 pub mod RowList

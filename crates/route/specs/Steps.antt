@@ -4,9 +4,9 @@ use mathlib.Core.Path.{_≡_}
 use mathlib.Core.Bool.{Bool, true, false, cond}
 use mathlib.Core.List.{List, [], _∷_, _++_, map}
 use mathlib.Core.Option.{Option, none, some}
-use Prim.Native.Nat.{ℕ, zero, suc, _-_}
+use Prim.Native.Nat.{ℕ, zero, suc, _-_, _%_, _≤_, _<_}
 use lib.Dec.{eqb}
-use lib.ListN.{length, take, replicate}
+use lib.ListN.{length, getD, take, replicate}
 use lib.Bits.{bitOr}
 use Rattle.route.specs.declared.Step.{Step}
 use Rattle.route.specs.declared.Route.{Route}
@@ -42,6 +42,11 @@ further Nothing = Nothing
 unfoldable pub position : ℕ → List ℕ → Found
 position n [] = Nothing
 position n (x ∷ l) = cond (eqb x n) (At 0) (further (position n l))
+
+-- hints for looking up among names: that of a name's last digit in base 256 is no further on than the name
+pub record Hints (column hint : List ℕ) : Type 0 where
+  pub low : (j : ℕ) → j < length column → getD hint (getD column j 0 % 256) 0 ≤ j
+  pub room : length hint ≡ 256
 
 -- the first step of that name
 unfoldable pub lookup : ℕ → List Step → Option Step

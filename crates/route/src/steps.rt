@@ -4,8 +4,8 @@ use crate::Route;
 use crate::Step;
 ghost use mathlib.Core.Path.{_≡_};
 ghost use Prim.Native.Nat.{_≤_};
-ghost use lib.ListN.{take};
-ghost use Rattle.route.specs.Steps.{noRoute, stepsOf, names, position};
+ghost use lib.ListN.{length, take};
+ghost use Rattle.route.specs.Steps.{noRoute, stepsOf, names, position, Hints};
 
 impl Route {
     pub const PLACES: u64 = 64;
@@ -59,4 +59,33 @@ pub fn find(column: &[u32], name: u32) -> Found
         i += 1;
     }
     Found::Nothing
+}
+
+// For each last digit in base 256 a place before which no name ends in it.
+pub fn hints(column: &[u32]) -> [u8; 256]
+    requires { ⌜ length (now column) ≤ 64 ⌝ }
+    ensures { λ r. ⌜ Hints (now (column .entry)) r ⌝ }
+{
+    let mut hint = [0u8; 256];
+    let mut i = column.len();
+    while 0 < i {
+        i -= 1;
+        hint[(column[i] % 256) as usize] = i as u8;
+    }
+    hint
+}
+
+// As `find`: where the hint is right, nothing is searched.
+pub fn find_by(hint: &[u8], column: &[u32], name: u32) -> Found
+    requires { ⌜ Hints (now column) (now hint) ⌝ }
+    ensures { λ r. ⌜ r ≡ position name (now (column .entry)) ⌝ }
+{
+    let k = hint[(name % 256) as usize] as usize;
+    if column.len() <= k {
+        return find(column, name);
+    }
+    if column[k] == name {
+        return Found::At(k);
+    }
+    find(column, name)
 }

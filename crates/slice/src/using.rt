@@ -31,12 +31,13 @@ pub fn uses_of(old: Route, done: &[u32]) -> Uses
 {
     let column = old.names();
     let len = old.len;
+    let hint = route::steps::hints(&column[..len]);
     let mut names = [0u32; 64];
     let mut reads = [0u32; 64];
     let mut writes = [0u32; 64];
     let mut i = 0;
     while i < done.len() {
-        let Found::At(k) = route::steps::find(&column[..len], done[i]) else {
+        let Found::At(k) = route::steps::find_by(&hint[..256], &column[..len], done[i]) else {
             names[i] = 0;
             reads[i] = 0;
             writes[i] = 0;

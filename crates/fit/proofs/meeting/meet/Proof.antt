@@ -19,31 +19,31 @@ use Rattle.fit.proofs.meeting.meet.Statement.{statement}
 use Rattle.fit.proofs.meeting.meet.Tie as tie
 
 abbrev Inv-loop : tie.InvT-loop
-Inv-loop new u column len known₀ same₀ ins₀ outs₀ i₀ known same ins outs i =
+Inv-loop new u column len hint known₀ same₀ ins₀ outs₀ i₀ known same ins outs i =
     (i ≤ u .len) × (((length ins ≡ 64) × (length outs ≡ 64)) × ((l : List Step) → UsesOf l u → Reached (stepsOf new) l i known same ins outs))
 
 abbrev μ-loop : tie.MeasureT-loop
-μ-loop new u column len known₀ same₀ ins₀ outs₀ i₀ known same ins outs i = u .len - i
+μ-loop new u column len hint known₀ same₀ ins₀ outs₀ i₀ known same ins outs i = u .len - i
 
 -- where a name is found: what stands there
 module _ (c : tie.After-known-told Inv-loop μ-loop) where
   abbrev at : tie.At-loop Inv-loop μ-loop
-  at = c .before .before .before .before .before .before .before
+  at = c .before .before .before .before .before .before .before .before
 
   abbrev new : Route
-  new = at .before .before .args .t1
+  new = at .before .before .before .before .args .t1
 
   abbrev uses : Uses
-  uses = at .before .before .args .t2
+  uses = at .before .before .before .before .args .t2
 
   abbrev k : ℕ
   k = c .before .k .given .0 .0
 
   k-below : k < new .len
-  k-below = found-below new (at .before .names .result) _ _ (at .before .names .ensures) (c .before .before .before .find .ensures) (full new _ (at .before .before .good .0)) k (c .before .k .given .1)
+  k-below = found-below new (at .before .before .before .names .result) _ _ (at .before .before .before .names .ensures) (c .before .before .before .find-by .ensures) (full new _ (at .before .before .before .before .good .0)) k (c .before .k .given .1)
 
   step-is : lookup (getD (uses .names) (at .loop .i) 0) (stepsOf new) ≡ some (getD (new .steps) k blank)
-  step-is = found-step new (at .before .names .result) _ _ (at .before .names .ensures) (c .before .before .before .find .ensures) (full new _ (at .before .before .good .0)) k (c .before .k .given .1) (omega arith)
+  step-is = found-step new (at .before .before .before .names .result) _ _ (at .before .before .before .names .ensures) (c .before .before .before .find-by .ensures) (full new _ (at .before .before .before .before .good .0)) k (c .before .k .given .1) (omega arith)
 
 names-requires : tie.Need-names-requires Inv-loop μ-loop
 names-requires c κs = search needs
@@ -54,19 +54,33 @@ loop-holds c = (omega arith, ((refl, refl), λ l is. reached-none _ l 64))
 array-share-prefix-column : tie.Need-array-share-prefix-column Inv-loop μ-loop
 array-share-prefix-column c = search needs
 
-slice-aggregate-find : tie.Need-slice-aggregate-find Inv-loop μ-loop
-slice-aggregate-find c =
-    let e = c .before .before .before in
+slice-aggregate-hints : tie.Need-slice-aggregate-hints Inv-loop μ-loop
+slice-aggregate-hints c =
+    let e = c .before in
     column-length (e .before .args .t1) (e .names .result) (full (e .before .args .t1) _ (e .before .good .0)) (e .names .ensures)
 
-mul-find : tie.Need-mul-find Inv-loop μ-loop
-mul-find c = search needs
+hints-requires : tie.Need-hints-requires Inv-loop μ-loop
+hints-requires c κs = omega (arith, slice-aggregate-hints c, c .before .before .pre .0)
 
-element-copy-out-find : tie.Need-element-copy-out-find Inv-loop μ-loop
-element-copy-out-find c = search needs
+slice-aggregate-find-by : tie.Need-slice-aggregate-find-by Inv-loop μ-loop
+slice-aggregate-find-by c = search needs
 
-find-requires : tie.Need-find-requires Inv-loop μ-loop
-find-requires c κs = search needs
+array-share-prefix-column-2 : tie.Need-array-share-prefix-column-2 Inv-loop μ-loop
+array-share-prefix-column-2 c = search needs
+
+slice-aggregate-find-by-2 : tie.Need-slice-aggregate-find-by-2 Inv-loop μ-loop
+slice-aggregate-find-by-2 c =
+    let e = c .before .before .before .before .before .before in
+    column-length (e .before .args .t1) (e .names .result) (full (e .before .args .t1) _ (e .before .good .0)) (e .names .ensures)
+
+mul-find-by : tie.Need-mul-find-by Inv-loop μ-loop
+mul-find-by c = search needs
+
+element-copy-out-find-by : tie.Need-element-copy-out-find-by Inv-loop μ-loop
+element-copy-out-find-by c = search needs
+
+find-by-requires : tie.Need-find-by-requires Inv-loop μ-loop
+find-by-requires c κs = c .before .before .before .before .before .hints .ensures
 
 enum-known-k : tie.Need-enum-known-k Inv-loop μ-loop
 enum-known-k c = search needs
@@ -83,9 +97,9 @@ loop-less c = search needs
 loop-again : tie.Need-loop-again Inv-loop μ-loop
 loop-again c =
     let f = c .before .before in
-    let l = f .before .before .before .before in
-    let a = l .before .before .args in
-    let gone = missed-step (a .t1) (l .before .names .result) _ _ (l .before .names .ensures) (f .find .ensures) (c .enum-told .given .1) in
+    let l = f .before .before .before .before .before in
+    let a = l .before .before .before .before .args in
+    let gone = missed-step (a .t1) (l .before .before .before .names .result) _ _ (l .before .before .before .names .ensures) (f .find-by .ensures) (c .enum-told .given .1) in
     (omega arith, (l .loop .inv .1 .0, λ x is. reached-missing _ x (a .t2) is _ _ _ _ _ (omega arith) (l .loop .inv .1 .1 x is) gone))
 
 mul-s : tie.Need-mul-s Inv-loop μ-loop
@@ -174,12 +188,16 @@ meet-spec =
     Inv-loop
     μ-loop
     names-requires
-    loop-holds
     array-share-prefix-column
-    slice-aggregate-find
-    mul-find
-    element-copy-out-find
-    find-requires
+    slice-aggregate-hints
+    hints-requires
+    loop-holds
+    slice-aggregate-find-by
+    array-share-prefix-column-2
+    slice-aggregate-find-by-2
+    mul-find-by
+    element-copy-out-find-by
+    find-by-requires
     enum-known-k
     enum-told
     add-i

@@ -17,63 +17,69 @@ use Rattle.job.proofs.RunLine.{run-end, run-missing, run-stuck, run-on}
 use borrow.Author.Needs.{needs}
 use Rattle.job.proofs.runs.walk.Statement.{statement}
 use Rattle.job.proofs.runs.walk.Tie as tie
-use Rattle.job.proofs.runs.walk.Reads as reads
-use Rattle.job.proofs.runs.walk.Lts as lts
-use Rattle.job.proofs.runs.stop.Reads as stop-reads
-use Rattle.route.proofs.Marking.enables.Reads as enables-reads
-use Rattle.route.proofs.Marking.next.Reads as next-reads
-use Rattle.route.proofs.Outcome.refuse.Reads as refuse-reads
-use Rattle.route.proofs.Route.names.Reads as names-reads
-use Rattle.route.proofs.steps.find.Reads as find-reads
 
 abbrev Inv-loop : tie.InvT-loop
-Inv-loop done line old column len m₀ i₀ m i = (i ≤ length done) × (runFrom (stepsOf old) (m .tokens) (line + i) (drop i done) ≡ runFrom (stepsOf old) (m₀ .tokens) line done)
+Inv-loop done line old column len hint m₀ i₀ m i = (i ≤ length done) × (runFrom (stepsOf old) (m .tokens) (line + i) (drop i done) ≡ runFrom (stepsOf old) (m₀ .tokens) line done)
 
 abbrev μ-loop : tie.MeasureT-loop
-μ-loop done line old column len m₀ i₀ m i = length done - i
+μ-loop done line old column len hint m₀ i₀ m i = length done - i
 
 -- where a name is found: what stands there
 module _ (c : tie.After-known-told Inv-loop μ-loop) where
   abbrev at : tie.At-loop Inv-loop μ-loop
-  at = c .before .before .before .before .before .before .before
+  at = c .before .before .before .before .before .before .before .before
 
   abbrev old : Route
-  old = at .before .before .before .args .t1
+  old = at .before .before .before .before .before .args .t1
 
   abbrev k : ℕ
   k = c .before .k .given .0 .0
 
   k-below : k < old .len
-  k-below = found-below old (at .before .names .result) _ _ (at .before .names .ensures) (c .before .before .before .find .ensures) (full old _ (at .before .before .before .good .0)) k (c .before .k .given .1)
+  k-below = found-below old (at .before .before .before .names .result) _ _ (at .before .before .before .names .ensures) (c .before .before .before .find-by .ensures) (full old _ (at .before .before .before .before .before .good .0)) k (c .before .k .given .1)
 
-  step-is : lookup (getD (at .before .before .before .args .done .now) (at .loop .i) 0) (stepsOf old) ≡ some (getD (old .steps) k blank)
-  step-is = found-step old (at .before .names .result) _ _ (at .before .names .ensures) (c .before .before .before .find .ensures) (full old _ (at .before .before .before .good .0)) k (c .before .k .given .1) (omega arith)
+  step-is : lookup (getD (at .before .before .before .before .before .args .done .now) (at .loop .i) 0) (stepsOf old) ≡ some (getD (old .steps) k blank)
+  step-is = found-step old (at .before .before .before .names .result) _ _ (at .before .before .before .names .ensures) (c .before .before .before .find-by .ensures) (full old _ (at .before .before .before .before .before .good .0)) k (c .before .k .given .1) (omega arith)
 
 names-requires : tie.Need-names-requires Inv-loop μ-loop
 names-requires c κs = search needs
 
 loop-holds : tie.Need-loop-holds Inv-loop μ-loop
 loop-holds c =
-    let a = c .before .before .args in
+    let a = c .before .before .before .before .args in
     let start : a .line + 0 ≡ a .line = omega arith in
     (omega arith, ap (λ (n : ℕ). runFrom (stepsOf (a .t1)) (a .start .tokens) n (a .done .now)) start)
+
+slice-aggregate-hints : tie.Need-slice-aggregate-hints Inv-loop μ-loop
+slice-aggregate-hints c =
+    let e = c .before in
+    column-length (e .before .before .args .t1) (e .names .result) (full (e .before .before .args .t1) _ (e .before .before .good .0)) (e .names .ensures)
+
+hints-requires : tie.Need-hints-requires Inv-loop μ-loop
+hints-requires c κs = omega (arith, slice-aggregate-hints c, c .before .before .before .pre .0 .0)
+
+slice-aggregate-find-by : tie.Need-slice-aggregate-find-by Inv-loop μ-loop
+slice-aggregate-find-by c = search needs
+
+array-share-prefix-column-2 : tie.Need-array-share-prefix-column-2 Inv-loop μ-loop
+array-share-prefix-column-2 c = search needs
 
 array-share-prefix-column : tie.Need-array-share-prefix-column Inv-loop μ-loop
 array-share-prefix-column c = search needs
 
-slice-aggregate-find : tie.Need-slice-aggregate-find Inv-loop μ-loop
-slice-aggregate-find c =
-    let e = c .before .before .before in
+slice-aggregate-find-by-2 : tie.Need-slice-aggregate-find-by-2 Inv-loop μ-loop
+slice-aggregate-find-by-2 c =
+    let e = c .before .before .before .before .before .before in
     column-length (e .before .before .args .t1) (e .names .result) (full (e .before .before .args .t1) _ (e .before .before .good .0)) (e .names .ensures)
 
-mul-find : tie.Need-mul-find Inv-loop μ-loop
-mul-find c = search needs
+mul-find-by : tie.Need-mul-find-by Inv-loop μ-loop
+mul-find-by c = search needs
 
-shared-slice-read-find : tie.Need-shared-slice-read-find Inv-loop μ-loop
-shared-slice-read-find c = search needs
+shared-slice-read-find-by : tie.Need-shared-slice-read-find-by Inv-loop μ-loop
+shared-slice-read-find-by c = search needs
 
-find-requires : tie.Need-find-requires Inv-loop μ-loop
-find-requires c κs = search needs
+find-by-requires : tie.Need-find-by-requires Inv-loop μ-loop
+find-by-requires c κs = c .before .before .before .before .before .hints .ensures
 
 enum-known-k : tie.Need-enum-known-k Inv-loop μ-loop
 enum-known-k c = search needs
@@ -93,11 +99,11 @@ stop-requires c κs = search needs
 returns : tie.Need-returns Inv-loop μ-loop
 returns c =
     let f = c .before .before .before .before in
-    let at = f .before .before .before .before in
-    let old = at .before .before .before .args .t1 in
-    let gone = missed-step old (at .before .names .result) _ _ (at .before .names .ensures) (f .find .ensures) (c .before .before .enum-told .given .1) in
+    let at = f .before .before .before .before .before in
+    let old = at .before .before .before .before .before .args .t1 in
+    let gone = missed-step old (at .before .before .before .names .result) _ _ (at .before .before .before .names .ensures) (f .find-by .ensures) (c .before .before .enum-told .given .1) in
     c .stop .ensures ∙ ap (λ (o : Outcome). stopped (o .number) (o .second)) (c .before .refuse .ensures)
-    ∙ run-missing _ _ _ (at .before .before .before .args .line) (at .loop .i) (at .loop .m .tokens) (at .loop .inv .1) (f .before .before .before .loop-test .taken) gone
+    ∙ run-missing _ _ _ (at .before .before .before .before .before .args .line) (at .loop .i) (at .loop .m .tokens) (at .loop .inv .1) (f .before .before .before .before .loop-test .taken) gone
 
 mul-s : tie.Need-mul-s Inv-loop μ-loop
 mul-s c = omega (arith, k-below c)
@@ -123,7 +129,7 @@ returns-2 c =
     let f = e .before .before in
     let l = at f in
     c .stop2 .ensures ∙ ap (λ (o : Outcome). stopped (o .number) (o .second)) (c .before .refuse2 .ensures)
-    ∙ run-stuck _ _ _ (l .before .before .before .args .line) (l .loop .i) (l .loop .m .tokens) (l .loop .inv .1) (f .before .before .before .before .before .before .loop-test .taken) _ (step-is f) (sym (e .enables .ensures) ∙ not-true _ (c .before .before .if1 .taken))
+    ∙ run-stuck _ _ _ (l .before .before .before .before .before .args .line) (l .loop .i) (l .loop .m .tokens) (l .loop .inv .1) (f .before .before .before .before .before .before .before .loop-test .taken) _ (step-is f) (sym (e .enables .ensures) ∙ not-true _ (c .before .before .if1 .taken))
 
 next-requires : tie.Need-next-requires Inv-loop μ-loop
 next-requires c κs = search needs
@@ -139,14 +145,14 @@ loop-again c =
     let e = c .before .before in
     let f = e .before .before in
     let l = at f in (
-      omega arith,
-      run-on _ _ _ (l .before .before .before .args .line) (l .loop .i) (l .loop .m .tokens) (l .loop .inv .1) (f .before .before .before .before .before .before .loop-test .taken) _ (step-is f) _ (sym (e .enables .ensures) ∙ not-false _ (c .before .if1 .left)) (c .next .ensures),
+      omega (arith, f .before .before .before .before .before .before .before .loop-test .taken),
+      run-on _ _ _ (l .before .before .before .before .before .args .line) (l .loop .i) (l .loop .m .tokens) (l .loop .inv .1) (f .before .before .before .before .before .before .before .loop-test .taken) _ (step-is f) _ (sym (e .enables .ensures) ∙ not-false _ (c .before .if1 .left)) (c .next .ensures),
     )
 
 returns-3 : tie.Need-returns-3 Inv-loop μ-loop
 returns-3 c =
     let l = c .before in
-    run-end _ _ _ (l .before .before .before .args .line) (l .loop .i) (l .loop .m .tokens) (l .loop .inv .1) (c .loop-test .left)
+    run-end _ _ _ (l .before .before .before .before .before .args .line) (l .loop .i) (l .loop .m .tokens) (l .loop .inv .1) (c .loop-test .left)
 
 pub walk-spec : {M : Type 1} → statement M
 walk-spec =
@@ -155,12 +161,16 @@ walk-spec =
     Inv-loop
     μ-loop
     names-requires
-    loop-holds
     array-share-prefix-column
-    slice-aggregate-find
-    mul-find
-    shared-slice-read-find
-    find-requires
+    slice-aggregate-hints
+    hints-requires
+    loop-holds
+    slice-aggregate-find-by
+    array-share-prefix-column-2
+    slice-aggregate-find-by-2
+    mul-find-by
+    shared-slice-read-find-by
+    find-by-requires
     enum-known-k
     enum-told
     add-refuse

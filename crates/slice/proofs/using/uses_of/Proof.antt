@@ -32,29 +32,29 @@ abbrev Held : (Step → ℕ) → List Step → ℕ → List ℕ → Type 0
 Held f l i a = (length a ≡ 64) × (take i a ++ map f (drop i l) ≡ map f l)
 
 abbrev Inv-loop : tie.InvT-loop
-Inv-loop done old column len names₀ reads₀ writes₀ i₀ names reads writes i =
+Inv-loop done old column len hint names₀ reads₀ writes₀ i₀ names reads writes i =
     (i ≤ length done) × (Held name-of (performed (stepsOf old) done) i names
     × (Held reads-of (performed (stepsOf old) done) i reads × Held writes-of (performed (stepsOf old) done) i writes))
 
 abbrev μ-loop : tie.MeasureT-loop
-μ-loop done old column len names₀ reads₀ writes₀ i₀ names reads writes i = length done - i
+μ-loop done old column len hint names₀ reads₀ writes₀ i₀ names reads writes i = length done - i
 
 -- where a name is found: what stands there
 module _ (c : tie.After-known-told Inv-loop μ-loop) where
   abbrev at : tie.At-loop Inv-loop μ-loop
-  at = c .before .before .before .before .before .before .before
+  at = c .before .before .before .before .before .before .before .before
 
   abbrev old : Route
-  old = at .before .before .before .args .t1
+  old = at .before .before .before .before .before .args .t1
 
   abbrev k : ℕ
   k = c .before .k .given .0 .0
 
   k-below : k < old .len
-  k-below = found-below old (at .before .names .result) _ _ (at .before .names .ensures) (c .before .before .before .find .ensures) (full old _ (at .before .before .before .good .0)) k (c .before .k .given .1)
+  k-below = found-below old (at .before .before .before .names .result) _ _ (at .before .before .before .names .ensures) (c .before .before .before .find-by .ensures) (full old _ (at .before .before .before .before .before .good .0)) k (c .before .k .given .1)
 
-  step-is : lookup (getD (at .before .before .before .args .done .now) (at .loop .i) 0) (stepsOf old) ≡ some (getD (old .steps) k blank)
-  step-is = found-step old (at .before .names .result) _ _ (at .before .names .ensures) (c .before .before .before .find .ensures) (full old _ (at .before .before .before .good .0)) k (c .before .k .given .1) (omega arith)
+  step-is : lookup (getD (at .before .before .before .before .before .args .done .now) (at .loop .i) 0) (stepsOf old) ≡ some (getD (old .steps) k blank)
+  step-is = found-step old (at .before .before .before .names .result) _ _ (at .before .before .before .names .ensures) (c .before .before .before .find-by .ensures) (full old _ (at .before .before .before .before .before .good .0)) k (c .before .k .given .1) (omega arith)
 
 -- one occurrence more is stored
 stored : (f : Step → ℕ) (l : List Step) (s : Step) (i : ℕ) (a : List ℕ) → drop i l ≡ s ∷ drop (i + 1) l → i < 64 → Held f l i a → Held f l (i + 1) (set a i (f s))
@@ -69,19 +69,33 @@ loop-holds c = (omega arith, ((refl, refl), ((refl, refl), (refl, refl))))
 array-share-prefix-column : tie.Need-array-share-prefix-column Inv-loop μ-loop
 array-share-prefix-column c = search needs
 
-slice-aggregate-find : tie.Need-slice-aggregate-find Inv-loop μ-loop
-slice-aggregate-find c =
-    let e = c .before .before .before in
+slice-aggregate-hints : tie.Need-slice-aggregate-hints Inv-loop μ-loop
+slice-aggregate-hints c =
+    let e = c .before in
     column-length (e .before .before .args .t1) (e .names .result) (full (e .before .before .args .t1) _ (e .before .before .good .0)) (e .names .ensures)
 
-mul-find : tie.Need-mul-find Inv-loop μ-loop
-mul-find c = search needs
+hints-requires : tie.Need-hints-requires Inv-loop μ-loop
+hints-requires c κs = omega (arith, slice-aggregate-hints c, c .before .before .before .pre .0)
 
-shared-slice-read-find : tie.Need-shared-slice-read-find Inv-loop μ-loop
-shared-slice-read-find c = search needs
+slice-aggregate-find-by : tie.Need-slice-aggregate-find-by Inv-loop μ-loop
+slice-aggregate-find-by c = search needs
 
-find-requires : tie.Need-find-requires Inv-loop μ-loop
-find-requires c κs = search needs
+array-share-prefix-column-2 : tie.Need-array-share-prefix-column-2 Inv-loop μ-loop
+array-share-prefix-column-2 c = search needs
+
+slice-aggregate-find-by-2 : tie.Need-slice-aggregate-find-by-2 Inv-loop μ-loop
+slice-aggregate-find-by-2 c =
+    let e = c .before .before .before .before .before .before in
+    column-length (e .before .before .args .t1) (e .names .result) (full (e .before .before .args .t1) _ (e .before .before .good .0)) (e .names .ensures)
+
+mul-find-by : tie.Need-mul-find-by Inv-loop μ-loop
+mul-find-by c = search needs
+
+shared-slice-read-find-by : tie.Need-shared-slice-read-find-by Inv-loop μ-loop
+shared-slice-read-find-by c = search needs
+
+find-by-requires : tie.Need-find-by-requires Inv-loop μ-loop
+find-by-requires c κs = c .before .before .before .before .before .hints .ensures
 
 enum-known-k : tie.Need-enum-known-k Inv-loop μ-loop
 enum-known-k c = search needs
@@ -116,9 +130,9 @@ loop-less c = search needs
 loop-again : tie.Need-loop-again Inv-loop μ-loop
 loop-again c =
     let f = c .before .before in
-    let l = f .before .before .before .before in
-    let a = l .before .before .before .args in
-    let gone = missed-step (a .t1) (l .before .names .result) _ _ (l .before .names .ensures) (f .find .ensures) (c .enum-told .given .1) in
+    let l = f .before .before .before .before .before in
+    let a = l .before .before .before .before .before .args in
+    let gone = missed-step (a .t1) (l .before .before .before .names .result) _ _ (l .before .before .before .names .ensures) (f .find-by .ensures) (c .enum-told .given .1) in
     let on = performed-on (stepsOf (a .t1)) (a .done .now) (l .loop .i) none (omega arith) gone in (
       omega arith,
       (
@@ -160,7 +174,7 @@ loop-less-2 c = search needs
 loop-again-2 : tie.Need-loop-again-2 Inv-loop μ-loop
 loop-again-2 c =
     let l = at (c .before) in
-    let a = l .before .before .before .args in
+    let a = l .before .before .before .before .before .args in
     let on = performed-on (stepsOf (a .t1)) (a .done .now) (l .loop .i) _ (omega arith) (step-is (c .before)) in (
       omega arith,
       (
@@ -173,7 +187,7 @@ returns : tie.Need-returns Inv-loop μ-loop
 unfolding names readsOf writesOf
 returns c =
     let l = c .before in
-    let a = l .before .before .before .args in
+    let a = l .before .before .before .before .before .args in
     let whole : l .loop .i ≡ length (a .done .now) = omega arith in
     let none-left = performed-end (stepsOf (a .t1)) (a .done .now) (l .loop .i) (omega arith) in
     record {
@@ -184,4 +198,4 @@ returns c =
     }
 
 pub uses-of-spec : {M : Type 1} → statement M
-uses-of-spec = tie.close (tie.spec Inv-loop μ-loop names-requires loop-holds array-share-prefix-column slice-aggregate-find mul-find shared-slice-read-find find-requires enum-known-k enum-told mul-names array-write-names mul-reads array-write-reads mul-writes array-write-writes add-i loop-less loop-again mul-s element-copy-out-s mul-names-2 array-write-names-2 mul-reads-2 array-write-reads-2 mul-writes-2 array-write-writes-2 add-i-2 loop-less-2 loop-again-2 returns)
+uses-of-spec = tie.close (tie.spec Inv-loop μ-loop names-requires array-share-prefix-column slice-aggregate-hints hints-requires loop-holds slice-aggregate-find-by array-share-prefix-column-2 slice-aggregate-find-by-2 mul-find-by shared-slice-read-find-by find-by-requires enum-known-k enum-told mul-names array-write-names mul-reads array-write-reads mul-writes array-write-writes add-i loop-less loop-again mul-s element-copy-out-s mul-names-2 array-write-names-2 mul-reads-2 array-write-reads-2 mul-writes-2 array-write-writes-2 add-i-2 loop-less-2 loop-again-2 returns)
