@@ -1,0 +1,2 @@
+-- Lending records that stand in an array.
+pub mod First
