@@ -1,11 +1,13 @@
-// Runs jobs whose routes are lent lists of 0, 1, 64, 65 and 100 step records, and one whose sixth record has no in-place. For each it shows
-// both lengths, the answer's two numbers and the marking.
+// Runs and writes jobs whose routes are lent lists of 0, 1, 64, 65 and 100 step records, and one whose sixth record has no in-place. For each it shows
+// both lengths, run's two numbers and its marking, then write's two numbers, how many bytes it wrote, and the first byte (46 before).
 use job::Ran;
 use route::Step;
+use writing::Wrote;
 ghost use mathlib.Core.Path.{_≡_};
 ghost use Prim.Native.Nat.{_≤_};
-ghost use lib.ListN.{take};
+ghost use lib.ListN.{length, take};
 ghost use Rattle.job.specs.Run.{ran};
+ghost use Rattle.writing.specs.Writes.{wrote, outAfter};
 ghost use Rattle.lent.specs.Lent.{lentJob};
 
 // The first n and m records of two arrays, lent. (A local that is a lent list of records takes a walk by hand, so `main` has none.)
@@ -14,6 +16,22 @@ fn run_first(a: [Step; 100], n: usize, b: [Step; 100], m: usize, done: &[u32]) -
     ensures { λ r. ⌜ r ≡ ran (lentJob 64 (take n a) 64 (take m b) (now (done .entry))) ⌝ }
 {
     lent::run(64, &a[..n], 64, &b[..m], done)
+}
+
+// The same for write.
+fn write_first(
+    a: [Step; 100],
+    n: usize,
+    b: [Step; 100],
+    m: usize,
+    done: &[u32],
+    out: &mut [u8],
+) -> Wrote
+    requires { ⌜ (n ≤ 100) × (m ≤ 100) ⌝ }
+    ensures { λ r. ⌜ (r ≡ wrote (lentJob 64 (take n a) 64 (take m b) (now (done .entry))) (length (now (out .entry))))
+        × (now (out .exit) ≡ outAfter (lentJob 64 (take n a) 64 (take m b) (now (done .entry))) (now (out .entry))) ⌝ }
+{
+    lent::write(64, &a[..n], 64, &b[..m], done, out)
 }
 
 // A route of 64 steps, and 36 records that hold 0.
@@ -31,6 +49,17 @@ fn number(n: u64) {
     io::print_decimal(1, n);
 }
 
+fn wide(b: u8) -> u64 {
+    b as u64
+}
+
+// The first byte.
+fn begins(s: &[u8]) {
+    if 0 < s.len() {
+        number(wide(s[0]));
+    }
+}
+
 fn show(a: [Step; 100], n: usize, m: usize)
     requires { ⌜ (n ≤ 100) × (m ≤ 100) ⌝ }
 {
@@ -40,6 +69,12 @@ fn show(a: [Step; 100], n: usize, m: usize)
     number(r.number as u64);
     number(r.second);
     number(r.marking.tokens);
+    let mut out = [46u8; 6000];
+    let w = write_first(a, n, a, m, &[100, 101], &mut out);
+    number(w.number as u64);
+    number(w.second);
+    number(w.written);
+    begins(&out);
     io::write_all(1, b"\n");
 }
 

@@ -118,8 +118,16 @@ module _ {M : Type 1} (𝓤 : URA M) (H : Heap 𝓤) (A : Atoms 𝓤) (W : Given
     x₁ = lentFirst 𝓤 H A W b m l₇ δ
 
     abbrev to : Run 𝓤 H A mem run .Ghost
-    to = (((α ∷ [], (β ∷ [], (κ, tt))), (fullShare, (fullShare, (q, tt))), tt, (64, (x₀, (64, (x₁, (d, tt))))),
-        (vint w64 64 ∷ [], (sliceVal (l₆, 0) (length (take n a)) ∷ [], (vint w64 64 ∷ [], (sliceVal (l₇, 0) (length (take m b)) ∷ [], (dv ∷ [], tt)))))), tt)
+    to = (
+      (
+        (α ∷ [], (β ∷ [], (κ, tt))),
+        (fullShare, (fullShare, (q, tt))),
+        tt,
+        (64, (x₀, (64, (x₁, (d, tt))))),
+        (vint w64 64 ∷ [], (sliceVal (l₆, 0) (length (take n a)) ∷ [], (vint w64 64 ∷ [], (sliceVal (l₇, 0) (length (take m b)) ∷ [], (dv ∷ [], tt))))),
+      ),
+      tt,
+    )
 
     abbrev Passed : Item 𝓤
     Passed = ‵ (flft (α ∷ []) fullShare) ⊛ (‵ (flft (β ∷ []) fullShare) ⊛ (‵ (flft κ q) ⊛ (‵ (ownFirst 𝓤 H A W (α ∷ []) a n l₆ γ) ⊛ (‵ (ownFirst 𝓤 H A W (β ∷ []) b m l₇ δ) ⊛ ‵ (ShrSlice (named 0) κ u32 .own d (dv ∷ []))))))
