@@ -1,4 +1,4 @@
-// Rows 4, 2, 3 and 5, line by line, then 6 and 7.
+// Rows 4, 2, 3 and 5, line by line.
 use route::Found;
 use route::Outcome;
 use route::Route;

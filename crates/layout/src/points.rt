@@ -39,7 +39,7 @@ pub fn alive(p: Point) -> bool
     }
 }
 
-// The head that ends a part, or the one line that the job part has.
+// By its first letter: a step of the part, the head that ends it, or the one line that the job part has.
 fn chosen(p: Part, b: u8) -> Point
     ensures { λ r. ⌜ r ≡ chosen p b ⌝ }
 {
