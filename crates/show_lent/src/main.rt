@@ -1,12 +1,18 @@
 // Runs and writes jobs whose routes are lent lists of 0, 1, 64, 65 and 100 step records, and one whose sixth record has no in-place. For each it shows
 // both lengths, run's two numbers and its marking, then write's two numbers, how many bytes it wrote, and the first byte (46 before).
+use fit::Judged;
+use fit::Tried;
 use job::Ran;
 use route::Step;
+use slice::Sliced;
 use writing::Wrote;
 ghost use mathlib.Core.Path.{_≡_};
 ghost use Prim.Native.Nat.{_≤_};
 ghost use lib.ListN.{length, take};
 ghost use Rattle.job.specs.Run.{ran};
+ghost use Rattle.slice.specs.Table.{sliced};
+ghost use Rattle.fit.specs.Try.{tried};
+ghost use Rattle.fit.specs.Judge.{judged, workAfter};
 ghost use Rattle.writing.specs.Writes.{wrote, outAfter};
 ghost use Rattle.lent.specs.Lent.{lentJob};
 
@@ -16,6 +22,45 @@ fn run_first(a: [Step; 100], n: usize, b: [Step; 100], m: usize, done: &[u32]) -
     ensures { λ r. ⌜ r ≡ ran (lentJob 64 (take n a) 64 (take m b) (now (done .entry))) ⌝ }
 {
     lent::run(64, &a[..n], 64, &b[..m], done)
+}
+
+// The same for slice.
+fn slice_first(a: [Step; 100], n: usize, b: [Step; 100], m: usize, done: &[u32]) -> Sliced
+    requires { ⌜ (n ≤ 100) × (m ≤ 100) ⌝ }
+    ensures { λ r. ⌜ r ≡ sliced (lentJob 64 (take n a) 64 (take m b) (now (done .entry))) ⌝ }
+{
+    lent::slice(64, &a[..n], 64, &b[..m], done)
+}
+
+// The same for try.
+fn try_first(
+    a: [Step; 100],
+    n: usize,
+    b: [Step; 100],
+    m: usize,
+    done: &[u32],
+    order: &[u8],
+) -> Tried
+    requires { ⌜ (n ≤ 100) × (m ≤ 100) ⌝ }
+    ensures { λ r. ⌜ r ≡ tried (lentJob 64 (take n a) 64 (take m b) (now (done .entry))) (now (order .entry)) ⌝ }
+{
+    lent::try_order(64, &a[..n], 64, &b[..m], done, order)
+}
+
+// The same for judge.
+fn judge_first(
+    a: [Step; 100],
+    n: usize,
+    b: [Step; 100],
+    m: usize,
+    done: &[u32],
+    work: &mut [u8],
+) -> Judged
+    requires { ⌜ (n ≤ 100) × (m ≤ 100) ⌝ }
+    ensures { λ r. ⌜ (r ≡ judged (lentJob 64 (take n a) 64 (take m b) (now (done .entry))) (length (now (work .entry))))
+        × (now (work .exit) ≡ workAfter (lentJob 64 (take n a) 64 (take m b) (now (done .entry))) (now (work .entry))) ⌝ }
+{
+    lent::judge(64, &a[..n], 64, &b[..m], done, work)
 }
 
 // The same for write.
