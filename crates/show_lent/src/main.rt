@@ -1,5 +1,7 @@
-// Runs and writes jobs whose routes are lent lists of 0, 1, 64, 65 and 100 step records, and one whose sixth record has no in-place. For each it shows
-// both lengths, run's two numbers and its marking, then write's two numbers, how many bytes it wrote, and the first byte (46 before).
+// The operations over jobs whose routes are lent lists of 0, 1, 64, 65 and 100 step records, over one whose sixth record has no in-place, and over
+// one whose answer takes a search. A line shows both lengths and then, of each operation, its two numbers and: run, its marking; slice, its mask of
+// kept ones; try, its marking; judge, its order's length, its marking and the first byte of the work slice; write, how many bytes it wrote and the
+// first of them. Both slices hold 46 before.
 use fit::Judged;
 use fit::Tried;
 use job::Ran;
@@ -105,36 +107,93 @@ fn begins(s: &[u8]) {
     }
 }
 
-fn show(a: [Step; 100], n: usize, m: usize)
+fn show_run(a: [Step; 100], n: usize, b: [Step; 100], m: usize)
     requires { ⌜ (n ≤ 100) × (m ≤ 100) ⌝ }
 {
-    let r = run_first(a, n, a, m, &[100, 101]);
-    io::print_decimal(1, n as u64);
-    number(m as u64);
+    let r = run_first(a, n, b, m, &[100, 101]);
     number(r.number as u64);
     number(r.second);
     number(r.marking.tokens);
+}
+
+fn show_slice(a: [Step; 100], n: usize, b: [Step; 100], m: usize)
+    requires { ⌜ (n ≤ 100) × (m ≤ 100) ⌝ }
+{
+    let r = slice_first(a, n, b, m, &[100, 101]);
+    number(r.number as u64);
+    number(r.second);
+    number(r.kept);
+}
+
+fn show_try(a: [Step; 100], n: usize, b: [Step; 100], m: usize)
+    requires { ⌜ (n ≤ 100) × (m ≤ 100) ⌝ }
+{
+    let r = try_first(a, n, b, m, &[100, 101], &[1, 2]);
+    number(r.number as u64);
+    number(r.second);
+    number(r.marking);
+}
+
+fn show_judge(a: [Step; 100], n: usize, b: [Step; 100], m: usize)
+    requires { ⌜ (n ≤ 100) × (m ≤ 100) ⌝ }
+{
+    let mut work = [46u8; 8192];
+    let r = judge_first(a, n, b, m, &[100, 101], &mut work);
+    number(r.number as u64);
+    number(r.second);
+    number(r.len as u64);
+    number(r.marking);
+    begins(&work);
+}
+
+fn show_write(a: [Step; 100], n: usize, b: [Step; 100], m: usize)
+    requires { ⌜ (n ≤ 100) × (m ≤ 100) ⌝ }
+{
     let mut out = [46u8; 6000];
-    let w = write_first(a, n, a, m, &[100, 101], &mut out);
-    number(w.number as u64);
-    number(w.second);
-    number(w.written);
+    let r = write_first(a, n, b, m, &[100, 101], &mut out);
+    number(r.number as u64);
+    number(r.second);
+    number(r.written);
     begins(&out);
+}
+
+fn show(a: [Step; 100], n: usize, b: [Step; 100], m: usize)
+    requires { ⌜ (n ≤ 100) × (m ≤ 100) ⌝ }
+{
+    io::print_decimal(1, n as u64);
+    number(m as u64);
+    show_run(a, n, b, m);
+    show_slice(a, n, b, m);
+    show_try(a, n, b, m);
+    show_judge(a, n, b, m);
+    show_write(a, n, b, m);
     io::write_all(1, b"\n");
+}
+
+// The steps 100 and 101 each write a variable, and the new route has 101 before 100.
+fn show_turned(a: [Step; 100]) {
+    let mut old = a;
+    old[0] = samples::step(100, 1, 2, 0, 1);
+    old[1] = samples::step(101, 2, 4, 0, 2);
+    let mut new = a;
+    new[0] = samples::step(101, 1, 2, 0, 2);
+    new[1] = samples::step(100, 2, 4, 0, 1);
+    show(old, 64, new, 64);
 }
 
 fn main() {
     let a = hundred();
-    show(a, 0, 64);
-    show(a, 64, 0);
-    show(a, 1, 1);
-    show(a, 64, 64);
-    show(a, 65, 64);
-    show(a, 64, 65);
-    show(a, 100, 64);
-    show(a, 64, 100);
-    show(a, 100, 100);
+    show(a, 0, a, 64);
+    show(a, 64, a, 0);
+    show(a, 1, a, 1);
+    show(a, 64, a, 64);
+    show(a, 65, a, 64);
+    show(a, 64, a, 65);
+    show(a, 100, a, 64);
+    show(a, 64, a, 100);
+    show(a, 100, a, 100);
     let mut b = a;
     b[5] = samples::step(105, 0, 64, 0, 0);
-    show(b, 100, 64);
+    show(b, 100, b, 64);
+    show_turned(a);
 }
