@@ -1,22 +1,34 @@
 // The operations over jobs whose routes are lent lists of 0, 1, 64, 65 and 100 step records, over one whose sixth record has no in-place, and over
 // one whose answer takes a search. A line shows both lengths and then, of each operation, its two numbers and: run, its marking; slice, its mask of
 // kept ones; try, its marking; judge, its order's length, its marking and the first byte of the work slice; write, how many bytes it wrote and the
-// first of them. Both slices hold 46 before.
+// first of them. Both slices hold 46 before. A line of reading shows how many steps a route of the sheet has and both lengths.
 use fit::Judged;
 use fit::Tried;
 use job::Ran;
+use lent::Counts;
 use route::Step;
 use slice::Sliced;
 use writing::Wrote;
 ghost use mathlib.Core.Path.{_≡_};
 ghost use Prim.Native.Nat.{_≤_};
-ghost use lib.ListN.{length, take};
+ghost use mathlib.Core.List.{_++_};
+ghost use lib.ListN.{length, take, drop};
 ghost use Rattle.job.specs.Run.{ran};
 ghost use Rattle.slice.specs.Table.{sliced};
 ghost use Rattle.fit.specs.Try.{tried};
 ghost use Rattle.fit.specs.Judge.{judged, workAfter};
 ghost use Rattle.writing.specs.Writes.{wrote, outAfter};
+ghost use Rattle.records.specs.Loaded.{laid};
+ghost use Rattle.sheet.specs.Facts.{readOf};
 ghost use Rattle.lent.specs.Lent.{lentJob};
+ghost use Rattle.lent.specs.Reading.{counted};
+
+// What reading gives, and both arrays after it.
+struct Filled {
+    counts: Counts,
+    old: [Step; 100],
+    new: [Step; 100],
+}
 
 // The first n and m records of two arrays, lent. (A local that is a lent list of records takes a walk by hand, so `main` has none.)
 fn run_first(a: [Step; 100], n: usize, b: [Step; 100], m: usize, done: &[u32]) -> Ran
@@ -79,6 +91,33 @@ fn write_first(
         × (now (out .exit) ≡ outAfter (lentJob 64 (take n a) 64 (take m b) (now (done .entry))) (now (out .entry))) ⌝ }
 {
     lent::write(64, &a[..n], 64, &b[..m], done, out)
+}
+
+fn together(counts: Counts, old: [Step; 100], new: [Step; 100]) -> Filled
+    ensures { λ r. ⌜ r ≡ record { counts = counts; old = old; new = new } ⌝ }
+{
+    Filled { counts, old, new }
+}
+
+// Reading into the first n and m records of two arrays.
+fn read_first(
+    sheet: &[u8],
+    a: [Step; 100],
+    n: usize,
+    b: [Step; 100],
+    m: usize,
+    done: &mut [u32],
+) -> Filled
+    requires { ⌜ (n ≤ 100) × (m ≤ 100) ⌝ }
+    ensures { λ r. ⌜ (r .counts ≡ counted (readOf (now (sheet .entry))) n m (length (now (done .entry))))
+        × ((r .old ≡ laid (r .counts .«old_len») (readOf (now (sheet .entry)) .old .steps) (take n a) ++ drop n a)
+        × ((r .new ≡ laid (r .counts .«new_len») (readOf (now (sheet .entry)) .new .steps) (take m b) ++ drop m b)
+        × (now (done .exit) ≡ laid (r .counts .«done_len») (readOf (now (sheet .entry)) .done) (now (done .entry))))) ⌝ }
+{
+    let mut old = a;
+    let mut new = b;
+    let c = lent::reading::read(sheet, &mut old[..n], &mut new[..m], done);
+    together(c, old, new)
 }
 
 // A route of 64 steps, and 36 records that hold 0.
@@ -181,6 +220,68 @@ fn show_turned(a: [Step; 100]) {
     show(old, 64, new, 64);
 }
 
+fn name(n: u32) {
+    number(n as u64);
+}
+
+// The names at both ends of the first 64 records, and of the records past them.
+fn names(l: [Step; 100]) {
+    name(l[0].name);
+    name(l[63].name);
+    name(l[64].name);
+    name(l[99].name);
+}
+
+fn show_filled(r: Filled) {
+    let c = r.counts;
+    number(c.number as u64);
+    number(c.second);
+    number(c.old_places);
+    number(c.old_len as u64);
+    number(c.new_places);
+    number(c.new_len as u64);
+    number(c.done_len as u64);
+    let old = r.old;
+    names(old);
+    let new = r.new;
+    names(new);
+}
+
+// A sheet read into n and m records and room for three names, which all hold 7: the answer, and what stands in the lists after it.
+fn show_sheet(sheet: &[u8], n: usize, m: usize)
+    requires { ⌜ (n ≤ 100) × (m ≤ 100) ⌝ }
+{
+    let c = [samples::step(7, 0, 0, 0, 0); 100];
+    let mut done = [7u32; 3];
+    let r = read_first(sheet, c, n, c, m, &mut done);
+    show_filled(r);
+    name(done[0]);
+    name(done[1]);
+    name(done[2]);
+}
+
+// The first k bytes.
+fn show_part(out: &[u8], k: usize, n: usize, m: usize)
+    requires { ⌜ (n ≤ 100) × (m ≤ 100) ⌝ }
+{
+    if k <= out.len() {
+        show_sheet(&out[..k], n, m);
+    }
+}
+
+// A sheet of s steps a route and two names done, read into n and m records.
+fn show_read(a: [Step; 100], s: usize, n: usize, m: usize)
+    requires { ⌜ (s ≤ 100) × ((n ≤ 100) × (m ≤ 100)) ⌝ }
+{
+    io::print_decimal(1, s as u64);
+    number(n as u64);
+    number(m as u64);
+    let mut out = [46u8; 6000];
+    let w = write_first(a, s, a, s, &[100, 101], &mut out);
+    show_part(&out, w.written as usize, n, m);
+    io::write_all(1, b"\n");
+}
+
 fn main() {
     let a = hundred();
     show(a, 0, a, 64);
@@ -196,4 +297,10 @@ fn main() {
     b[5] = samples::step(105, 0, 64, 0, 0);
     show(b, 100, b, 64);
     show_turned(a);
+    show_read(a, 1, 0, 0);
+    show_read(a, 1, 1, 0);
+    show_read(a, 1, 1, 1);
+    show_read(a, 1, 65, 100);
+    show_read(a, 64, 100, 1);
+    show_read(a, 64, 64, 65);
 }
