@@ -21,12 +21,12 @@ use Rattle.fit.specs.Straight.{sameData, sameStep}
 use Rattle.fit.specs.Fit.{keptOf, FitAt}
 use Rattle.fit.specs.Try.{tried}
 use Rattle.claim.specs.Values.{Store, Work, allBlank, replay, performAll}
-use Rattle.claim.specs.Demand3.{Runs, stepsDone, nameAt, positions, moved, Carried}
+use Rattle.claim.specs.Demand3.{Runs, stepsDone, nameAt, positions, moved, InTurn, Carried}
 use Rattle.claim.proofs.Perform.{stepAt}
 use Rattle.claim.proofs.FitList.{fit-same}
 use Rattle.claim.proofs.Same.{same-values}
 use Rattle.claim.proofs.Replayed.{SameData, replay-store}
-use Rattle.claim.proofs.Fires.{replay-fires}
+use Rattle.claim.proofs.Fires.{replay-fires, replay-turns}
 use Rattle.claim.proofs.Ran.{done-named, done-length, whole-job, whole-store}
 use Rattle.claim.proofs.Accepts.{positions-of, try-fit, try-marking}
 
@@ -50,6 +50,10 @@ module _ (j : Job) (ok : Runs j) (o : List ℕ) (e : tried j o .number ≡ 0) {T
   unfolding replay
   replayed = replay-fires f (j .new) (nameAt j) (stepsDone j) (done-named j ok) (start (j .newPlaces) (j .new)) (tried j o .marking) allBlank (positions o) (try-marking j ok o e)
 
+  turned : InTurn (j .new) (nameAt j) (start (j .newPlaces) (j .new)) (positions o) (moved f j o .passed)
+  unfolding replay
+  turned = replay-turns f (j .new) (nameAt j) (stepsDone j) (done-named j ok) (start (j .newPlaces) (j .new)) (tried j o .marking) allBlank (positions o) (try-marking j ok o e)
+
   moved-store : moved f j o .store ≡ performAll f (stepAt (stepsDone j)) (positions o) allBlank
   unfolding replay
   moved-store = replay-store f (j .new) (nameAt j) (stepAt (stepsDone j)) (start (j .newPlaces) (j .new)) allBlank (positions o) own (replayed .0)
@@ -61,6 +65,7 @@ module _ (j : Job) (ok : Runs j) (o : List ℕ) (e : tried j o .number ≡ 0) {T
   carried =
       record {
         whole = replayed .0;
+        turns = turned;
         marking = replayed .1;
         job = whole-job j ok f .0;
         values = λ v w. ap (λ (σ : Store T). σ v) moved-store ∙ fit-values (j .newPlaces) (j .new) (stepsDone j) f (positions o) fits v w ∙ ap (λ (n : ℕ). performAll f (stepAt (stepsDone j)) (inTurn 0 n) allBlank v) (done-length j) ∙ sym (ap (λ (σ : Store T). σ v) (whole-store j ok f));

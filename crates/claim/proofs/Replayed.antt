@@ -11,7 +11,7 @@ use Rattle.route.specs.Firing.{canFire, fire}
 use Rattle.route.specs.Steps.{lookup}
 use Rattle.route.specs.declared.Step.{Step}
 use Rattle.slice.specs.Order.{times}
-use Rattle.claim.specs.Values.{Store, Work, End, readings, perform, performAll, replayStep, replayFrom}
+use Rattle.claim.specs.Values.{Store, Work, End, after, readings, perform, performAll, replayStep, replayFrom}
 use Rattle.claim.proofs.Entries.{once}
 
 -- the two steps read and write the same
@@ -23,12 +23,12 @@ unfolding perform
 perform-same {T} f i s t σ e = ap₂ {C = Store T} (λ (r w v : ℕ). cond (has w v) (some (f i v (readings r σ))) (σ v)) (e .0) (e .1)
 
 -- an entry that a whole replay passes has a step, and the replay goes on from it
-replay-on : {T : Type 0} (f : Work T) (i : ℕ) (q : Option Step) (m : ℕ) (σ : Store T) (go : ℕ → Store T → End T) → replayStep f i q m σ go .whole ≡ true → (s : Step) × (q ≡ some s) × (replayStep f i q m σ go ≡ go (fire m s) (perform f i s σ))
+replay-on : {T : Type 0} (f : Work T) (i : ℕ) (q : Option Step) (m : ℕ) (σ : Store T) (go : ℕ → Store T → End T) → replayStep f i q m σ go .whole ≡ true → (s : Step) × (q ≡ some s) × (replayStep f i q m σ go ≡ after (fire m s) (go (fire m s) (perform f i s σ)))
 unfolding replayStep
 replay-on f i none m σ go h = absurd (false≢true h)
 replay-on f i (some s) m σ go h = (s, refl, fires (canFire m s) h)
   where
-    fires : (t : Bool) → cond t (go (fire m s) (perform f i s σ)) (record { marking = m; store = σ; whole = false }) .whole ≡ true → cond t (go (fire m s) (perform f i s σ)) (record { marking = m; store = σ; whole = false }) ≡ go (fire m s) (perform f i s σ)
+    fires : (t : Bool) → cond t (after (fire m s) (go (fire m s) (perform f i s σ))) (record { marking = m; store = σ; passed = []; whole = false }) .whole ≡ true → cond t (after (fire m s) (go (fire m s) (perform f i s σ))) (record { marking = m; store = σ; passed = []; whole = false }) ≡ after (fire m s) (go (fire m s) (perform f i s σ))
     fires true e = refl
     fires false e = absurd (false≢true e)
 

@@ -2,10 +2,13 @@
 use mathlib.Core.Path.{_≡_}
 use mathlib.Core.Logic.{_↔_}
 use mathlib.Core.Bool.{true}
-use mathlib.Core.List.{List, map}
+use mathlib.Core.List.{List, [], _∷_, map}
+use mathlib.Core.Option.{Option, none, some}
 use Prim.Native.Nat.{ℕ, _-_}
 use lib.ListN.{length, getD, take}
 use Rattle.mask.specs.Mask.{has}
+use Rattle.route.specs.Firing.{canFire, fire, start}
+use Rattle.route.specs.Steps.{lookup}
 use Rattle.route.specs.declared.Step.{Step}
 use Rattle.job.specs.Job.{Job}
 use Rattle.job.specs.Run.{ran}
@@ -52,10 +55,23 @@ moved f j o = replay f (j .newPlaces) (j .new) (nameAt j) (positions o)
 abbrev pub wholeJob : {T : Type 0} → Work T → Job → End T
 wholeJob f j = replay f (j .oldPlaces) (j .old) (nameAt j) (inTurn 0 (length (j .done)))
 
+-- one entry fires: the route has its step, which can fire on the marking before, and firing it gives the marking after
+abbrev pub FiresTo : ℕ → Option Step → ℕ → Type 0
+FiresTo m none m′ = ⊥
+FiresTo m (some s) m′ = (canFire m s ≡ true) × (m′ ≡ fire m s)
+
+-- "all firing in turn": a marking after each entry, each by firing that entry's step on the one before
+abbrev pub InTurn : List Step → (ℕ → ℕ) → ℕ → List ℕ → List ℕ → Type 0
+InTurn steps name m [] [] = Unit {0}
+InTurn steps name m [] (m′ ∷ ms) = ⊥
+InTurn steps name m (i ∷ o) [] = ⊥
+InTurn steps name m (i ∷ o) (m′ ∷ ms) = FiresTo m (lookup (name i) steps) m′ × InTurn steps name m′ o ms
+
 -- "replaying any accepted order on the new route from its start leaves in every variable of the new route the value, or the blank, that the
 -- whole job left on the old route". Both replays come to the end of their lists, and that of the order ends on the marking that try gives
 pub record Carried {T : Type 0} (f : Work T) (j : Job) (o : List ℕ) : Type 0 where
   pub whole : moved f j o .whole ≡ true
+  pub turns : InTurn (j .new) (nameAt j) (start (j .newPlaces) (j .new)) (positions o) (moved f j o .passed)
   pub marking : moved f j o .marking ≡ tried j o .marking
   pub job : wholeJob f j .whole ≡ true
   pub values : (v : ℕ) → has (variables (j .new)) v ≡ true → moved f j o .store v ≡ wholeJob f j .store v

@@ -29,20 +29,25 @@ readings m σ = map σ (members 32 m)
 unfoldable pub perform : {T : Type 0} → Work T → ℕ → Step → Store T → Store T
 perform f i s σ v = cond (has (s .writes) v) (some (f i v (readings (s .reads) σ))) (σ v)
 
--- where a replay ends: its marking, its store, and whether it came to the end of the list
+-- where a replay ends: its marking, its store, the markings that it passed, one after each entry, and whether it came to the end of the list
 pub record End (T : Type 0) : Type 0 where
   pub marking : ℕ
   pub store : Store T
+  pub passed : List ℕ
   pub whole : Bool
+
+-- an entry that fired, and what follows it
+abbrev pub after : {T : Type 0} → ℕ → End T → End T
+after m e = record { marking = e .marking; store = e .store; passed = m ∷ e .passed; whole = e .whole }
 
 -- "takes the occurrences in turn. For each, the route's step of its name fires. Where the route has no such step, or it can't fire, the
 -- replay ends there." `name` gives an occurrence's name
 unfoldable pub replayStep : {T : Type 0} → Work T → ℕ → Option Step → ℕ → Store T → (ℕ → Store T → End T) → End T
-replayStep f i none m σ go = record { marking = m; store = σ; whole = false }
-replayStep f i (some s) m σ go = cond (canFire m s) (go (fire m s) (perform f i s σ)) (record { marking = m; store = σ; whole = false })
+replayStep f i none m σ go = record { marking = m; store = σ; passed = []; whole = false }
+replayStep f i (some s) m σ go = cond (canFire m s) (after (fire m s) (go (fire m s) (perform f i s σ))) (record { marking = m; store = σ; passed = []; whole = false })
 
 unfoldable pub replayFrom : {T : Type 0} → Work T → List Step → (ℕ → ℕ) → ℕ → Store T → List ℕ → End T
-replayFrom f steps name m σ [] = record { marking = m; store = σ; whole = true }
+replayFrom f steps name m σ [] = record { marking = m; store = σ; passed = []; whole = true }
 replayFrom f steps name m σ (i ∷ o) = replayStep f i (lookup (name i) steps) m σ (λ m′ σ′. replayFrom f steps name m′ σ′ o)
 
 -- "A replay of a list of occurrences on a route begins at the route's start with all 32 variables blank"
