@@ -175,9 +175,6 @@ some-meets a b v ha hb = go (meets a b) refl
     go true e = refl
     go false e = let z : (has a v && has b v) ≡ false = meets-none a b e v in sym z ∙ ap₂ (λ (x y : Bool). x && y) ha hb
 
-pub meets-comm : (a b : ℕ) → meets a b ≡ meets b a
-meets-comm a b = ap (λ (n : ℕ). not (eqb n 0)) (and-comm a b)
-
 -- ---- laws of the operations, as tables
 
 pub or-assoc : (a b c : ℕ) → bitOr (bitOr a b) c ≡ bitOr a (bitOr b c)

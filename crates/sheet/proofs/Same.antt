@@ -330,6 +330,3 @@ from-point (b ∷ s) a c t i shape line lines = go (alive (next a b)) refl (from
 pub pass-is : (s : List ℕ) → scan Start noPen 0 (failed 0 0) s 0 ≡ readOf s
 unfolding readOf parse stateAt entriesOf
 pass-is s = from-point s Start noLine noLines 0 tt (omega arith, (tt, (tt, (tt, tt)))) (record { oldPlaces = omega arith; old = tt; newPlaces = omega arith; new = tt; done = tt }) ∙ ap (λ (n : ℕ). answered n (parse s)) (omega arith)
-
-pub pass-begins : (s : List ℕ) (p : Pen) (k : Sheet) → p ≡ noPen → k ≡ failed 0 0 → scan Start p 0 k s 0 ≡ readOf s
-pass-begins s p k e q = (λ i. scan Start (e i) 0 (q i) s 0) ∙ pass-is s

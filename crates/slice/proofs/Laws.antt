@@ -19,10 +19,6 @@ use Rattle.slice.proofs.Closure.{kept-sound, kept-complete}
 pub silent-not-kept : (l : List Step) (vars i : ℕ) → getD l i blank .writes ≡ 0 → has (keptMask l vars) i ≡ false
 silent-not-kept l vars i h = kept-is l vars i ∙ ap (λ (m : ℕ). meets m (liveAt l vars (suc i))) h
 
--- what a kept occurrence needs is kept
-pub needs-kept : (l : List Step) (vars i j : ℕ) → has (keptMask l vars) i ≡ true → Needs l i j → has (keptMask l vars) j ≡ true
-needs-kept l vars i j h p = kept-complete l vars j (needed (kept-sound l vars i h) p)
-
 -- only occurrences are kept
 pub kept-below : (l : List Step) (vars i : ℕ) → has (keptMask l vars) i ≡ true → i < length l
 kept-below l vars i h = let (v, w, k) = kept-writes l vars i h in written-below l i v w
