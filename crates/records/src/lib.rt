@@ -3,7 +3,8 @@ use route::Route;
 use route::Step;
 ghost use mathlib.Core.Path.{_≡_};
 ghost use Prim.Native.Nat.{_≤_};
-ghost use lib.ListN.{length};
+ghost use lib.ListN.{length, getD, set};
+ghost use Rattle.route.specs.Steps.{blank};
 ghost use Rattle.records.specs.Loaded.{loaded, laid};
 
 // A lent list as a route by value.
@@ -43,5 +44,31 @@ pub fn fill(out: &mut [Step], n: usize, steps: [Step; 64])
     while i < n {
         out[i] = steps[i];
         i += 1;
+    }
+}
+
+// The record at i, and the blank record past the end.
+pub fn record_at(steps: &[Step], i: usize) -> Step
+    ensures { λ r. ⌜ r ≡ getD (now (steps .entry)) i blank ⌝ }
+{
+    if i < steps.len() {
+        return steps[i];
+    }
+    Step {
+        name: 0,
+        ins: 0,
+        outs: 0,
+        reads: 0,
+        writes: 0,
+    }
+}
+
+// Puts s at i. Past the end the list stays as it was.
+pub fn store(steps: &mut [Step], i: usize, s: Step)
+    ensures { λ _. ⌜ now (steps .exit) ≡ set (now (steps .entry)) i s ⌝ }
+{
+    let len = steps.len();
+    if i < len {
+        steps[i] = s;
     }
 }

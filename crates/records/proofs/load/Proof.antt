@@ -56,7 +56,7 @@ use Rattle.route.proofs.Route as Ro
 use Rattle.route.proofs.Route.Laws as Ro′
 use Rattle.records.specs.Loaded.{loaded}
 use Rattle.records.proofs.Copied.{copied, length-copied, blanks, loads-short, loads-long}
-use Rattle.records.proofs.Record.{S, word, records, vals, tells, holds, fails, typed, typed-all, makes}
+use Rattle.records.proofs.Record.{S, word, records, vals, tells, bv, is-blank, holds, fails, typed, typed-all, makes}
 use Rattle.records.proofs.load.Key.{name as #records·load}
 use Rattle.records.proofs.load as load′
 use Rattle.records.proofs.load.Statement as stated
@@ -68,12 +68,6 @@ slice = sliceTy (tyRef (named 0) imm (pointee (S .written)))
 
 abbrev stayed : Stays (load′.ended .signature .params) (load′.ended .kept)
 stayed = (stay-none (λ _. u64) yes, (stay-none-slice (0 ∷ []) tt (plain (λ _. S)) yes, tt))
-
-abbrev bv : Val
-bv = St′.lowered blank
-
-is-blank : Is S blank (bv ∷ [])
-is-blank = LL.owes St.the-type St′.the-laws blank ((refl, lit< tt), ((refl, lit< tt), ((refl, lit< tt), ((refl, lit< tt), ((refl, lit< tt), tt)))))
 
 all-blank : (n : ℕ) → shadow (each Step (S .own) (replicate n blank) (replicate n bv))
 all-blank zero = tt
