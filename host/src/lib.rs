@@ -22,8 +22,8 @@ extern "C" {
     ) -> u32;
 }
 
-/// What an out number holds before a call. No answer has this value, so one
-/// that a call forgets to set shows.
+/// What an out number holds before a call. No answer that the tests expect has
+/// this value, so one that a call forgets to set shows.
 const UNSET: u64 = 0xa5a5_5a5a_c3c3_3c3c;
 
 /// What print answers: 01's number (0 on success), the second number and the

@@ -2,30 +2,8 @@
 
 use reference::judge::WORK;
 
-const SHEET: &str = "\
-(old 4)
-(step 10 (in 0) (out 1) (read) (write 0))
-(step 20 (in 1) (out 2) (read) (write 1))
-(step 30 (in 2) (out 3) (read 0 1) (write 2))
-(new 4)
-(step 20 (in 0) (out 1) (read) (write 1))
-(step 10 (in 1) (out 2) (read) (write 0))
-(step 30 (in 2) (out 3) (read 0 1) (write 2))
-(job)
-(done 10)
-(done 20)
-(done 30)
-";
-
-const LISTING: &str = "\
-(moved (kept 3) (dropped 0))
-(after 3 1 2)
-(order 2 1 3)
-(marking 3)
-(value 0 1)
-(value 1 2)
-(value 2 3)
-";
+const SHEET: &str = include_str!("../../../examples/letters/A.sheet");
+const LISTING: &str = include_str!("../../../examples/letters/A.listing");
 
 #[test]
 fn example_a() {
