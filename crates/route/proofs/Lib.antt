@@ -1,6 +1,7 @@
 -- Laws on steps and firing, which proofs of this crate and of those above it cite.
 pub mod Full
 pub mod StepList
+pub mod FlatSteps
 pub mod Lookup
 pub mod Column
 pub mod Hinted

@@ -1,5 +1,6 @@
 -- What a route is and how it fires.
 pub mod Steps
+pub mod Flat
 pub mod Firing
 pub mod Rows
 pub mod Ends

@@ -1,5 +1,6 @@
 // A route by value, its marking, and the rows that speak of a route as a whole.
 pub mod firing;
+pub mod flat;
 pub mod net;
 pub mod rows;
 pub mod steps;
