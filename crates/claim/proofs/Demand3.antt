@@ -8,7 +8,7 @@ use Prim.Native.Nat.{ℕ}
 use Rattle.route.specs.Steps.{names}
 use Rattle.route.specs.Firing.{start}
 use Rattle.route.specs.declared.Step.{Step}
-use Rattle.job.specs.Job.{Job}
+use Rattle.job.specs.Job.{Job, newStart}
 use Rattle.slice.specs.Order.{times}
 use Rattle.fit.specs.Straight.{fireAll, stepsOn}
 use Rattle.fit.specs.Try.{tried}
@@ -34,7 +34,7 @@ names-on j ok (i ∷ p) = ap₂ (λ (n : ℕ) (l : List ℕ). n ∷ l) (done-nam
 
 same-places : (j j′ : Job) (o o′ : List ℕ) → j .newPlaces ≡ j′ .newPlaces → j .new ≡ j′ .new → Runs j → Runs j′ → Accepted j o → Accepted j′ o′ → ((n : ℕ) → times n (map (nameAt j) (positions o)) ≡ times n (map (nameAt j′) (positions o′))) → tried j o .marking ≡ tried j′ o′ .marking
 same-places j j′ o o′ places new ok ok′ a a′ c =
-    same-marking (j .new) (start (j .newPlaces) (j .new)) (tried j o .marking) (tried j′ o′ .marking) (stepsOn (stepsDone j) (positions o)) (stepsOn (stepsDone j′) (positions o′))
+    same-marking (j .new) (newStart j) (tried j o .marking) (tried j′ o′ .marking) (stepsOn (stepsDone j) (positions o)) (stepsOn (stepsDone j′) (positions o′))
     (try-marking j ok o (a .0))
     (ap₂ (λ (n : ℕ) (s : List Step). fireAll s (start n s) (stepsOn (stepsDone j′) (positions o′))) places new ∙ try-marking j′ ok′ o′ (a′ .0))
     (λ n. ap (times n) (names-on j ok (positions o)) ∙ c n ∙ sym (ap (times n) (names-on j′ ok′ (positions o′))))

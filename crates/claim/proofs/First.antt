@@ -11,7 +11,6 @@ use native.Mathlib.Decide.{decLt}
 use lib.ListN.{length, getD, length-map}
 use Rattle.mask.specs.Mask.{has, members, count}
 use Rattle.mask.proofs.Laws.{has-zero}
-use Rattle.route.specs.Firing.{start}
 use Rattle.route.specs.declared.Step.{Step}
 use Rattle.slice.specs.Order.{times, EachOnce}
 use Rattle.search.specs.Search.{isSome, search}
@@ -34,7 +33,7 @@ map-some : {A B : Type 0} (f : A → B) (q : Option A) (b : B) → Option·map f
 map-some f none b e = absurd (Option·none-ne-some b e)
 map-some f (some a) b e = (a, refl, Option·some-injective b (f a) (sym e))
 
-module _ (places : ℕ) (new l : List Step) (short : length l ≤ 64) where
+module _ (from : ℕ) (new l : List Step) (short : length l ≤ 64) where
   -- the candidates
   abbrev ks : List ℕ
   ks = members 64 (keptOf new l)
@@ -43,7 +42,7 @@ module _ (places : ℕ) (new l : List Step) (short : length l ≤ 64) where
   at k = getD ks k 0
 
   abbrev found : Option (List ℕ)
-  found = search (placeNext new l ks) (length ks) (length ks) 0 (start places new)
+  found = search (placeNext new l ks) (length ks) (length ks) 0 from
 
   kept-at : (k : ℕ) → k < length ks → has (keptOf new l) (at k) ≡ true
   kept-at k h = entry-member (keptOf new l) ks (all-kept new l short) (at k) (entry-at ks k h)
@@ -70,11 +69,11 @@ module _ (places : ℕ) (new l : List Step) (short : length l ≤ 64) where
       go true h = let (k, low, is) = at-kept i h in rw (← is) (times-at ks (members-rise 64 (keptOf new l)) o b k low ∙ each k low)
       go false h = none h (decLt 0 (times i (map at o)))
 
-  pub first-fits : KeptPass places new l → (p : List ℕ) → firstFit places new l ≡ some p → KeptFit places new l p
+  pub first-fits : KeptPass from new l → (p : List ℕ) → firstFit from new l ≡ some p → KeptFit from new l p
   unfolding firstFit firstOf isSome
   first-fits pass p e =
       let (o, f, is) = map-some (map at) found p e in
-      let (a, len) = search-sound (placeNext new l ks) (length ks) (length ks) 0 (start places new) o f in
+      let (a, len) = search-sound (placeNext new l ks) (length ks) (length ks) 0 from o f in
       let r = allowed-placed new l ks (members-rise 64 (keptOf new l)) a in
       let c = all-once o (r .low) (r .each) len in
       rw is (record { once = c; order = r .order; same = each-all (sameStep new) l (map at o) (λ i n. pass .same i (entry-member (keptOf new l) (map at o) c i n)); fires = rw (r .fires); limit = pass .limit })
@@ -84,10 +83,10 @@ module _ (places : ℕ) (new l : List Step) (short : length l ≤ 64) where
     list : List ℕ
     is : q ≡ map at list
     low : Below (length ks) list
-    allowed : Allowed (placeNext new l ks) (length ks) 0 (start places new) list
+    allowed : Allowed (placeNext new l ks) (length ks) 0 from list
     whole : length list ≡ length ks
 
-  may-find : (q : List ℕ) → KeptFit places new l q → Found q
+  may-find : (q : List ℕ) → KeptFit from new l q → Found q
   unfolding count
   may-find q k =
       let up = members-rise 64 (keptOf new l) in
@@ -97,7 +96,7 @@ module _ (places : ℕ) (new l : List Step) (short : length l ≤ 64) where
         list = c;
         is = is;
         low = low;
-        allowed = placed-allowed new l ks up c 0 (start places new) _ low rest (rw is at (k .order)) (ap (λ (o : List ℕ). fireAll new (start places new) (stepsOn l o)) (sym is) ∙ fit-fires places new l q (inr k));
+        allowed = placed-allowed new l ks up c 0 from _ low rest (rw is at (k .order)) (ap (λ (o : List ℕ). fireAll new from (stepsOn l o)) (sym is) ∙ fit-fires from new l q (inr k));
         whole = omega (arith, once-count 64 (keptOf new l) q (λ i h. omega (arith, kept-short new l i h)) (k .once), ap length is, length-map c at);
       }
     where
@@ -107,7 +106,7 @@ module _ (places : ℕ) (new l : List Step) (short : length l ≤ 64) where
           rw (has-zero v) (omega (arith, times-at ks (members-rise 64 (keptOf new l)) c low v h))
 
   -- no fit list of the kept stands before what is found, and where nothing is found there is none
-  pub first-least : (p : List ℕ) → firstFit places new l ≡ some p → (q : List ℕ) → KeptFit places new l q → NotAfter p q
+  pub first-least : (p : List ℕ) → firstFit from new l ≡ some p → (q : List ℕ) → KeptFit from new l q → NotAfter p q
   unfolding firstFit firstOf
   first-least p e q k =
       let (o, f, is) = map-some (map at) found p e in
@@ -115,7 +114,7 @@ module _ (places : ℕ) (new l : List Step) (short : length l ≤ 64) where
       let least : NotAfter o (r .list) = search-least (placeNext new l ks) (length ks) o (r .allowed) (rw (r .whole) f) in
       rw (is, r .is) (map-order at (λ x y h n. members-rise 64 (keptOf new l) x y h (r .low y n)) least)
 
-  pub first-none : firstFit places new l ≡ none → (q : List ℕ) → KeptFit places new l q → ⊥
+  pub first-none : firstFit from new l ≡ none → (q : List ℕ) → KeptFit from new l q → ⊥
   unfolding firstFit firstOf
   first-none e q k =
       let r = may-find q k in

@@ -10,7 +10,6 @@ use native.Mathlib.Omega.{arith}
 use lib.ListN.{length, getD}
 use Rattle.mask.proofs.Truth.{both}
 use Rattle.route.specs.Steps.{blank}
-use Rattle.route.specs.Firing.{start}
 use Rattle.route.specs.declared.Step.{Step}
 use Rattle.slice.specs.Order.{times}
 use Rattle.search.specs.Search.{isSome}
@@ -26,26 +25,26 @@ some-of (some m) h = refl
 
 -- the marking at the end of a list that fires from the start
 abbrev pub endOf : ℕ → List Step → List Step → ℕ
-endOf places new s = Option·getD (fireAll new (start places new) s) 0
+endOf from new s = Option·getD (fireAll new from s) 0
 
-module _ (places : ℕ) (new l : List Step) where
-  pub straight-same : runsStraight places new l ≡ true → (i : ℕ) → i < length l → sameStep new (getD l i blank) ≡ true
+module _ (from : ℕ) (new l : List Step) where
+  pub straight-same : runsStraight from new l ≡ true → (i : ℕ) → i < length l → sameStep new (getD l i blank) ≡ true
   unfolding runsStraight
-  straight-same h = all-at (sameStep new) l (both (allOf (sameStep new) l) (isSome (fireAll new (start places new) l)) h .0)
+  straight-same h = all-at (sameStep new) l (both (allOf (sameStep new) l) (isSome (fireAll new from l)) h .0)
 
-  pub straight-fires : runsStraight places new l ≡ true → fireAll new (start places new) l ≡ some (endOf places new l)
+  pub straight-fires : runsStraight from new l ≡ true → fireAll new from l ≡ some (endOf from new l)
   unfolding runsStraight
-  straight-fires h = some-of (fireAll new (start places new) l) (both (allOf (sameStep new) l) (isSome (fireAll new (start places new) l)) h .1)
+  straight-fires h = some-of (fireAll new from l) (both (allOf (sameStep new) l) (isSome (fireAll new from l)) h .1)
 
-  pub fit-same : (p : List ℕ) → FitAt places new l p → (i : ℕ) → 0 < times i p → sameStep new (getD l i blank) ≡ true
+  pub fit-same : (p : List ℕ) → FitAt from new l p → (i : ℕ) → 0 < times i p → sameStep new (getD l i blank) ≡ true
   fit-same p (inl s) i n = straight-same (s .runs) i (omega (arith, turn-below (length l) 0 i (rw (s .whole) at n)))
   fit-same p (inr k) i n = all-each (sameStep new) l p (k .same) i n
 
-  pub fit-fires : (p : List ℕ) → FitAt places new l p → fireAll new (start places new) (stepsOn l p) ≡ some (endOf places new (stepsOn l p))
+  pub fit-fires : (p : List ℕ) → FitAt from new l p → fireAll new from (stepsOn l p) ≡ some (endOf from new (stepsOn l p))
   fit-fires p (inl s) = let all : stepsOn l p ≡ l = ap (stepsOn l) (s .whole) ∙ whole-steps l in rw all (straight-fires (s .runs))
-  fit-fires p (inr k) = some-of (fireAll new (start places new) (stepsOn l p)) (k .fires)
+  fit-fires p (inr k) = some-of (fireAll new from (stepsOn l p)) (k .fires)
 
   -- in a job that doesn't run straight only a list of the kept is fit
-  pub fit-kept : runsStraight places new l ≡ false → (p : List ℕ) → FitAt places new l p → KeptFit places new l p
+  pub fit-kept : runsStraight from new l ≡ false → (p : List ℕ) → FitAt from new l p → KeptFit from new l p
   fit-kept h p (inl s) = absurd (true≢false (sym (s .runs) ∙ h))
   fit-kept h p (inr k) = k

@@ -29,8 +29,8 @@ use Rattle.claim.proofs.Own.{own-once}
 use Rattle.claim.proofs.FitList.{straight-same, fit-same}
 
 -- what rows 10 to 12 ask
-pub record KeptPass (places : ℕ) (new l : List Step) : Type 0 where
-  pub limit : runsStraight places new l ≡ false → count 64 (keptOf new l) ≤ 16
+pub record KeptPass (from : ℕ) (new l : List Step) : Type 0 where
+  pub limit : runsStraight from new l ≡ false → count 64 (keptOf new l) ≤ 16
   pub same : (i : ℕ) → has (keptOf new l) i ≡ true → sameStep new (getD l i blank) ≡ true
 
 -- ---- one line
@@ -79,9 +79,9 @@ lines-short new l line [] = omega arith
 lines-short new l line (x ∷ o) = rows-most 12 (keptRow new (line + x) (getD l x blank)) (keptLines new l line o) (row-short new (line + x) (getD l x blank)) (lines-short new l line o)
 
 -- no other number comes from these rows
-pub rows-short : (line places : ℕ) (new l : List Step) → keptRows line places new l .number ≤ 12
+pub rows-short : (line from : ℕ) (new l : List Step) → keptRows line from new l .number ≤ 12
 unfolding keptRows
-rows-short line places new l = rows-most 12 _ (keptLines new l (line + 1) (members 64 (keptOf new l))) (row-most 12 _ 10 line (omega arith)) (lines-short new l (line + 1) (members 64 (keptOf new l)))
+rows-short line from new l = rows-most 12 _ (keptLines new l (line + 1) (members 64 (keptOf new l))) (row-most 12 _ 10 line (omega arith)) (lines-short new l (line + 1) (members 64 (keptOf new l)))
 
 -- only occurrences are kept
 pub kept-short : (new l : List Step) (i : ℕ) → has (keptOf new l) i ≡ true → i < length l
@@ -89,9 +89,9 @@ unfolding keptOf
 kept-short new l = kept-below l (variables new)
 
 -- a fit list passes rows 10 to 12
-pub fit-pass : (places : ℕ) (new l : List Step) (p : List ℕ) → FitAt places new l p → KeptPass places new l
-fit-pass places new l p (inl s) = record { limit = λ e. absurd (true≢false (sym (s .runs) ∙ e)); same = λ i h. straight-same places new l (s .runs) i (kept-short new l i h) }
-fit-pass places new l p (inr k) = record { limit = k .limit; same = λ i h. fit-same places new l p (inr k) i (member-entry (keptOf new l) p (k .once) i h) }
+pub fit-pass : (from : ℕ) (new l : List Step) (p : List ℕ) → FitAt from new l p → KeptPass from new l
+fit-pass from new l p (inl s) = record { limit = λ e. absurd (true≢false (sym (s .runs) ∙ e)); same = λ i h. straight-same from new l (s .runs) i (kept-short new l i h) }
+fit-pass from new l p (inr k) = record { limit = k .limit; same = λ i h. fit-same from new l p (inr k) i (member-entry (keptOf new l) p (k .once) i h) }
 
 or-rest : (x y : Bool) → (x || y) ≡ true → x ≡ false → y ≡ true
 or-rest true y e f = cc
@@ -105,21 +105,21 @@ or-holds false y h = h refl
 pub all-kept : (new l : List Step) → length l ≤ 64 → EachOnce (keptOf new l) (members 64 (keptOf new l))
 all-kept new l short = own-once 64 (keptOf new l) (λ i h. omega (arith, kept-short new l i h))
 
-module _ (places : ℕ) (new l : List Step) (short : length l ≤ 64) where
+module _ (from : ℕ) (new l : List Step) (short : length l ≤ 64) where
   abbrev limited : Bool
   limited = leb (count 64 (keptOf new l)) 16
 
-  pub rows-ask : (line : ℕ) → keptRows line places new l .number ≡ 0 → KeptPass places new l
+  pub rows-ask : (line : ℕ) → keptRows line from new l .number ≡ 0 → KeptPass from new l
   unfolding keptRows
   rows-ask line e =
       let (a, b) = rows-hold _ _ e in
       record {
-        limit = λ h. leb-true (count 64 (keptOf new l)) 16 (or-rest (runsStraight places new l) limited (row-holds (runsStraight places new l || limited) 9 line a) h);
+        limit = λ h. leb-true (count 64 (keptOf new l)) 16 (or-rest (runsStraight from new l) limited (row-holds (runsStraight from new l || limited) 9 line a) h);
         same = λ i h. lines-same new l (line + 1) (members 64 (keptOf new l)) b i (member-entry (keptOf new l) (members 64 (keptOf new l)) (all-kept new l short) i h);
       }
 
-  pub rows-pass : (line : ℕ) → KeptPass places new l → keptRows line places new l .number ≡ 0
+  pub rows-pass : (line : ℕ) → KeptPass from new l → keptRows line from new l .number ≡ 0
   unfolding keptRows
   rows-pass line p =
-      ap (λ (o : Outcome). o .number) (row-passes (runsStraight places new l || limited) 10 line _ (or-holds (runsStraight places new l) limited (λ h. le-leb (count 64 (keptOf new l)) 16 (p .limit h))))
+      ap (λ (o : Outcome). o .number) (row-passes (runsStraight from new l || limited) 10 line _ (or-holds (runsStraight from new l) limited (λ h. le-leb (count 64 (keptOf new l)) 16 (p .limit h))))
       ∙ same-lines new l (line + 1) (members 64 (keptOf new l)) (λ i n. p .same i (entry-member (keptOf new l) (members 64 (keptOf new l)) (all-kept new l short) i n))

@@ -9,9 +9,8 @@ use Prim.Native.Nat.{ℕ, _≤_}
 use lib.ListN.{length, getD}
 use Rattle.mask.specs.Mask.{has}
 use Rattle.route.specs.Steps.{blank}
-use Rattle.route.specs.Firing.{start}
 use Rattle.route.specs.declared.Step.{Step}
-use Rattle.job.specs.Job.{Job, jobLine}
+use Rattle.job.specs.Job.{Job, jobLine, newStart}
 use Rattle.slice.specs.Slice.{Kept, keptMask}
 use Rattle.slice.specs.Precedence.{comesAfter, row}
 use Rattle.slice.specs.Order.{inTurn, EachOnce, inOrder}
@@ -52,14 +51,14 @@ try-accepts-the-fit = try-fit
 pub try-accepts-with-0 : (j : Job) → Runs j → (o : List ℕ) → tried j o .number ≡ 0 → tried j o .second ≡ 0
 try-accepts-with-0 = try-second
 
-pub try-gives-the-end : (j : Job) → Runs j → (o : List ℕ) → tried j o .number ≡ 0 → fireAll (j .new) (start (j .newPlaces) (j .new)) (stepsOn (stepsDone j) (positions o)) ≡ some (tried j o .marking)
+pub try-gives-the-end : (j : Job) → Runs j → (o : List ℕ) → tried j o .number ≡ 0 → fireAll (j .new) (newStart j) (stepsOn (stepsDone j) (positions o)) ≡ some (tried j o .marking)
 try-gives-the-end = try-marking
 
 -- with room enough judge moves a job exactly when a fit list exists, and answers 13 exactly when the rows to 12 pass and none does
 pub judge-moves-where-one-fits : (j : Job) (room : ℕ) → Runs j → 8192 ≤ room → (judged j room .number ≡ 0) ↔ ((o : List ℕ) × FitFor j o)
 judge-moves-where-one-fits = judge-moves
 
-pub judge-refuses-where-none-fits : (j : Job) (room : ℕ) → Runs j → 8192 ≤ room → (judged j room .number ≡ 13) ↔ (keptRows (jobLine j) (j .newPlaces) (j .new) (stepsDone j) .number ≡ 0) × ((o : List ℕ) → FitFor j o → ⊥)
+pub judge-refuses-where-none-fits : (j : Job) (room : ℕ) → Runs j → 8192 ≤ room → (judged j room .number ≡ 13) ↔ (keptRows (jobLine j) (newStart j) (j .new) (stepsDone j) .number ≡ 0) × ((o : List ℕ) → FitFor j o → ⊥)
 judge-refuses-where-none-fits = judge-refuses
 
 -- it gives the straight list, or else the first of all fit lists in dictionary order, with the marking at the end of its firing
@@ -72,7 +71,7 @@ judge-gives-the-first = judge-given
 pub judge-gives-the-only : (j : Job) (o q : List ℕ) → Given j o → Given j q → o ≡ q
 judge-gives-the-only = given-one
 
-pub judge-gives-the-end : (j : Job) (room : ℕ) → Runs j → judged j room .number ≡ 0 → fireAll (j .new) (start (j .newPlaces) (j .new)) (stepsOn (stepsDone j) (positions (ordered j room))) ≡ some (judged j room .marking)
+pub judge-gives-the-end : (j : Job) (room : ℕ) → Runs j → judged j room .number ≡ 0 → fireAll (j .new) (newStart j) (stepsOn (stepsDone j) (positions (ordered j room))) ≡ some (judged j room .marking)
 judge-gives-the-end = judge-marking
 
 -- demand 3, whole

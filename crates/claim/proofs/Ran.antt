@@ -9,11 +9,11 @@ use native.Mathlib.Omega.{arith}
 use lib.Dec.{eqb, ltb}
 use lib.ListN.{length, getD, length-map}
 use borrow.Author.Tests.{eqb-true, ltb-true}
-use Rattle.route.specs.Firing.{canFire, fire, start}
+use Rattle.route.specs.Firing.{canFire, fire}
 use Rattle.route.specs.Rows.{first}
 use Rattle.route.specs.Steps.{blank, lookup}
 use Rattle.route.specs.declared.Step.{Step}
-use Rattle.job.specs.Job.{Job, jobLine, newLine}
+use Rattle.job.specs.Job.{Job, jobLine, newLine, oldStart}
 use Rattle.job.specs.Lines.{doneRow, doneRows, routeRows, lineRows, checked}
 use Rattle.job.specs.Run.{stopped, runStep, runFrom, ran}
 use Rattle.job.specs.declared.Ran.{Ran}
@@ -108,7 +108,7 @@ done-length j = length-map (j .done) (λ (n : ℕ). Option·getD (lookup n (j .o
 
 module _ (j : Job) (ok : Runs j) where
   abbrev run : Ran
-  run = runFrom (j .old) (start (j .oldPlaces) (j .old)) (jobLine j + 1) (j .done)
+  run = runFrom (j .old) (oldStart j) (jobLine j + 1) (j .done)
 
   lines-pass : (checked j .number ≡ 0) × (ran j ≡ run)
   unfolding ran
@@ -128,23 +128,23 @@ module _ (j : Job) (ok : Runs j) where
   steps-short = omega (arith, done-bound, done-length j)
 
   pub done-known : Known (j .old) (j .done)
-  done-known = run-known (j .old) (start (j .oldPlaces) (j .old)) (jobLine j + 1) (j .done) run-passes
+  done-known = run-known (j .old) (oldStart j) (jobLine j + 1) (j .done) run-passes
 
   pub done-named : (i : ℕ) → getD (stepsDone j) i blank .name ≡ nameAt j i
   done-named = name-done (j .old) (j .done) done-known
 
-  pub done-fires : fireAll (j .old) (start (j .oldPlaces) (j .old)) (stepsDone j) ≡ some (ran j .marking .tokens)
-  done-fires = run-fires (j .old) (start (j .oldPlaces) (j .old)) (jobLine j + 1) (j .done) run-passes ∙ ap (λ (r : Ran). some (r .marking .tokens)) (sym (lines-pass .1))
+  pub done-fires : fireAll (j .old) (oldStart j) (stepsDone j) ≡ some (ran j .marking .tokens)
+  done-fires = run-fires (j .old) (oldStart j) (jobLine j + 1) (j .done) run-passes ∙ ap (λ (r : Ran). some (r .marking .tokens)) (sym (lines-pass .1))
 
   -- the whole job comes to its end, on the marking that run gives
   pub whole-job : {T : Type 0} (f : Work T) → (wholeJob f j .whole ≡ true) × (wholeJob f j .marking ≡ ran j .marking .tokens)
   unfolding replay
-  whole-job f = replay-fires f (j .old) (nameAt j) (stepsDone j) done-named (start (j .oldPlaces) (j .old)) (ran j .marking .tokens) allBlank (inTurn 0 (length (j .done))) (ap (fireAll (j .old) (start (j .oldPlaces) (j .old))) (rw (← done-length j) (whole-steps (stepsDone j))) ∙ done-fires)
+  whole-job f = replay-fires f (j .old) (nameAt j) (stepsDone j) done-named (oldStart j) (ran j .marking .tokens) allBlank (inTurn 0 (length (j .done))) (ap (fireAll (j .old) (oldStart j)) (rw (← done-length j) (whole-steps (stepsDone j))) ∙ done-fires)
 
   -- and leaves what performing the steps done leaves
   pub whole-store : {T : Type 0} (f : Work T) → wholeJob f j .store ≡ performAll f (stepAt (stepsDone j)) (inTurn 0 (length (j .done))) allBlank
   unfolding replay
-  whole-store f = replay-store f (j .old) (nameAt j) (stepAt (stepsDone j)) (start (j .oldPlaces) (j .old)) allBlank (inTurn 0 (length (j .done))) own (whole-job f .0)
+  whole-store f = replay-store f (j .old) (nameAt j) (stepAt (stepsDone j)) (oldStart j) allBlank (inTurn 0 (length (j .done))) own (whole-job f .0)
     where
       own : (i : ℕ) (s : Step) → 0 < times i (inTurn 0 (length (j .done))) → lookup (nameAt j i) (j .old) ≡ some s → SameData s (stepAt (stepsDone j) i)
       own i s n e =

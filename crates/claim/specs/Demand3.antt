@@ -7,10 +7,10 @@ use mathlib.Core.Option.{Option, none, some}
 use Prim.Native.Nat.{ℕ, _-_}
 use lib.ListN.{length, getD, take}
 use Rattle.mask.specs.Mask.{has}
-use Rattle.route.specs.Firing.{canFire, fire, start}
+use Rattle.route.specs.Firing.{canFire, fire}
 use Rattle.route.specs.Steps.{lookup}
 use Rattle.route.specs.declared.Step.{Step}
-use Rattle.job.specs.Job.{Job}
+use Rattle.job.specs.Job.{Job, oldStart, newStart}
 use Rattle.job.specs.Run.{ran}
 use Rattle.slice.specs.Slice.{performed, variables}
 use Rattle.slice.specs.Order.{inTurn, times}
@@ -41,7 +41,7 @@ Accepted j o = (tried j o .number ≡ 0) × (tried j o .second ≡ 0)
 
 -- an order is fit for a job
 abbrev pub FitFor : Job → List ℕ → Type 0
-FitFor j o = Fit (j .newPlaces) (j .new) (stepsDone j) o
+FitFor j o = Fit (newStart j) (j .new) (stepsDone j) o
 
 -- the order that judge gives; `room` is the length of the work slice
 abbrev pub ordered : Job → ℕ → List ℕ
@@ -49,11 +49,11 @@ ordered j room = take (judged j room .len) (judged j room .order)
 
 -- "replaying any accepted order on the new route from its start"
 abbrev pub moved : {T : Type 0} → Work T → Job → List ℕ → End T
-moved f j o = replay f (j .newPlaces) (j .new) (nameAt j) (positions o)
+moved f j o = replay f (newStart j) (j .new) (nameAt j) (positions o)
 
 -- "The whole job is the replay of the done list, from 1 upward, on the old route, with the same functions."
 abbrev pub wholeJob : {T : Type 0} → Work T → Job → End T
-wholeJob f j = replay f (j .oldPlaces) (j .old) (nameAt j) (inTurn 0 (length (j .done)))
+wholeJob f j = replay f (oldStart j) (j .old) (nameAt j) (inTurn 0 (length (j .done)))
 
 -- one entry fires: the route has its step, which can fire on the marking before, and firing it gives the marking after
 abbrev pub FiresTo : ℕ → Option Step → ℕ → Type 0
@@ -71,7 +71,7 @@ InTurn steps name m (i ∷ o) (m′ ∷ ms) = FiresTo m (lookup (name i) steps) 
 -- whole job left on the old route". Both replays come to the end of their lists, and that of the order ends on the marking that try gives
 pub record Carried {T : Type 0} (f : Work T) (j : Job) (o : List ℕ) : Type 0 where
   pub whole : moved f j o .whole ≡ true
-  pub turns : InTurn (j .new) (nameAt j) (start (j .newPlaces) (j .new)) (positions o) (moved f j o .passed)
+  pub turns : InTurn (j .new) (nameAt j) (newStart j) (positions o) (moved f j o .passed)
   pub marking : moved f j o .marking ≡ tried j o .marking
   pub job : wholeJob f j .whole ≡ true
   pub values : (v : ℕ) → has (variables (j .new)) v ≡ true → moved f j o .store v ≡ wholeJob f j .store v

@@ -4,7 +4,7 @@ use mathlib.Core.List.{List, [], _∷_, map}
 use mathlib.Core.Option.{Option, none, some}
 use Prim.Native.Nat.{ℕ}
 use Rattle.mask.specs.Mask.{has, members}
-use Rattle.route.specs.Firing.{canFire, fire, start}
+use Rattle.route.specs.Firing.{canFire, fire}
 use Rattle.route.specs.Steps.{lookup}
 use Rattle.route.specs.declared.Step.{Step}
 
@@ -50,9 +50,9 @@ unfoldable pub replayFrom : {T : Type 0} → Work T → List Step → (ℕ → �
 replayFrom f steps name m σ [] = record { marking = m; store = σ; passed = []; whole = true }
 replayFrom f steps name m σ (i ∷ o) = replayStep f i (lookup (name i) steps) m σ (λ m′ σ′. replayFrom f steps name m′ σ′ o)
 
--- "A replay of a list of occurrences on a route begins at the route's start with all 32 variables blank"
+-- "A replay of a list of occurrences on a route begins at the route's start with all 32 variables blank"; `from` is that start
 unfoldable pub replay : {T : Type 0} → Work T → ℕ → List Step → (ℕ → ℕ) → List ℕ → End T
-replay f places steps name o = replayFrom f steps name (start places steps) allBlank o
+replay f from steps name o = replayFrom f steps name from allBlank o
 
 -- the values alone: performing occurrences in turn, each with its own step
 unfoldable pub performAll : {T : Type 0} → Work T → (ℕ → Step) → List ℕ → Store T → Store T

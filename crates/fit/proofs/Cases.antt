@@ -7,7 +7,7 @@ use borrow.Author.Tests.{eq-eqb, ne-eqb, eqb-true}
 use Rattle.route.specs.Rows.{refuse, first}
 use Rattle.route.specs.declared.Step.{Step}
 use Rattle.route.specs.declared.Outcome.{Outcome}
-use Rattle.job.specs.Job.{Job, jobLine}
+use Rattle.job.specs.Job.{Job, jobLine, newStart}
 use Rattle.job.specs.Lines.{lineRows}
 use Rattle.job.specs.Run.{stopped, ran}
 use Rattle.job.specs.declared.Ran.{Ran}
@@ -25,7 +25,7 @@ module _ (j : Job) where
 
   -- rows 10 to 12 of the job
   abbrev pub jobRows : Outcome
-  jobRows = keptRows (jobLine j) (j .newPlaces) (j .new) doneSteps
+  jobRows = keptRows (jobLine j) (newStart j) (j .new) doneSteps
 
   picked : (t : Bool) → eqb (ran j .number) 0 ≡ t → cond t jobRows (refuse (ran j .number) (ran j .second)) ≡ rowsTo12 j
   unfolding rowsTo12
@@ -50,7 +50,7 @@ module _ (j : Job) where
       stops : ran j .number ≡ 0 → ⊥
       stops e = off (ap (λ (x : Ran). x .number) is ∙ e)
 
-  pub case-stands : (c : Case) → ran j .number ≡ 0 → CaseAt (jobLine j) (j .newPlaces) (j .new) doneSteps c → CaseOf j c
+  pub case-stands : (c : Case) → ran j .number ≡ 0 → CaseAt (jobLine j) (newStart j) (j .new) doneSteps c → CaseOf j c
   case-stands c e a =
       record {
         outcome-is = a .outcome-is ∙ picked true (eq-eqb (ran j .number) 0 e);
@@ -69,7 +69,7 @@ module _ (j : Job) where
         go true e p = eqb-true (ran j .number) 0 e
         go false e p = eqb-true (ran j .number) 0 (ap (λ (o : Outcome). eqb (o .number) 0) (picked false e) ∙ p)
 
-    pub case-at : CaseAt (jobLine j) (j .newPlaces) (j .new) doneSteps c
+    pub case-at : CaseAt (jobLine j) (newStart j) (j .new) doneSteps c
     case-at =
         record {
           outcome-is = is .outcome-is ∙ sym (picked true (eq-eqb (ran j .number) 0 case-ran));

@@ -8,9 +8,9 @@ use native.Mathlib.Omega.{arith}
 use lib.ListN.{length}
 use borrow.Author.Tests.{eq-eqb}
 use Rattle.mask.specs.Mask.{has, below, count}
-use Rattle.route.specs.Firing.{start}
 use Rattle.route.specs.declared.Step.{Step}
 use Rattle.job.proofs.RunLine.{ran-fits}
+use Rattle.job.specs.Job.{newStart}
 use Rattle.slice.specs.Slice.{performed, variables, keptMask}
 use Rattle.slice.specs.Order.{inTurn}
 use Rattle.slice.specs.Uses.{CutOf}
@@ -30,45 +30,45 @@ use Rattle.fit.proofs.Passed.{limit-holds, kept-same}
 
 -- ---- where the straight list ends
 
-module _ (places : ℕ) (new l : List Step) (f : Fires) (is : f ≡ straightOf places new l) where
-  straight-told : (m : ℕ) → f ≡ To m → (runsStraight places new l ≡ true) × (m ≡ Option·getD (fireAll new (start places new) l) 0)
+module _ (from : ℕ) (new l : List Step) (f : Fires) (is : f ≡ straightOf from new l) where
+  straight-told : (m : ℕ) → f ≡ To m → (runsStraight from new l ≡ true) × (m ≡ Option·getD (fireAll new from l) 0)
   unfolding straightOf
-  straight-told m e = go (runsStraight places new l) (sym e ∙ is)
+  straight-told m e = go (runsStraight from new l) (sym e ∙ is)
     where
-      go : (t : Bool) → To m ≡ cond t (To (Option·getD (fireAll new (start places new) l) 0)) Stuck → (t ≡ true) × (m ≡ Option·getD (fireAll new (start places new) l) 0)
+      go : (t : Bool) → To m ≡ cond t (To (Option·getD (fireAll new from l) 0)) Stuck → (t ≡ true) × (m ≡ Option·getD (fireAll new from l) 0)
       go true h = (refl, cc)
       go false h = (cc, cc)
 
-  stuck-told : f ≡ Stuck → runsStraight places new l ≡ false
+  stuck-told : f ≡ Stuck → runsStraight from new l ≡ false
   unfolding straightOf
-  stuck-told e = go (runsStraight places new l) (sym e ∙ is)
+  stuck-told e = go (runsStraight from new l) (sym e ∙ is)
     where
-      go : (t : Bool) → Stuck ≡ cond t (To (Option·getD (fireAll new (start places new) l) 0)) Stuck → t ≡ false
+      go : (t : Bool) → Stuck ≡ cond t (To (Option·getD (fireAll new from l) 0)) Stuck → t ≡ false
       go true h = cc
       go false h = refl
 
 -- ---- the first fit list
 
-module _ (line places : ℕ) (new l : List Step) where
-  pub fit-answer : (kept : ℕ) (q : List ℕ) → kept ≡ keptMask l (variables new) → firstFit places new l ≡ some q → answer places new l kept q ≡ judgeFound line places new l (firstFit places new l)
+module _ (line from : ℕ) (new l : List Step) where
+  pub fit-answer : (kept : ℕ) (q : List ℕ) → kept ≡ keptMask l (variables new) → firstFit from new l ≡ some q → answer from new l kept q ≡ judgeFound line from new l (firstFit from new l)
   unfolding judgeFound keptOf
-  fit-answer kept q is e = ap (λ (k : ℕ). answer places new l k q) is ∙ ap (judgeFound line places new l) (sym e)
+  fit-answer kept q is e = ap (λ (k : ℕ). answer from new l k q) is ∙ ap (judgeFound line from new l) (sym e)
 
-  pub none-answer : firstFit places new l ≡ none → judgeStopped 13 line ≡ judgeFound line places new l (firstFit places new l)
+  pub none-answer : firstFit from new l ≡ none → judgeStopped 13 line ≡ judgeFound line from new l (firstFit from new l)
   unfolding judgeFound
-  none-answer e = ap (judgeFound line places new l) (sym e)
+  none-answer e = ap (judgeFound line from new l) (sym e)
 
   -- rows 10 to 13, where those to 12 pass
-  module _ (passes : keptRows line places new l .number ≡ 0) where
-    rows-pass : cond (runsStraight places new l) (answer places new l (below (length l)) (inTurn 0 (length l))) (judgeFound line places new l (firstFit places new l)) ≡ judgeRows line places new l
+  module _ (passes : keptRows line from new l .number ≡ 0) where
+    rows-pass : cond (runsStraight from new l) (answer from new l (below (length l)) (inTurn 0 (length l))) (judgeFound line from new l (firstFit from new l)) ≡ judgeRows line from new l
     unfolding judgeRows
-    rows-pass = ap (λ (t : Bool). cond t (cond (runsStraight places new l) (answer places new l (below (length l)) (inTurn 0 (length l))) (judgeFound line places new l (firstFit places new l))) (judgeStopped (keptRows line places new l .number) (keptRows line places new l .second))) (sym (eq-eqb (keptRows line places new l .number) 0 passes))
+    rows-pass = ap (λ (t : Bool). cond t (cond (runsStraight from new l) (answer from new l (below (length l)) (inTurn 0 (length l))) (judgeFound line from new l (firstFit from new l))) (judgeStopped (keptRows line from new l .number) (keptRows line from new l .second))) (sym (eq-eqb (keptRows line from new l .number) 0 passes))
 
-    pub rows-straight : runsStraight places new l ≡ true → answer places new l (below (length l)) (inTurn 0 (length l)) ≡ judgeRows line places new l
-    rows-straight e = ap (λ (t : Bool). cond t (answer places new l (below (length l)) (inTurn 0 (length l))) (judgeFound line places new l (firstFit places new l))) (sym e) ∙ rows-pass
+    pub rows-straight : runsStraight from new l ≡ true → answer from new l (below (length l)) (inTurn 0 (length l)) ≡ judgeRows line from new l
+    rows-straight e = ap (λ (t : Bool). cond t (answer from new l (below (length l)) (inTurn 0 (length l))) (judgeFound line from new l (firstFit from new l))) (sym e) ∙ rows-pass
 
-    pub rows-search : runsStraight places new l ≡ false → judgeFound line places new l (firstFit places new l) ≡ judgeRows line places new l
-    rows-search e = ap (λ (t : Bool). cond t (answer places new l (below (length l)) (inTurn 0 (length l))) (judgeFound line places new l (firstFit places new l))) (sym e) ∙ rows-pass
+    pub rows-search : runsStraight from new l ≡ false → judgeFound line from new l (firstFit from new l) ≡ judgeRows line from new l
+    rows-search e = ap (λ (t : Bool). cond t (answer from new l (below (length l)) (inTurn 0 (length l))) (judgeFound line from new l (firstFit from new l))) (sym e) ∙ rows-pass
 
 -- ---- a job that no row to 12 refuses
 
@@ -79,14 +79,14 @@ module _ {c : Case} {vars line : ℕ} (k : ToJudge c vars line) where
   pub ready-cut : CutOf done (variables (k .job .new)) (c .cut)
   ready-cut = k .case-is .cut-is (k .runs)
 
-  pub ready-rows : keptRows line (k .job .newPlaces) (k .job .new) done .number ≡ 0
-  ready-rows = ap (λ (n : ℕ). keptRows n (k .job .newPlaces) (k .job .new) done .number) (k .line-is) ∙ k .passes
+  pub ready-rows : keptRows line (newStart (k .job)) (k .job .new) done .number ≡ 0
+  ready-rows = ap (λ (n : ℕ). keptRows n (newStart (k .job)) (k .job .new) done .number) (k .line-is) ∙ k .passes
 
-  pub ready-straight : (m : ℕ) → c .straight ≡ To m → (runsStraight (k .job .newPlaces) (k .job .new) done ≡ true) × (m ≡ Option·getD (fireAll (k .job .new) (start (k .job .newPlaces) (k .job .new)) done) 0)
-  ready-straight = straight-told (k .job .newPlaces) (k .job .new) done (c .straight) (k .case-is .straight-is (k .runs))
+  pub ready-straight : (m : ℕ) → c .straight ≡ To m → (runsStraight (newStart (k .job)) (k .job .new) done ≡ true) × (m ≡ Option·getD (fireAll (k .job .new) (newStart (k .job)) done) 0)
+  ready-straight = straight-told (newStart (k .job)) (k .job .new) done (c .straight) (k .case-is .straight-is (k .runs))
 
-  pub ready-stuck : c .straight ≡ Stuck → runsStraight (k .job .newPlaces) (k .job .new) done ≡ false
-  ready-stuck = stuck-told (k .job .newPlaces) (k .job .new) done (c .straight) (k .case-is .straight-is (k .runs))
+  pub ready-stuck : c .straight ≡ Stuck → runsStraight (newStart (k .job)) (k .job .new) done ≡ false
+  ready-stuck = stuck-told (newStart (k .job)) (k .job .new) done (c .straight) (k .case-is .straight-is (k .runs))
 
   kept-are : c .cut .kept ≡ keptOf (k .job .new) done
   unfolding keptOf
@@ -99,13 +99,15 @@ module _ {c : Case} {vars line : ℕ} (k : ToJudge c vars line) where
   }
 
   pub ready-limit : c .straight ≡ Stuck → count 64 (c .cut .kept) ≤ 16
-  ready-limit e = rw kept-are (limit-holds line (k .job .newPlaces) (k .job .new) done ready-rows (ready-stuck e))
+  ready-limit e = rw kept-are (limit-holds line (newStart (k .job)) (k .job .new) done ready-rows (ready-stuck e))
 
-  pub ready-kept : KeptOf (k .job .newPlaces) (k .job .new) done (c .cut) (c .met) vars (c .start)
+  pub ready-first : judgeFound line (c .start) (k .job .new) done (firstFit (c .start) (k .job .new) done) ≡ judgeFound line (newStart (k .job)) (k .job .new) done (firstFit (newStart (k .job)) (k .job .new) done)
+  ready-first = ap (λ (m : ℕ). judgeFound line m (k .job .new) done (firstFit m (k .job .new) done)) (k .case-is .start-is (k .runs))
+
+  pub ready-kept : KeptOf (k .job .new) done (c .cut) (c .met) vars
   ready-kept = record {
     cut-is = ready-cut;
     met-is = k .case-is .met-is (k .runs);
     vars-are = k .vars-are;
-    start-is = k .case-is .start-is (k .runs);
-    known = rw kept-are (kept-same line (k .job .newPlaces) (k .job .new) done ready-rows);
+    known = rw kept-are (kept-same line (newStart (k .job)) (k .job .new) done ready-rows);
   }

@@ -13,7 +13,6 @@ use Rattle.mask.specs.Mask.{has, membersFrom, members, count, collect}
 use Rattle.mask.proofs.Laws.{has-collect}
 use Rattle.mask.proofs.Truth.{split}
 use Rattle.route.specs.Steps.{blank}
-use Rattle.route.specs.Firing.{start}
 use Rattle.route.specs.Rows.{pass, refuse, first}
 use Rattle.route.specs.declared.Step.{Step}
 use Rattle.route.specs.declared.Outcome.{Outcome}
@@ -94,19 +93,19 @@ module _ (new l : List Step) (line kept i : ℕ) (whole : Outcome) (inv : linesF
 
 -- ---- row 10
 
-straight-test : (places : ℕ) (new l : List Step) → isTo (straightOf places new l) ≡ runsStraight places new l
+straight-test : (from : ℕ) (new l : List Step) → isTo (straightOf from new l) ≡ runsStraight from new l
 unfolding isTo straightOf
-straight-test places new l = split (λ (t : Bool). isTo (cond t (To (Option·getD (fireAll new (start places new) l) 0)) Stuck) ≡ t) (runsStraight places new l) (λ e. refl) (λ e. refl)
+straight-test from new l = split (λ (t : Bool). isTo (cond t (To (Option·getD (fireAll new from l) 0)) Stuck) ≡ t) (runsStraight from new l) (λ e. refl) (λ e. refl)
 
-module _ (line places : ℕ) (new l : List Step) (kept : ℕ) (f : Fires) (kept-is : kept ≡ keptOf new l) (straight-is : f ≡ straightOf places new l) (t : Bool) (is : t ≡ (isTo f || leb (count 64 kept) 16)) where
-  test-is : (runsStraight places new l || leb (count 64 (keptOf new l)) 16) ≡ t
-  test-is = ap₂ (λ (x : Bool) (k : ℕ). x || leb (count 64 k) 16) (sym (ap isTo straight-is ∙ straight-test places new l)) (sym kept-is) ∙ sym is
+module _ (line from : ℕ) (new l : List Step) (kept : ℕ) (f : Fires) (kept-is : kept ≡ keptOf new l) (straight-is : f ≡ straightOf from new l) (t : Bool) (is : t ≡ (isTo f || leb (count 64 kept) 16)) where
+  test-is : (runsStraight from new l || leb (count 64 (keptOf new l)) 16) ≡ t
+  test-is = ap₂ (λ (x : Bool) (k : ℕ). x || leb (count 64 k) 16) (sym (ap isTo straight-is ∙ straight-test from new l)) (sym kept-is) ∙ sym is
 
-  pub rows-over : t ≡ false → refuse 10 line ≡ keptRows line places new l
+  pub rows-over : t ≡ false → refuse 10 line ≡ keptRows line from new l
   unfolding keptRows
   rows-over e = sym (row-refuses _ 10 line _ (test-is ∙ e) refl)
 
-  pub rows-lines : t ≡ true → first (keptLines new l (line + 1) (members 64 kept)) ≡ keptRows line places new l
+  pub rows-lines : t ≡ true → first (keptLines new l (line + 1) (members 64 kept)) ≡ keptRows line from new l
   unfolding keptRows
   rows-lines e = ap (λ (k : ℕ). first (keptLines new l (line + 1) (members 64 k))) kept-is ∙ sym (row-passes _ 10 line _ (test-is ∙ e))
 
@@ -125,7 +124,7 @@ lines-same new l line kept v (suc k) e i low high there = go (has kept v) refl e
         either v i (λ u. ap (λ (n : ℕ). sameStep new (getD l n blank)) (sym u) ∙ same) (ih later)
     go false h p ih = either v i (λ u. let z : true ≡ false = sym there ∙ ap (has kept) (sym u) ∙ h in cc) (ih p)
 
-pub rows-same : (line places : ℕ) (new l : List Step) → length l ≤ 64 → eqb (keptRows line places new l .number) 0 ≡ true → (i : ℕ) → has (keptOf new l) i ≡ true → sameStep new (getD l i blank) ≡ true
+pub rows-same : (line from : ℕ) (new l : List Step) → length l ≤ 64 → eqb (keptRows line from new l .number) 0 ≡ true → (i : ℕ) → has (keptOf new l) i ≡ true → sameStep new (getD l i blank) ≡ true
 unfolding keptRows members keptOf
-rows-same line places new l short e i there =
+rows-same line from new l short e i there =
     lines-same new l (line + 1) (keptOf new l) 0 64 (row-passed _ 10 line _ refl e .1) i (omega arith) (omega (arith, kept-below l (variables new) i there)) there

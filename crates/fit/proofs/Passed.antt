@@ -31,13 +31,13 @@ or-else : (x y : Bool) → (x || y) ≡ true → x ≡ false → y ≡ true
 or-else true y e f = cc
 or-else false y e f = e
 
-module _ (line places : ℕ) (new l : List Step) (passes : keptRows line places new l .number ≡ 0) where
-  rows : (runsStraight places new l || leb (count 64 (keptOf new l)) 16 ≡ true) × (eqb (first (keptLines new l (line + 1) (members 64 (keptOf new l))) .number) 0 ≡ true)
+module _ (line from : ℕ) (new l : List Step) (passes : keptRows line from new l .number ≡ 0) where
+  rows : (runsStraight from new l || leb (count 64 (keptOf new l)) 16 ≡ true) × (eqb (first (keptLines new l (line + 1) (members 64 (keptOf new l))) .number) 0 ≡ true)
   unfolding keptRows
-  rows = row-passed _ 10 line _ refl (eq-eqb (keptRows line places new l .number) 0 passes)
+  rows = row-passed _ 10 line _ refl (eq-eqb (keptRows line from new l .number) 0 passes)
 
-  pub limit-holds : runsStraight places new l ≡ false → count 64 (keptOf new l) ≤ 16
-  limit-holds e = leb-true (count 64 (keptOf new l)) 16 (or-else (runsStraight places new l) _ (rows .0) e)
+  pub limit-holds : runsStraight from new l ≡ false → count 64 (keptOf new l) ≤ 16
+  limit-holds e = leb-true (count 64 (keptOf new l)) 16 (or-else (runsStraight from new l) _ (rows .0) e)
 
   pub kept-same : (k : ℕ) → k < length (members 64 (keptOf new l)) → sameStep new (getD l (getD (members 64 (keptOf new l)) k 0) blank) ≡ true
   kept-same = lines-same new l (line + 1) (members 64 (keptOf new l)) (rows .1)

@@ -32,7 +32,7 @@ unfolding sameData
 has-step s none e = absurd (let z : _≡_ {A = ℕ} 0 1 = cc in omega arith)
 has-step s (some t) e = (t, refl)
 
-module _ {places : ℕ} {new l : List Step} {cut : Cut} {met : Met} {vars m : ℕ} {p : Picked} (is : KeptOf places new l cut met vars m) (picked : PickedOf (cut .kept) met (cut .table) p) where
+module _ {new l : List Step} {cut : Cut} {met : Met} {vars : ℕ} {p : Picked} (is : KeptOf new l cut met vars) (picked : PickedOf (cut .kept) met (cut .table) p) where
   abbrev ks : List ℕ
   ks = members 64 (cut .kept)
 

@@ -15,7 +15,7 @@ use Rattle.mask.specs.Mask.{has, below}
 use Rattle.mask.proofs.Laws.{has-ext, has-collect, has-below}
 use Rattle.mask.proofs.Truth.{split, both}
 use Rattle.route.specs.Steps.{blank}
-use Rattle.route.specs.Firing.{canFire, fire, start}
+use Rattle.route.specs.Firing.{canFire, fire}
 use Rattle.route.specs.declared.Step.{Step}
 use Rattle.search.specs.Search.{isSome}
 use Rattle.fit.specs.Straight.{sameStep, allOf, fireStep, fireAll, runsStraight}
@@ -51,26 +51,26 @@ module _ (new l : List Step) (m : Met) (met : MetOf new l m) where
   same-full : allOf (sameStep new) l ≡ true → m .same ≡ below (length l)
   same-full h = has-ext (m .same) (below (length l)) (λ i. same-at i ∙ split (λ (t : Bool). ltb i (length l) ≡ t → (t && sameStep new (getD l i blank)) ≡ t) (ltb i (length l)) (λ u v. all-each (sameStep new) l h i (ltb-true i (length l) u)) (λ u v. refl) refl ∙ sym (has-below (length l) i))
 
-  pub straight-differs : (places : ℕ) → (m .same ≡ below (length l) → ⊥) → Stuck ≡ straightOf places new l
+  pub straight-differs : (from : ℕ) → (m .same ≡ below (length l) → ⊥) → Stuck ≡ straightOf from new l
   unfolding straightOf runsStraight
-  straight-differs places off =
-      split (λ (t : Bool). allOf (sameStep new) l ≡ t → Stuck ≡ cond (t && isSome (fireAll new (start places new) l)) (To (Option·getD (fireAll new (start places new) l) 0)) Stuck) (allOf (sameStep new) l)
+  straight-differs from off =
+      split (λ (t : Bool). allOf (sameStep new) l ≡ t → Stuck ≡ cond (t && isSome (fireAll new from l)) (To (Option·getD (fireAll new from l) 0)) Stuck) (allOf (sameStep new) l)
       (λ u v. absurd (off (same-full u)))
       (λ u v. refl)
       refl
 
 -- ---- where the replay ends
 
-module _ (places : ℕ) (new l : List Step) (same : allOf (sameStep new) l ≡ true) where
-  ends : (q : Option ℕ) → fireAll new (start places new) l ≡ q → straightOf places new l ≡ cond (isSome q) (To (Option·getD q 0)) Stuck
+module _ (from : ℕ) (new l : List Step) (same : allOf (sameStep new) l ≡ true) where
+  ends : (q : Option ℕ) → fireAll new from l ≡ q → straightOf from new l ≡ cond (isSome q) (To (Option·getD q 0)) Stuck
   unfolding straightOf runsStraight
   ends q e = ap₂ (λ (t : Bool) (x : Option ℕ). cond (t && isSome x) (To (Option·getD x 0)) Stuck) same e
 
-  pub straight-to : (x : ℕ) → fireAll new (start places new) l ≡ some x → To x ≡ straightOf places new l
+  pub straight-to : (x : ℕ) → fireAll new from l ≡ some x → To x ≡ straightOf from new l
   unfolding isSome
   straight-to x e = sym (ends (some x) e)
 
-  pub straight-stuck : fireAll new (start places new) l ≡ none → Stuck ≡ straightOf places new l
+  pub straight-stuck : fireAll new from l ≡ none → Stuck ≡ straightOf from new l
   unfolding isSome
   straight-stuck e = sym (ends none e)
 

@@ -11,7 +11,6 @@ use borrow.Author.Tests.{ltb-true}
 use Rattle.mask.specs.Mask.{below, count}
 use Rattle.mask.proofs.Laws.{has-below}
 use Rattle.mask.proofs.Truth.{split}
-use Rattle.route.specs.Firing.{start}
 use Rattle.route.specs.declared.Step.{Step}
 use Rattle.slice.specs.Order.{inTurn}
 use Rattle.fit.specs.Straight.{fireAll, stepsOn}
@@ -21,17 +20,17 @@ use Rattle.fit.proofs.Front.{all-steps}
 use Rattle.fit.proofs.Padded.{padded-is, number-at}
 use Rattle.fit.proofs.Members.{count-few}
 
-pub answer-is : (places : ℕ) (new l : List Step) (kept : ℕ) (o : List ℕ) (d n : ℕ) (order : List ℕ) (marking : ℕ) (after writers : List ℕ) → d ≡ length l - count 64 kept → n ≡ length o → order ≡ padded 64 (map suc o) → marking ≡ Option·getD (fireAll new (start places new) (stepsOn l o)) 0 → after ≡ map (afterOf l kept) (inTurn 0 64) → writers ≡ map (writerOf new l) (inTurn 0 32) → record { number = 0; second = 0; kept = kept; dropped = d; len = n; order = order; marking = marking; after = after; writers = writers } ≡ answer places new l kept o
+pub answer-is : (from : ℕ) (new l : List Step) (kept : ℕ) (o : List ℕ) (d n : ℕ) (order : List ℕ) (marking : ℕ) (after writers : List ℕ) → d ≡ length l - count 64 kept → n ≡ length o → order ≡ padded 64 (map suc o) → marking ≡ Option·getD (fireAll new from (stepsOn l o)) 0 → after ≡ map (afterOf l kept) (inTurn 0 64) → writers ≡ map (writerOf new l) (inTurn 0 32) → record { number = 0; second = 0; kept = kept; dropped = d; len = n; order = order; marking = marking; after = after; writers = writers } ≡ answer from new l kept o
 unfolding answer
-answer-is places new l kept o d n order marking after writers p q r s t u = λ i. record { number = 0; second = 0; kept = kept; dropped = p i; len = q i; order = r i; marking = s i; after = t i; writers = u i }
+answer-is from new l kept o d n order marking after writers p q r s t u = λ i. record { number = 0; second = 0; kept = kept; dropped = p i; len = q i; order = r i; marking = s i; after = t i; writers = u i }
 
 -- all below n are n
 pub below-few : (n : ℕ) → count 64 (below n) ≤ n
 below-few n = count-few 64 (below n) n (λ i h. ltb-true i n (sym (has-below n i) ∙ h))
 
 -- the marking where all occurrences have fired in turn
-pub straight-marking : (places : ℕ) (new l : List Step) → Option·getD (fireAll new (start places new) l) 0 ≡ Option·getD (fireAll new (start places new) (stepsOn l (inTurn 0 (length l)))) 0
-straight-marking places new l = ap (λ (r : List Step). Option·getD (fireAll new (start places new) r) 0) (sym (all-steps l))
+pub straight-marking : (from : ℕ) (new l : List Step) → Option·getD (fireAll new from l) 0 ≡ Option·getD (fireAll new from (stepsOn l (inTurn 0 (length l)))) 0
+straight-marking from new l = ap (λ (r : List Step). Option·getD (fireAll new from r) 0) (sym (all-steps l))
 
 pub map-at : (f : ℕ → ℕ) (o : List ℕ) (k : ℕ) → k < length o → getD (map f o) k 0 ≡ f (getD o k 0)
 map-at f [] k h = absurd (omega arith)

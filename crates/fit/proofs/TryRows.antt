@@ -7,11 +7,10 @@ use Prim.Native.Nat.{ℕ, suc, _≤_}
 use lib.Dec.{eqb}
 use lib.ListN.{length}
 use Rattle.mask.specs.Mask.{has}
-use Rattle.route.specs.Firing.{start}
 use Rattle.route.specs.Rows.{refuse}
 use Rattle.route.specs.declared.Step.{Step}
 use Rattle.route.specs.declared.Outcome.{Outcome}
-use Rattle.job.specs.Job.{Job, jobLine}
+use Rattle.job.specs.Job.{Job, jobLine, newStart}
 use Rattle.job.specs.Run.{ran}
 use Rattle.slice.specs.Order.{inTurn}
 use Rattle.fit.specs.Straight.{fireAll, runsStraight}
@@ -47,16 +46,16 @@ module _ (new l : List Step) (kept m : ℕ) (o : List ℕ) (w : Outcome) (kept-i
 
 -- ---- the straight list first
 
-module _ (places : ℕ) (new l : List Step) (o : List ℕ) (f : Fires) (is : f ≡ cond (sameList o (map suc (inTurn 0 (length l)))) (straightOf places new l) Stuck) where
+module _ (from : ℕ) (new l : List Step) (o : List ℕ) (f : Fires) (is : f ≡ cond (sameList o (map suc (inTurn 0 (length l)))) (straightOf from new l) Stuck) where
   abbrev end : ℕ
-  end = Option·getD (fireAll new (start places new) l) 0
+  end = Option·getD (fireAll new from l) 0
 
   abbrev rows : Tried
-  rows = byRows new l (start places new) o
+  rows = byRows new l from o
 
-  pub list-straight : (m : ℕ) → f ≡ To m → tryAccepted m ≡ tryList places new l o
+  pub list-straight : (m : ℕ) → f ≡ To m → tryAccepted m ≡ tryList from new l o
   unfolding straightOf tryList byRows
-  list-straight m e = go (runsStraight places new l) (sameList o (map suc (inTurn 0 (length l)))) (sym is ∙ e)
+  list-straight m e = go (runsStraight from new l) (sameList o (map suc (inTurn 0 (length l)))) (sym is ∙ e)
     where
       go : (s t : Bool) → cond t (cond s (To end) Stuck) Stuck ≡ To m → tryAccepted m ≡ cond (s && t) (tryAccepted end) rows
       go true true p = let same : end ≡ m = cc in ap tryAccepted (sym same)
@@ -64,9 +63,9 @@ module _ (places : ℕ) (new l : List Step) (o : List ℕ) (f : Fires) (is : f �
       go false true p = cc
       go false false p = cc
 
-  pub list-rows : f ≡ Stuck → rows ≡ tryList places new l o
+  pub list-rows : f ≡ Stuck → rows ≡ tryList from new l o
   unfolding straightOf tryList byRows
-  list-rows e = go (runsStraight places new l) (sameList o (map suc (inTurn 0 (length l)))) (sym is ∙ e)
+  list-rows e = go (runsStraight from new l) (sameList o (map suc (inTurn 0 (length l)))) (sym is ∙ e)
     where
       go : (s t : Bool) → cond t (cond s (To end) Stuck) Stuck ≡ Stuck → rows ≡ cond (s && t) (tryAccepted end) rows
       go true true p = cc
@@ -76,28 +75,28 @@ module _ (places : ℕ) (new l : List Step) (o : List ℕ) (f : Fires) (is : f �
 
 -- ---- after the rows to 12
 
-pub case-ready : (line places : ℕ) (new l : List Step) (c : Case) → length l ≤ 64 → CaseAt line places new l c → eqb (c .outcome .number) 0 ≡ true → Ready new l (c .cut .kept) (c .cut .table) (c .met)
+pub case-ready : (line from : ℕ) (new l : List Step) (c : Case) → length l ≤ 64 → CaseAt line from new l c → eqb (c .outcome .number) 0 ≡ true → Ready new l (c .cut .kept) (c .cut .table) (c .met)
 unfolding keptOf
-case-ready line places new l c short a passes =
+case-ready line from new l c short a passes =
     record {
       kept-is = a .cut-is .kept-is;
       table-is = a .cut-is .table-is;
       met-is = a .met-is;
-      all-same = λ i h. rows-same line places new l short (ap (λ (o : Outcome). eqb (o .number) 0) (sym (a .outcome-is)) ∙ passes) i (ap (λ (n : ℕ). has n i) (sym (a .cut-is .kept-is)) ∙ h);
+      all-same = λ i h. rows-same line from new l short (ap (λ (o : Outcome). eqb (o .number) 0) (sym (a .outcome-is)) ∙ passes) i (ap (λ (n : ℕ). has n i) (sym (a .cut-is .kept-is)) ∙ h);
     }
 
 -- ---- the operation
 
 module _ (j : Job) (o : List ℕ) (w : Outcome) (is : w ≡ rowsTo12 j) where
   abbrev list : Tried
-  list = tryList (j .newPlaces) (j .new) (doneSteps j) o
+  list = tryList (newStart j) (j .new) (doneSteps j) o
 
   -- try by the outcome of the rows to 12
   by-outcome : tried j o ≡ cond (eqb (rowsTo12 j .number) 0) list (tryStopped (rowsTo12 j .number) (rowsTo12 j .second))
   unfolding tried tryRows rowsTo12
   by-outcome = go (eqb (ran j .number) 0) refl
     where
-      go : (t : Bool) → eqb (ran j .number) 0 ≡ t → cond t (tryRows (jobLine j) (j .newPlaces) (j .new) (doneSteps j) o) (tryStopped (ran j .number) (ran j .second)) ≡ cond (eqb (cond t (jobRows j) (refuse (ran j .number) (ran j .second)) .number) 0) list (tryStopped (cond t (jobRows j) (refuse (ran j .number) (ran j .second)) .number) (cond t (jobRows j) (refuse (ran j .number) (ran j .second)) .second))
+      go : (t : Bool) → eqb (ran j .number) 0 ≡ t → cond t (tryRows (jobLine j) (newStart j) (j .new) (doneSteps j) o) (tryStopped (ran j .number) (ran j .second)) ≡ cond (eqb (cond t (jobRows j) (refuse (ran j .number) (ran j .second)) .number) 0) list (tryStopped (cond t (jobRows j) (refuse (ran j .number) (ran j .second)) .number) (cond t (jobRows j) (refuse (ran j .number) (ran j .second)) .second))
       go true e = refl
       go false e = ap (λ (b : Bool). cond b list (tryStopped (ran j .number) (ran j .second))) (sym e)
 

@@ -9,7 +9,7 @@ use borrow.Author.Tests.{eqb-true, eqb-false, eq-eqb, ne-eqb, le-leb, lt-leb}
 use Rattle.route.specs.Rows.{refuse}
 use Rattle.route.specs.declared.Step.{Step}
 use Rattle.route.specs.declared.Outcome.{Outcome}
-use Rattle.job.specs.Job.{Job, jobLine}
+use Rattle.job.specs.Job.{Job, jobLine, newStart}
 use Rattle.job.specs.Run.{ran}
 use Rattle.slice.specs.Slice.{performed, variables}
 use Rattle.fit.specs.Straight.{runsStraight}
@@ -22,16 +22,16 @@ use Rattle.fit.specs.declared.Case.{Case}
 use Rattle.fit.proofs.Choice.{cond-yes, cond-no}
 use Rattle.search.proofs.Clear.{cleared-is}
 
-rows-refused : (line places : ℕ) (new l : List Step) → (keptRows line places new l .number ≡ 0 → ⊥) → judgeStopped (keptRows line places new l .number) (keptRows line places new l .second) ≡ judgeRows line places new l
+rows-refused : (line from : ℕ) (new l : List Step) → (keptRows line from new l .number ≡ 0 → ⊥) → judgeStopped (keptRows line from new l .number) (keptRows line from new l .second) ≡ judgeRows line from new l
 unfolding judgeRows
-rows-refused line places new l e = cond-no _ _ refl (ne-eqb (keptRows line places new l .number) 0 e)
+rows-refused line from new l e = cond-no _ _ refl (ne-eqb (keptRows line from new l .number) 0 e)
 
 module _ (j : Job) where
   abbrev kept : Outcome
-  kept = keptRows (jobLine j) (j .newPlaces) (j .new) (performed (j .old) (j .done))
+  kept = keptRows (jobLine j) (newStart j) (j .new) (performed (j .old) (j .done))
 
   abbrev straight : Bool
-  straight = runsStraight (j .newPlaces) (j .new) (performed (j .old) (j .done))
+  straight = runsStraight (newStart j) (j .new) (performed (j .old) (j .done))
 
   unsearched : (work : List ℕ) → searched j (length work) ≡ false → work ≡ workAfter j work
   unfolding workAfter
@@ -54,8 +54,8 @@ module _ (j : Job) where
     unfolding judged rowsTo12
     judged-refused room long = go (eqb (ran j .number) 0) is ∙ cond-yes _ _ refl (le-leb 8192 room long)
       where
-        go : (t : Bool) → o ≡ cond t kept (refuse (ran j .number) (ran j .second)) → judgeStopped (o .number) (o .second) ≡ cond t (judgeRows (jobLine j) (j .newPlaces) (j .new) (performed (j .old) (j .done))) (judgeStopped (ran j .number) (ran j .second))
-        go true e = ap (λ (x : Outcome). judgeStopped (x .number) (x .second)) e ∙ rows-refused (jobLine j) (j .newPlaces) (j .new) (performed (j .old) (j .done)) (λ z. refused (ap (λ (x : Outcome). x .number) e ∙ z))
+        go : (t : Bool) → o ≡ cond t kept (refuse (ran j .number) (ran j .second)) → judgeStopped (o .number) (o .second) ≡ cond t (judgeRows (jobLine j) (newStart j) (j .new) (performed (j .old) (j .done))) (judgeStopped (ran j .number) (ran j .second))
+        go true e = ap (λ (x : Outcome). judgeStopped (x .number) (x .second)) e ∙ rows-refused (jobLine j) (newStart j) (j .new) (performed (j .old) (j .done)) (λ z. refused (ap (λ (x : Outcome). x .number) e ∙ z))
         go false e = ap (λ (x : Outcome). judgeStopped (x .number) (x .second)) e
 
     pub work-refused : (work : List ℕ) → work ≡ workAfter j work
@@ -80,10 +80,10 @@ module _ (j : Job) where
     abbrev pub ready : (vars line : ℕ) → vars ≡ variables (j .new) → line ≡ jobLine j → ToJudge c vars line
     ready vars line v l = record { job = j; case-is = is; runs = rows-to-12 .0; passes = rows-to-12 .1; vars-are = v; line-is = l }
 
-    pub judged-passed : (room line : ℕ) → 8192 ≤ room → line ≡ jobLine j → judgeRows line (j .newPlaces) (j .new) (performed (j .old) (j .done)) ≡ judged j room
+    pub judged-passed : (room line : ℕ) → 8192 ≤ room → line ≡ jobLine j → judgeRows line (newStart j) (j .new) (performed (j .old) (j .done)) ≡ judged j room
     unfolding judged
     judged-passed room line long l =
-        ap (λ (n : ℕ). judgeRows n (j .newPlaces) (j .new) (performed (j .old) (j .done))) l
+        ap (λ (n : ℕ). judgeRows n (newStart j) (j .new) (performed (j .old) (j .done))) l
         ∙ cond-yes _ _ refl (eq-eqb (ran j .number) 0 (rows-to-12 .0))
         ∙ cond-yes _ _ refl (le-leb 8192 room long)
 

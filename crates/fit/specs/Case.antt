@@ -8,11 +8,10 @@ use lib.Dec.{eqb}
 use lib.ListN.{length, getD}
 use Rattle.mask.specs.Mask.{collect}
 use Rattle.route.specs.Steps.{blank, lookup}
-use Rattle.route.specs.Firing.{start}
 use Rattle.route.specs.Rows.{refuse}
 use Rattle.route.specs.declared.Step.{Step}
 use Rattle.route.specs.declared.Outcome.{Outcome}
-use Rattle.job.specs.Job.{Job, jobLine}
+use Rattle.job.specs.Job.{Job, jobLine, newStart}
 use Rattle.job.specs.Run.{ran}
 use Rattle.slice.specs.Slice.{performed, variables}
 use Rattle.slice.specs.Uses.{CutOf}
@@ -38,18 +37,18 @@ pub record MetOf (new l : List Step) (m : Met) : Type 0 where
 
 -- where the straight list ends, if there is one
 unfoldable pub straightOf : ℕ → List Step → List Step → Fires
-straightOf places new l = cond (runsStraight places new l) (To (Option·getD (fireAll new (start places new) l) 0)) Stuck
+straightOf from new l = cond (runsStraight from new l) (To (Option·getD (fireAll new from l) 0)) Stuck
 
 -- the rows to 12
 unfoldable pub rowsTo12 : Job → Outcome
 rowsTo12 j =
     cond (eqb (ran j .number) 0)
-    (keptRows (jobLine j) (j .newPlaces) (j .new) (performed (j .old) (j .done)))
+    (keptRows (jobLine j) (newStart j) (j .new) (performed (j .old) (j .done)))
     (refuse (ran j .number) (ran j .second))
 
 pub record CaseOf (j : Job) (c : Case) : Type 0 where
   pub outcome-is : c .outcome ≡ rowsTo12 j
   pub cut-is : ran j .number ≡ 0 → CutOf (performed (j .old) (j .done)) (variables (j .new)) (c .cut)
   pub met-is : ran j .number ≡ 0 → MetOf (j .new) (performed (j .old) (j .done)) (c .met)
-  pub start-is : ran j .number ≡ 0 → c .start ≡ start (j .newPlaces) (j .new)
-  pub straight-is : ran j .number ≡ 0 → c .straight ≡ straightOf (j .newPlaces) (j .new) (performed (j .old) (j .done))
+  pub start-is : ran j .number ≡ 0 → c .start ≡ newStart j
+  pub straight-is : ran j .number ≡ 0 → c .straight ≡ straightOf (newStart j) (j .new) (performed (j .old) (j .done))

@@ -7,9 +7,8 @@ use lib.Dec.{eqb, leb}
 use lib.ListN.{length, getD, take, drop, replicate}
 use lib.Bits.{bitAnd}
 use Rattle.mask.specs.Mask.{has, below, members, count}
-use Rattle.route.specs.Firing.{start}
 use Rattle.route.specs.declared.Step.{Step}
-use Rattle.job.specs.Job.{Job, jobLine}
+use Rattle.job.specs.Job.{Job, jobLine, newStart}
 use Rattle.job.specs.Run.{ran}
 use Rattle.slice.specs.Slice.{performed, variables}
 use Rattle.slice.specs.Precedence.{row}
@@ -43,7 +42,7 @@ judgeStopped n k = record { number = n; second = k; kept = 0; dropped = 0; len =
 
 -- a list of positions, and what is kept with it
 unfoldable pub answer : ℕ → List Step → List Step → ℕ → List ℕ → Judged
-answer places new l kept o =
+answer from new l kept o =
     record {
       number = 0;
       second = 0;
@@ -51,39 +50,39 @@ answer places new l kept o =
       dropped = length l - count 64 kept;
       len = length o;
       order = padded 64 (map suc o);
-      marking = Option·getD (fireAll new (start places new) (stepsOn l o)) 0;
+      marking = Option·getD (fireAll new from (stepsOn l o)) 0;
       after = map (afterOf l kept) (inTurn 0 64);
       writers = map (writerOf new l) (inTurn 0 32);
     }
 
 -- the first fit list of the kept, if there is one
 unfoldable pub firstOf : ℕ → List Step → List Step → List ℕ → Option (List ℕ)
-firstOf places new l ks =
+firstOf from new l ks =
     Option·map (λ (o : List ℕ). map (λ (k : ℕ). getD ks k 0) o)
-    (search (placeNext new l ks) (length ks) (length ks) 0 (start places new))
+    (search (placeNext new l ks) (length ks) (length ks) 0 from)
 
 unfoldable pub firstFit : ℕ → List Step → List Step → Option (List ℕ)
-firstFit places new l = firstOf places new l (members 64 (keptOf new l))
+firstFit from new l = firstOf from new l (members 64 (keptOf new l))
 
 unfoldable pub judgeFound : ℕ → ℕ → List Step → List Step → Option (List ℕ) → Judged
-judgeFound line places new l none = judgeStopped 13 line
-judgeFound line places new l (some o) = answer places new l (keptOf new l) o
+judgeFound line from new l none = judgeStopped 13 line
+judgeFound line from new l (some o) = answer from new l (keptOf new l) o
 
 -- rows 10 to 13. "After a straight answer all count as kept."
 unfoldable pub judgeRows : ℕ → ℕ → List Step → List Step → Judged
-judgeRows line places new l =
-    cond (eqb (keptRows line places new l .number) 0)
-    (cond (runsStraight places new l)
-    (answer places new l (below (length l)) (inTurn 0 (length l)))
-    (judgeFound line places new l (firstFit places new l)))
-    (judgeStopped (keptRows line places new l .number) (keptRows line places new l .second))
+judgeRows line from new l =
+    cond (eqb (keptRows line from new l .number) 0)
+    (cond (runsStraight from new l)
+    (answer from new l (below (length l)) (inTurn 0 (length l)))
+    (judgeFound line from new l (firstFit from new l)))
+    (judgeStopped (keptRows line from new l .number) (keptRows line from new l .second))
 
 -- the operation; `room` is the length of the work slice
 unfoldable pub judged : Job → ℕ → Judged
 judged j room =
     cond (leb 8192 room)
     (cond (eqb (ran j .number) 0)
-    (judgeRows (jobLine j) (j .newPlaces) (j .new) (performed (j .old) (j .done)))
+    (judgeRows (jobLine j) (newStart j) (j .new) (performed (j .old) (j .done)))
     (judgeStopped (ran j .number) (ran j .second)))
     (judgeStopped 14 0)
 
@@ -92,8 +91,8 @@ unfoldable pub searched : Job → ℕ → Bool
 searched j room =
     leb 8192 room
     && (eqb (ran j .number) 0
-    && (eqb (keptRows (jobLine j) (j .newPlaces) (j .new) (performed (j .old) (j .done)) .number) 0
-    && not (runsStraight (j .newPlaces) (j .new) (performed (j .old) (j .done)))))
+    && (eqb (keptRows (jobLine j) (newStart j) (j .new) (performed (j .old) (j .done)) .number) 0
+    && not (runsStraight (newStart j) (j .new) (performed (j .old) (j .done)))))
 
 -- "the first 8,192 bytes of the work slice are 0", or it is unchanged
 unfoldable pub workAfter : Job → List ℕ → List ℕ

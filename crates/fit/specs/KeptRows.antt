@@ -24,7 +24,7 @@ keptLines new l line (i ∷ o) = keptRow new (line + i) (getD l i blank) ∷ kep
 
 -- 10 at the job line, then 11 and 12
 unfoldable pub keptRows : ℕ → ℕ → List Step → List Step → Outcome
-keptRows line places new l =
+keptRows line from new l =
     first
-    (unless (runsStraight places new l || leb (count 64 (keptOf new l)) 16) 10 line
+    (unless (runsStraight from new l || leb (count 64 (keptOf new l)) 16) 10 line
     ∷ keptLines new l (line + 1) (members 64 (keptOf new l)))

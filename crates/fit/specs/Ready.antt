@@ -7,7 +7,7 @@ use lib.Dec.{eqb}
 use lib.ListN.{getD}
 use Rattle.mask.specs.Mask.{has}
 use Rattle.route.specs.Steps.{blank}
-use Rattle.route.specs.Firing.{canFire, fire, start}
+use Rattle.route.specs.Firing.{canFire, fire}
 use Rattle.route.specs.declared.Step.{Step}
 use Rattle.slice.specs.Slice.{variables}
 use Rattle.slice.specs.Table.{table}
@@ -37,12 +37,12 @@ isTo (To m) = true
 isTo Stuck = false
 
 -- the case of the occurrences l, with the job line
-pub record CaseAt (line places : ℕ) (new l : List Step) (c : Case) : Type 0 where
-  pub outcome-is : c .outcome ≡ keptRows line places new l
+pub record CaseAt (line from : ℕ) (new l : List Step) (c : Case) : Type 0 where
+  pub outcome-is : c .outcome ≡ keptRows line from new l
   pub cut-is : CutOf l (variables new) (c .cut)
   pub met-is : MetOf new l (c .met)
-  pub start-is : c .start ≡ start places new
-  pub straight-is : c .straight ≡ straightOf places new l
+  pub start-is : c .start ≡ from
+  pub straight-is : c .straight ≡ straightOf from new l
 
 -- the kept, the table and the new route's steps for the occurrences l, where the new route has each kept one with the same data
 pub record Ready (new l : List Step) (kept : ℕ) (rows : List ℕ) (m : Met) : Type 0 where

@@ -1,4 +1,5 @@
--- Straight replay: the whole done list in its own order on the new route. `l` is the list of the steps done, `new` the new route's steps.
+-- Straight replay: the whole done list in its own order on the new route. `l` is the list of the steps done, `new` the new route's steps,
+-- `from` the new start.
 use mathlib.Core.Path.{_≡_}
 use mathlib.Core.Bool.{Bool, true, false, cond, _&&_}
 use mathlib.Core.List.{List, [], _∷_, map}
@@ -7,7 +8,7 @@ use Prim.Native.Nat.{ℕ}
 use lib.Dec.{eqb}
 use lib.ListN.{length, getD}
 use Rattle.route.specs.Steps.{blank, lookup}
-use Rattle.route.specs.Firing.{canFire, fire, start}
+use Rattle.route.specs.Firing.{canFire, fire}
 use Rattle.route.specs.declared.Step.{Step}
 use Rattle.slice.specs.Order.{inTurn}
 use Rattle.search.specs.Search.{isSome}
@@ -39,9 +40,9 @@ stepsOn l o = map (λ (i : ℕ). getD l i blank) o
 
 -- where there is a straight list: "each name is in the new route with the same reads and writes, and all fire from the new start"
 unfoldable pub runsStraight : ℕ → List Step → List Step → Bool
-runsStraight places new l = allOf (sameStep new) l && isSome (fireAll new (start places new) l)
+runsStraight from new l = allOf (sameStep new) l && isSome (fireAll new from l)
 
 -- "Straight: the whole done list in its own order, where .."
-pub record Straight (places : ℕ) (new l : List Step) (o : List ℕ) : Type 0 where
+pub record Straight (from : ℕ) (new l : List Step) (o : List ℕ) : Type 0 where
   pub whole : o ≡ inTurn 0 (length l)
-  pub runs : runsStraight places new l ≡ true
+  pub runs : runsStraight from new l ≡ true

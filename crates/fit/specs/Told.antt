@@ -6,9 +6,9 @@ use Prim.Native.Nat.{ℕ, _/_, _%_, _^_, _≤_, _<_}
 use lib.ListN.{length, getD, take}
 use Rattle.mask.specs.Mask.{has, members, count, collect}
 use Rattle.route.specs.Steps.{blank}
-use Rattle.route.specs.Firing.{fire, start}
+use Rattle.route.specs.Firing.{fire}
 use Rattle.route.specs.declared.Step.{Step}
-use Rattle.job.specs.Job.{Job, jobLine}
+use Rattle.job.specs.Job.{Job, jobLine, newStart}
 use Rattle.job.specs.Run.{ran}
 use Rattle.slice.specs.Slice.{performed, variables}
 use Rattle.slice.specs.Uses.{CutOf}
@@ -50,12 +50,11 @@ pub record CutFits (cut : Cut) : Type 0 where
   pub short : cut .uses .len ≤ 64
   pub few : count 64 (cut .kept) ≤ cut .uses .len
 
--- the occurrences l and how the new route meets them, where the new route has each of the kept; m is its start
-pub record KeptOf (places : ℕ) (new l : List Step) (cut : Cut) (met : Met) (vars m : ℕ) : Type 0 where
+-- the occurrences l and how the new route meets them, where the new route has each of the kept
+pub record KeptOf (new l : List Step) (cut : Cut) (met : Met) (vars : ℕ) : Type 0 where
   pub cut-is : CutOf l (variables new) cut
   pub met-is : MetOf new l met
   pub vars-are : vars ≡ variables new
-  pub start-is : m ≡ start places new
   pub known : (k : ℕ) → k < length (members 64 (cut .kept)) → sameStep new (getD l (getD (members 64 (cut .kept)) k 0) blank) ≡ true
 
 -- a job whose case this is, that no row to 12 refuses
@@ -63,6 +62,6 @@ pub record ToJudge (c : Case) (vars line : ℕ) : Type 0 where
   pub job : Job
   pub case-is : CaseOf job c
   pub runs : ran job .number ≡ 0
-  pub passes : keptRows (jobLine job) (job .newPlaces) (job .new) (performed (job .old) (job .done)) .number ≡ 0
+  pub passes : keptRows (jobLine job) (newStart job) (job .new) (performed (job .old) (job .done)) .number ≡ 0
   pub vars-are : vars ≡ variables (job .new)
   pub line-is : line ≡ jobLine job

@@ -8,11 +8,11 @@ use lib.ListN.{length, getD}
 use lib.Bits.{bitOr}
 use Rattle.mask.specs.Mask.{has, bit}
 use Rattle.route.specs.Steps.{blank, lookup}
-use Rattle.route.specs.Firing.{canFire, fire, start}
+use Rattle.route.specs.Firing.{canFire, fire}
 use Rattle.route.specs.Rows.{pass, refuse}
 use Rattle.route.specs.declared.Step.{Step}
 use Rattle.route.specs.declared.Outcome.{Outcome}
-use Rattle.job.specs.Job.{Job, jobLine}
+use Rattle.job.specs.Job.{Job, jobLine, newStart}
 use Rattle.job.specs.Run.{ran}
 use Rattle.slice.specs.Slice.{performed}
 use Rattle.slice.specs.Precedence.{comesAfter}
@@ -59,23 +59,23 @@ tryFrom new l m at (i ∷ o) =
 
 -- after row 12: the straight list first, then rows 16, 17 and 18
 unfoldable pub tryList : ℕ → List Step → List Step → List ℕ → Tried
-tryList places new l o =
-    cond (runsStraight places new l && sameList o (map suc (inTurn 0 (length l))))
-    (tryAccepted (Option·getD (fireAll new (start places new) l) 0))
+tryList from new l o =
+    cond (runsStraight from new l && sameList o (map suc (inTurn 0 (length l))))
+    (tryAccepted (Option·getD (fireAll new from l) 0))
     (cond (eqb (listRow (keptOf new l) 0 1 o .number) 0)
-    (tryFrom new l (start places new) 1 (map (λ (b : ℕ). b - 1) o))
+    (tryFrom new l from 1 (map (λ (b : ℕ). b - 1) o))
     (tryStopped (listRow (keptOf new l) 0 1 o .number) (listRow (keptOf new l) 0 1 o .second)))
 
 -- rows 10 to 12, then the list
 unfoldable pub tryRows : ℕ → ℕ → List Step → List Step → List ℕ → Tried
-tryRows line places new l o =
-    cond (eqb (keptRows line places new l .number) 0)
-    (tryList places new l o)
-    (tryStopped (keptRows line places new l .number) (keptRows line places new l .second))
+tryRows line from new l o =
+    cond (eqb (keptRows line from new l .number) 0)
+    (tryList from new l o)
+    (tryStopped (keptRows line from new l .number) (keptRows line from new l .second))
 
 -- the operation: the rows to 9, then the rest
 unfoldable pub tried : Job → List ℕ → Tried
 tried j o =
     cond (eqb (ran j .number) 0)
-    (tryRows (jobLine j) (j .newPlaces) (j .new) (performed (j .old) (j .done)) o)
+    (tryRows (jobLine j) (newStart j) (j .new) (performed (j .old) (j .done)) o)
     (tryStopped (ran j .number) (ran j .second))

@@ -9,7 +9,6 @@ ghost use Prim.Native.Nat.{ℕ, suc, _≤_, _<_};
 ghost use lib.Bits.{bitAnd};
 ghost use lib.ListN.{length, getD};
 ghost use Rattle.mask.specs.Mask.{has, count};
-ghost use Rattle.route.specs.Firing.{start};
 ghost use Rattle.route.specs.declared.Step.{Step};
 ghost use Rattle.slice.specs.Slice.{variables};
 ghost use Rattle.slice.specs.Order.{inTurn};
@@ -105,7 +104,7 @@ pub fn straight_order(len: usize) -> [u8; 64]
 pub fn answered(cut: Cut, vars: u32, kept: u64, len: usize, order: [u8; 64], marking: u64) -> Judged
     requires { ⌜ (cut .uses .len ≤ 64) × (len ≤ 64) ⌝ }
     requires { ⌜ count 64 kept ≤ cut .uses .len ⌝ }
-    ensures { λ r. ⌜ ((places : ℕ) (new l : List Step) (o : List ℕ) → CutOf l (variables new) cut → vars ≡ variables new → len ≡ length o → order ≡ padded 64 (map suc o) → marking ≡ Option·getD (fireAll new (start places new) (stepsOn l o)) 0 → r ≡ answer places new l kept o) ⌝ }
+    ensures { λ r. ⌜ ((from : ℕ) (new l : List Step) (o : List ℕ) → CutOf l (variables new) cut → vars ≡ variables new → len ≡ length o → order ≡ padded 64 (map suc o) → marking ≡ Option·getD (fireAll new from (stepsOn l o)) 0 → r ≡ answer from new l kept o) ⌝ }
 {
     let uses = cut.uses;
     let rows = cut.table;

@@ -24,14 +24,13 @@ ghost use mathlib.Core.Option.{Option·getD};
 ghost use Prim.Native.Nat.{ℕ, _≤_, _<_};
 ghost use lib.ListN.{length, getD, take};
 ghost use Rattle.mask.specs.Mask.{below, count};
-ghost use Rattle.route.specs.Firing.{start};
 ghost use Rattle.route.specs.declared.Step.{Step};
 ghost use Rattle.slice.specs.Slice.{performed, variables};
 ghost use Rattle.slice.specs.Order.{inTurn};
 ghost use Rattle.slice.specs.Uses.{CutOf};
 ghost use Rattle.fit.specs.Straight.{fireAll, stepsOn, runsStraight};
 ghost use Rattle.search.specs.Candidates.{firstOrder, sequence, cleared};
-ghost use Rattle.job.specs.Job.{jobOf};
+ghost use Rattle.job.specs.Job.{jobOf, newStart};
 ghost use Rattle.job.specs.Lines.{LinesPass};
 ghost use Rattle.fit.specs.Judge.{answer, firstFit, judgeFound, judgeRows, judged, workAfter};
 ghost use Rattle.fit.specs.Told.{movesTo, ItemsOf, CutFits, KeptOf, ToJudge};
@@ -53,7 +52,7 @@ fn search_kept(p: Picked, m: u64, work: &mut [u8]) -> Sequence
 // The straight list, after which all count as kept.
 fn judge_straight(cut: Cut, vars: u32, marking: u64) -> Judged
     requires { ⌜ cut .uses .len ≤ 64 ⌝ }
-    ensures { λ r. ⌜ ((places : ℕ) (new l : List Step) → CutOf l (variables new) cut → vars ≡ variables new → marking ≡ Option·getD (fireAll new (start places new) l) 0 → r ≡ answer places new l (below (length l)) (inTurn 0 (length l))) ⌝ }
+    ensures { λ r. ⌜ ((from : ℕ) (new l : List Step) → CutOf l (variables new) cut → vars ≡ variables new → marking ≡ Option·getD (fireAll new from l) 0 → r ≡ answer from new l (below (length l)) (inTurn 0 (length l))) ⌝ }
 {
     let uses = cut.uses;
     let len = uses.len;
@@ -67,7 +66,7 @@ fn judge_found(cut: Cut, vars: u32, p: Picked, order: u64, m: u64) -> Judged
     requires { ⌜ CutFits cut ⌝ }
     requires { ⌜ p .len ≤ 16 ⌝ }
     requires { ⌜ ((k : ℕ) → getD (p .at) k 0 < 64) ⌝ }
-    ensures { λ r. ⌜ ((places : ℕ) (new l : List Step) (o : List ℕ) → CutOf l (variables new) cut → vars ≡ variables new → ItemsOf order (p .len) o → movesTo (p .ins) (p .outs) m o ≡ Option·getD (fireAll new (start places new) (stepsOn l (map (λ (k : ℕ). getD (p .at) k 0) o))) 0 → r ≡ answer places new l (cut .kept) (map (λ (k : ℕ). getD (p .at) k 0) o)) ⌝ }
+    ensures { λ r. ⌜ ((new l : List Step) (o : List ℕ) → CutOf l (variables new) cut → vars ≡ variables new → ItemsOf order (p .len) o → movesTo (p .ins) (p .outs) m o ≡ Option·getD (fireAll new m (stepsOn l (map (λ (k : ℕ). getD (p .at) k 0) o))) 0 → r ≡ answer m new l (cut .kept) (map (λ (k : ℕ). getD (p .at) k 0) o)) ⌝ }
 {
     let len = p.len;
     let at = p.at;
@@ -83,7 +82,7 @@ fn judge_kept(cut: Cut, met: Met, vars: u32, m: u64, line: u64, work: &mut [u8])
     requires { ⌜ CutFits cut ⌝ }
     requires { ⌜ count 64 (cut .kept) ≤ 16 ⌝ }
     requires { ⌜ 8192 ≤ length (now work) ⌝ }
-    ensures { λ r. ⌜ ((places : ℕ) (new l : List Step) → KeptOf places new l cut met vars m → r ≡ judgeFound line places new l (firstFit places new l)) ⌝ }
+    ensures { λ r. ⌜ ((new l : List Step) → KeptOf new l cut met vars → r ≡ judgeFound line m new l (firstFit m new l)) ⌝ }
     ensures { λ _. ⌜ now (work .exit) ≡ cleared 8192 (now (work .entry)) ⌝ }
 {
     let rows = cut.table;
@@ -99,8 +98,8 @@ fn judge_kept(cut: Cut, met: Met, vars: u32, m: u64, line: u64, work: &mut [u8])
 pub fn judge_case(c: Case, vars: u32, line: u64, work: &mut [u8]) -> Judged
     requires { ⌜ ToJudge c vars line ⌝ }
     requires { ⌜ 8192 ≤ length (now work) ⌝ }
-    ensures { λ r. ⌜ ((k : ToJudge c vars line) → r ≡ judgeRows line (k .job .newPlaces) (k .job .new) (performed (k .job .old) (k .job .done))) ⌝ }
-    ensures { λ _. ⌜ ((k : ToJudge c vars line) → now (work .exit) ≡ cond (runsStraight (k .job .newPlaces) (k .job .new) (performed (k .job .old) (k .job .done))) (now (work .entry)) (cleared 8192 (now (work .entry)))) ⌝ }
+    ensures { λ r. ⌜ ((k : ToJudge c vars line) → r ≡ judgeRows line (newStart (k .job)) (k .job .new) (performed (k .job .old) (k .job .done))) ⌝ }
+    ensures { λ _. ⌜ ((k : ToJudge c vars line) → now (work .exit) ≡ cond (runsStraight (newStart (k .job)) (k .job .new) (performed (k .job .old) (k .job .done))) (now (work .entry)) (cleared 8192 (now (work .entry)))) ⌝ }
 {
     let straight = c.straight;
     let cut = c.cut;

@@ -51,7 +51,7 @@ fn kept_lines(kept: u64, m: Met, line: u64) -> Outcome
 // Row 10 at the job line, then 11 and 12.
 pub fn kept_rows(kept: u64, m: Met, straight: Fires, line: u64) -> Outcome
     requires { ⌜ line ≤ 900 ⌝ }
-    ensures { λ r. ⌜ ((places : ℕ) (new l : List Step) → MetOf new l m → kept ≡ keptOf new l → straight ≡ straightOf places new l → r ≡ keptRows line places new l) ⌝ }
+    ensures { λ r. ⌜ ((from : ℕ) (new l : List Step) → MetOf new l m → kept ≡ keptOf new l → straight ≡ straightOf from new l → r ≡ keptRows line from new l) ⌝ }
 {
     if !limited(straight, kept) {
         return Outcome::refuse(10, line);

@@ -13,6 +13,7 @@ ghost use mathlib.Core.Path.{_≡_};
 ghost use mathlib.Core.List.{List};
 ghost use Prim.Native.Nat.{_≤_};
 ghost use Rattle.route.specs.Steps.{stepsOf};
+ghost use Rattle.route.specs.Firing.{start};
 ghost use Rattle.route.specs.Rows.{refuse};
 ghost use Rattle.route.specs.declared.Step.{Step};
 ghost use Rattle.job.specs.Job.{jobOf, afterSteps};
@@ -55,7 +56,7 @@ fn refused(number: u32, second: u64) -> Case
 // The new route against the occurrences; `line` is that of the new route's head.
 fn weigh(new: Route, cut: Cut, line: u64) -> Case
     requires { ⌜ ((new .len ≤ 64) × (new .places ≤ 64)) × ((cut .uses .len ≤ 64) × (line ≤ 100)) ⌝ }
-    ensures { λ r. ⌜ ((l : List Step) → CutOf l (variables (stepsOf new)) cut → CaseAt (afterSteps line (stepsOf new)) (new .places) (stepsOf new) l r) ⌝ }
+    ensures { λ r. ⌜ ((l : List Step) → CutOf l (variables (stepsOf new)) cut → CaseAt (afterSteps line (stepsOf new)) (start (new .places) (stepsOf new)) (stepsOf new) l r) ⌝ }
 {
     let opened = new.open(line);
     let start = opened.marking.tokens;

@@ -5,9 +5,8 @@ use route::Marking;
 use route::Step;
 ghost use mathlib.Core.Path.{_≡_};
 ghost use mathlib.Core.List.{List};
-ghost use Prim.Native.Nat.{ℕ, _≤_};
+ghost use Prim.Native.Nat.{_≤_};
 ghost use lib.ListN.{length};
-ghost use Rattle.route.specs.Firing.{start};
 ghost use Rattle.fit.specs.Case.{MetOf, straightOf};
 ghost use Rattle.fit.specs.Ready.{firesTo, placesOnly};
 
@@ -33,7 +32,7 @@ pub fn fire_places(ins: u64, outs: u64, tokens: u64) -> Fires
 // All `len` occurrences are in the new route with the same data, and fire in turn.
 pub fn straight(m: Met, len: usize, from: u64) -> Fires
     requires { ⌜ len ≤ 64 ⌝ }
-    ensures { λ r. ⌜ ((places : ℕ) (new l : List Step) → MetOf new l m → len ≡ length l → from ≡ start places new → r ≡ straightOf places new l) ⌝ }
+    ensures { λ r. ⌜ ((new l : List Step) → MetOf new l m → len ≡ length l → r ≡ straightOf from new l) ⌝ }
 {
     if m.same != mask::below64(len as u64) {
         return Fires::Stuck;

@@ -50,7 +50,7 @@ fn straight_end(straight: Fires, order: &[u8], len: usize) -> Fires
 
 // After row 12: the straight list first, and then the rows.
 fn try_list(c: Case, order: &[u8]) -> Tried
-    ensures { λ r. ⌜ ((line places : ℕ) (new l : List Step) → length l ≤ 64 → CaseAt line places new l c → eqb (c .outcome .number) 0 ≡ true → r ≡ tryList places new l (now (order .entry))) ⌝ }
+    ensures { λ r. ⌜ ((line from : ℕ) (new l : List Step) → length l ≤ 64 → CaseAt line from new l c → eqb (c .outcome .number) 0 ≡ true → r ≡ tryList from new l (now (order .entry))) ⌝ }
 {
     let cut = c.cut;
     let uses = cut.uses;

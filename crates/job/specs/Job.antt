@@ -3,6 +3,7 @@ use mathlib.Core.List.{List}
 use Prim.Native.Nat.{ℕ, _+_}
 use lib.ListN.{length}
 use Rattle.route.specs.Steps.{stepsOf}
+use Rattle.route.specs.Firing.{start}
 use Rattle.route.specs.declared.Step.{Step}
 use Rattle.route.specs.declared.Route.{Route}
 
@@ -16,6 +17,13 @@ pub record Job : Type 0 where
 -- the job of two routes by value and a done list
 abbrev pub jobOf : Route → Route → List ℕ → Job
 jobOf old new done = record { oldPlaces = old .places; old = stepsOf old; newPlaces = new .places; new = stepsOf new; done = done }
+
+-- where runs, replays and fit orders begin: the start of the old route, and of the new
+abbrev pub oldStart : Job → ℕ
+oldStart j = start (j .oldPlaces) (j .old)
+
+abbrev pub newStart : Job → ℕ
+newStart j = start (j .newPlaces) (j .new)
 
 -- The `(old` line is line 1; its steps follow. A head's next head stands right after its steps.
 abbrev pub afterSteps : ℕ → List Step → ℕ

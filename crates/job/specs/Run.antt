@@ -5,11 +5,11 @@ use mathlib.Core.Option.{Option, none, some}
 use Prim.Native.Nat.{ℕ, _+_}
 use lib.Dec.{eqb}
 use Rattle.route.specs.Steps.{lookup}
-use Rattle.route.specs.Firing.{canFire, fire, start}
+use Rattle.route.specs.Firing.{canFire, fire}
 use Rattle.route.specs.declared.Step.{Step}
 use Rattle.route.specs.Rows.{first, netRow}
 use Rattle.route.specs.declared.Opened.{Opened}
-use Rattle.job.specs.Job.{Job, newLine, jobLine}
+use Rattle.job.specs.Job.{Job, newLine, jobLine, oldStart}
 use Rattle.job.specs.Lines.{checked}
 use Rattle.job.specs.declared.Ran.{Ran}
 
@@ -31,12 +31,12 @@ unfoldable pub openedBoth : Job → Opened
 openedBoth j =
     record {
       outcome = first (netRow 1 (j .oldPlaces) (j .old) ∷ netRow (newLine j) (j .newPlaces) (j .new) ∷ []);
-      marking = record { tokens = start (j .oldPlaces) (j .old) };
+      marking = record { tokens = oldStart j };
     }
 
 -- the operation run: the rows to 7, then the done lines from the old route's start
 unfoldable pub ran : Job → Ran
 ran j =
     cond (eqb (checked j .number) 0)
-    (runFrom (j .old) (start (j .oldPlaces) (j .old)) (jobLine j + 1) (j .done))
+    (runFrom (j .old) (oldStart j) (jobLine j + 1) (j .done))
     (stopped (checked j .number) (checked j .second))

@@ -41,8 +41,8 @@ cast-t18 : tie.Need-cast-t18
 cast-t18 c = search needs
 
 returns : tie.Need-returns
-returns c places new l o cut vars len order marking =
-    answer-is places new l _ o _ _ _ _ _ _ (ap₂ (λ (a b : ℕ). a - b) (cut .uses-are .length-is) (c .count64 .ensures)) len order marking
+returns c from new l o cut vars len order marking =
+    answer-is from new l _ o _ _ _ _ _ _ (ap₂ (λ (a b : ℕ). a - b) (cut .uses-are .length-is) (c .count64 .ensures)) len order marking
     (c .before .before .before .after-rows .ensures l (cut .table-is))
     (c .before .last-writers .ensures new l vars (cut .uses-are .writes-are))
 

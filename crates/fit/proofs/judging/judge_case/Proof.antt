@@ -2,7 +2,7 @@
 use mathlib.Core.Path.{refl, _∙_}
 use borrow.Author.Needs.{needs}
 use Rattle.fit.proofs.Choice.{cond-yes, cond-no}
-use Rattle.fit.proofs.Judges.{rows-straight, rows-search, ready-cut, ready-rows, ready-straight, ready-stuck, ready-fits, ready-limit, ready-kept}
+use Rattle.fit.proofs.Judges.{rows-straight, rows-search, ready-cut, ready-rows, ready-straight, ready-stuck, ready-fits, ready-limit, ready-first, ready-kept}
 use Rattle.fit.proofs.judging.judge_case.Statement.{statement}
 use Rattle.fit.proofs.judging.judge_case.Tie as tie
 
@@ -32,7 +32,7 @@ same-length c = search needs
 
 returns-2 : tie.Need-returns-2
 returns-2 c = (
-  λ k. c .before .before .judge-kept .ensures .0 _ _ _ (ready-kept k) ∙ rows-search _ _ _ _ (ready-rows k) (ready-stuck k (c .before .before .before .before .enum-told .given .1)),
+  λ k. c .before .before .judge-kept .ensures .0 _ _ (ready-kept k) ∙ ready-first k ∙ rows-search _ _ _ _ (ready-rows k) (ready-stuck k (c .before .before .before .before .enum-told .given .1)),
   λ k. c .before .before .judge-kept .ensures .1 ∙ cond-no _ _ refl (ready-stuck k (c .before .before .before .before .enum-told .given .1)),
 )
 

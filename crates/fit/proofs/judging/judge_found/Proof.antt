@@ -19,8 +19,8 @@ answered-requires c κs =
     ((s .pre .0 .short, omega (arith, s .pre .1 .0)), s .pre .0 .few)
 
 returns : tie.Need-returns
-returns c places new l o cut vars items ends =
-    c .answered .ensures places new l _ cut vars (sym (length-map o _ ∙ items .long))
+returns c new l o cut vars items ends =
+    c .answered .ensures _ new l _ cut vars (sym (length-map o _ ∙ items .long))
     (numbers-are _ _ (c .before .before .before .before .before .before .before .before .before .args .p .at) o _ items (search needs) (c .before .before .before .before .numbers .ensures))
     (c .before .fired .ensures o items ∙ ends)
 

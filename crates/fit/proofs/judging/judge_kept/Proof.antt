@@ -38,10 +38,10 @@ returns : tie.Need-returns
 returns c =
     let t = c .before .before .before .before .before .before .before .before in
     let s = c .before .before .before .before .before .before in (
-      λ places new l is.
-          let f = order-fit is (t .pick .ensures) (room t) _ (s .search-kept .ensures .0) _ (c .before .before .found .given .1) in
-          c .judge-found .ensures places new l (f .order) (is .cut-is) (is .vars-are) (f .items) (f .ends)
-          ∙ fit-answer _ places new l _ _ (is .cut-is .kept-is) (f .fit),
+      λ new l is.
+          let f = order-fit is (t .pick .ensures) (room t) _ _ (s .search-kept .ensures .0) _ (c .before .before .found .given .1) in
+          c .judge-found .ensures new l (f .order) (is .cut-is) (is .vars-are) (f .items) (f .ends)
+          ∙ fit-answer _ _ new l _ _ (is .cut-is .kept-is) (f .fit),
       s .search-kept .ensures .1,
     )
 
@@ -52,7 +52,7 @@ returns-2 : tie.Need-returns-2
 returns-2 c =
     let t = c .before .before .before .before .before .before .before in
     let s = c .before .before .before .before .before in (
-      λ places new l is. c .stop .ensures ∙ none-answer _ places new l (none-fit is (t .pick .ensures) (room t) _ (s .search-kept .ensures .0) (c .before .enum-told .given .1)),
+      λ new l is. c .stop .ensures ∙ none-answer _ _ new l (none-fit is (t .pick .ensures) (room t) _ _ (s .search-kept .ensures .0) (c .before .enum-told .given .1)),
       s .search-kept .ensures .1,
     )
 

@@ -24,10 +24,10 @@ answered-requires c κs =
     ((s .pre, s .pre), subst (λ (m : ℕ). count 64 m ≤ s .args .cut .uses .len) (sym (c .before .below64 .ensures)) (below-few (s .args .cut .uses .len)))
 
 returns : tie.Need-returns
-returns c places new l cut vars m =
+returns c from new l cut vars m =
     let n = cut .uses-are .length-is in
-    c .answered .ensures places new l (inTurn 0 (length l)) cut vars (n ∙ sym (turn-length 0 (length l))) (c .before .straight-order .ensures ∙ ap (λ (k : ℕ). padded 64 (map suc (inTurn 0 k))) n) (m ∙ straight-marking places new l)
-    ∙ ap (λ (k : ℕ). answer places new l k (inTurn 0 (length l))) (c .before .before .below64 .ensures ∙ ap (λ (k : ℕ). below k) n)
+    c .answered .ensures from new l (inTurn 0 (length l)) cut vars (n ∙ sym (turn-length 0 (length l))) (c .before .straight-order .ensures ∙ ap (λ (k : ℕ). padded 64 (map suc (inTurn 0 k))) n) (m ∙ straight-marking from new l)
+    ∙ ap (λ (k : ℕ). answer from new l k (inTurn 0 (length l))) (c .before .before .below64 .ensures ∙ ap (λ (k : ℕ). below k) n)
 
 pub judge-straight-spec : {M : Type 1} → statement M
 judge-straight-spec = tie.close (tie.spec below64-requires straight-order-requires answered-requires returns)

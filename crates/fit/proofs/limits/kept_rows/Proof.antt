@@ -15,7 +15,7 @@ refuse-requires c κs = search needs
 returns : tie.Need-returns
 returns c =
     let e = c .before .before in
-    λ places new l met kept straight. c .refuse .ensures ∙ rows-over _ places new l _ _ kept straight _ (e .limited .ensures) (not-true _ (c .before .if1 .taken))
+    λ from new l met kept straight. c .refuse .ensures ∙ rows-over _ from new l _ _ kept straight _ (e .limited .ensures) (not-true _ (c .before .if1 .taken))
 
 add-kept-lines : tie.Need-add-kept-lines
 add-kept-lines c = search needs
@@ -26,7 +26,7 @@ kept-lines-requires c κs = search needs
 returns-2 : tie.Need-returns-2
 returns-2 c =
     let e = c .before .before in
-    λ places new l met kept straight. c .kept-lines .ensures new l met kept ∙ rows-lines _ places new l _ _ kept straight _ (e .limited .ensures) (not-false _ (c .before .if1 .left))
+    λ from new l met kept straight. c .kept-lines .ensures new l met kept ∙ rows-lines _ from new l _ _ kept straight _ (e .limited .ensures) (not-false _ (c .before .if1 .left))
 
 pub kept-rows-spec : {M : Type 1} → statement M
 kept-rows-spec =

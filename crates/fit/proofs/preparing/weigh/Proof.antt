@@ -5,6 +5,7 @@ use Prim.Native.Nat.{ℕ, _+_}
 use native.Mathlib.Omega.{arith}
 use borrow.Author.Needs.{needs}
 use Rattle.route.specs.Steps.{stepsOf}
+use Rattle.route.specs.Firing.{start}
 use Rattle.route.specs.Rows.{opened}
 use Rattle.route.specs.declared.Step.{Step}
 use Rattle.route.specs.declared.Opened.{Opened}
@@ -13,6 +14,7 @@ use Rattle.route.proofs.StepList.{length-steps}
 use Rattle.job.specs.Job.{afterSteps}
 use Rattle.fit.specs.Fit.{keptOf}
 use Rattle.fit.specs.KeptRows.{keptRows}
+use Rattle.fit.specs.Case.{straightOf}
 use Rattle.fit.proofs.preparing.weigh.Statement.{statement}
 use Rattle.fit.proofs.preparing.weigh.Tie as tie
 
@@ -45,13 +47,13 @@ returns c =
     let job-line : a .line + 1 + a .new .len ≡ afterSteps (a .line) steps = omega (arith, length-steps (a .new) (full (a .new) _ (o .before .good .0))) in
     λ l cut.
     let met = m .meet .ensures l (cut .uses-are) in
-    let start = ap (λ (x : Opened). x .marking .tokens) (o .«open» .ensures) in
-    let runs = s .straight .ensures (a .new .places) steps l met (cut .uses-are .length-is) start in
+    let begins = ap (λ (x : Opened). x .marking .tokens) (o .«open» .ensures) in
+    let runs = s .straight .ensures steps l met (cut .uses-are .length-is) ∙ ap (λ (m : ℕ). straightOf m steps l) begins in
     record {
-      outcome-is = c .kept-rows .ensures (a .new .places) steps l met (cut .kept-is) runs ∙ ap (λ (n : ℕ). keptRows n (a .new .places) steps l) job-line;
+      outcome-is = c .kept-rows .ensures _ steps l met (cut .kept-is) runs ∙ ap (λ (n : ℕ). keptRows n (start (a .new .places) steps) steps l) job-line;
       cut-is = cut;
       met-is = met;
-      start-is = start;
+      start-is = begins;
       straight-is = runs;
     }
 

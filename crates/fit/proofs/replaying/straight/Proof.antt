@@ -33,7 +33,7 @@ below64-requires : tie.Need-below64-requires Inv-loop μ-loop
 below64-requires c κs = search needs
 
 returns : tie.Need-returns Inv-loop μ-loop
-returns c = λ places new l met is from. straight-differs new l _ met places (λ e. c .if1 .taken (e ∙ ap below (sym is) ∙ sym (c .before .below64 .ensures)))
+returns c = λ new l met is. straight-differs new l _ met _ (λ e. c .if1 .taken (e ∙ ap below (sym is) ∙ sym (c .before .below64 .ensures)))
 
 loop-holds : tie.Need-loop-holds Inv-loop μ-loop
 loop-holds c = (omega arith, λ new l met is. refl)
@@ -63,10 +63,9 @@ returns-2 : tie.Need-returns-2 Inv-loop μ-loop
 returns-2 c =
     let f = c .before .before in
     let at = f .before .before .before .before in
-    λ places new l met is from.
-    straight-stuck places new l (each-all (sameStep new) l (all at new l met is))
-    (ap (λ (n : ℕ). fireAll new n l) (sym from)
-    ∙ replay-stuck new l _ met (at .loop .i) (at .loop .at) _ (so-far at new l met is) (omega arith) (all at new l met is (at .loop .i) (omega arith)) _ (f .fire-places .ensures) (c .enum-told .given .1))
+    λ new l met is.
+    straight-stuck _ new l (each-all (sameStep new) l (all at new l met is))
+    (replay-stuck new l _ met (at .loop .i) (at .loop .at) _ (so-far at new l met is) (omega arith) (all at new l met is (at .loop .i) (omega arith)) _ (f .fire-places .ensures) (c .enum-told .given .1))
 
 add-i : tie.Need-add-i Inv-loop μ-loop
 add-i c = search needs
@@ -83,9 +82,9 @@ loop-again c =
 returns-3 : tie.Need-returns-3 Inv-loop μ-loop
 returns-3 c =
     let at = c .before in
-    λ places new l met is from.
-    straight-to places new l (each-all (sameStep new) l (all at new l met is)) _
-    (ap (λ (n : ℕ). fireAll new n l) (sym from) ∙ replay-end new l _ met (at .loop .i) (at .loop .at) _ (so-far at new l met is) (omega arith))
+    λ new l met is.
+    straight-to _ new l (each-all (sameStep new) l (all at new l met is)) _
+    (replay-end new l _ met (at .loop .i) (at .loop .at) _ (so-far at new l met is) (omega arith))
 
 pub straight-spec : {M : Type 1} → statement M
 straight-spec =

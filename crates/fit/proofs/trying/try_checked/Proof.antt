@@ -5,7 +5,7 @@ use native.Mathlib.Omega.{arith}
 use borrow.Author.Needs.{needs}
 use borrow.Author.Tests.{not-true, not-false}
 use lib.ListN.{length}
-use Rattle.job.specs.Job.{Job, jobOf, jobLine}
+use Rattle.job.specs.Job.{Job, jobOf, jobLine, newStart}
 use Rattle.job.proofs.RunLine.{ran-fits}
 use Rattle.slice.proofs.Done.{length-performed}
 use Rattle.fit.proofs.Cases.{doneSteps, case-ran, case-at}
@@ -41,7 +41,7 @@ returns-2 c =
     let is = r .prepare .ensures in
     let passes = sym (p .passed .ensures) ∙ not-false _ (c .before .if1 .left) in
     let short : length (doneSteps j) ≤ 64 = omega (arith, length-performed (j .old) (j .done), ran-fits j (case-ran j _ is passes) .done-fit) in
-    c .try-list .ensures (jobLine j) (j .newPlaces) (j .new) (doneSteps j) short (case-at j _ is passes) passes ∙ tried-list j _ _ (is .outcome-is) passes
+    c .try-list .ensures (jobLine j) (newStart j) (j .new) (doneSteps j) short (case-at j _ is passes) passes ∙ tried-list j _ _ (is .outcome-is) passes
 
 pub try-checked-spec : {M : Type 1} → statement M
 try-checked-spec =

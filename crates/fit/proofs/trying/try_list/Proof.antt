@@ -17,8 +17,8 @@ use Rattle.fit.proofs.trying.try_list.Statement.{statement}
 use Rattle.fit.proofs.trying.try_list.Tie as tie
 
 -- what the comparison gives, in the words of the definition
-module _ (c : tie.After-straight-end) (line places : ℕ) (new l : List Step) (is : CaseAt line places new l (c .before .before .before .before .args .c)) where
-  end-is : c .straight-end .result ≡ cond (sameList (c .before .before .before .before .args .order .now) (map suc (inTurn 0 (length l)))) (straightOf places new l) Stuck
+module _ (c : tie.After-straight-end) (line from : ℕ) (new l : List Step) (is : CaseAt line from new l (c .before .before .before .before .args .c)) where
+  end-is : c .straight-end .result ≡ cond (sameList (c .before .before .before .before .args .order .now) (map suc (inTurn 0 (length l)))) (straightOf from new l) Stuck
   end-is = c .straight-end .ensures ∙ ap₂ (λ (n : ℕ) (f : Fires). cond (sameList (c .before .before .before .before .args .order .now) (map suc (inTurn 0 n))) f Stuck) (is .cut-is .uses-are .length-is) (is .straight-is)
 
 straight-end-requires : tie.Need-straight-end-requires
@@ -37,15 +37,15 @@ returns : tie.Need-returns
 returns c =
     let e = c .before .before .before .before .before in
     let a = e .before .before .before .before .args in
-    λ line places new l short is passes.
-    c .by-rows .ensures new l (case-ready line places new l (a .c) short is passes)
+    λ line from new l short is passes.
+    c .by-rows .ensures new l (case-ready line from new l (a .c) short is passes)
     ∙ ap (λ (n : ℕ). byRows new l n (a .order .now)) (is .start-is)
-    ∙ list-rows places new l _ _ (end-is e line places new l is) (c .before .before .before .enum-told .given .1)
+    ∙ list-rows from new l _ _ (end-is e line from new l is) (c .before .before .before .enum-told .given .1)
 
 returns-2 : tie.Need-returns-2
 returns-2 c =
     let e = c .before .before .before in
-    λ line places new l short is passes. list-straight places new l _ _ (end-is e line places new l is) _ (c .before .m .given .1)
+    λ line from new l short is passes. list-straight from new l _ _ (end-is e line from new l is) _ (c .before .m .given .1)
 
 pub try-list-spec : {M : Type 1} → statement M
 try-list-spec =

@@ -7,12 +7,11 @@ use lib.Dec.{eqb}
 use lib.ListN.{length}
 use borrow.Author.Needs.{needs}
 use borrow.Author.Tests.{not-true, not-false, eq-eqb}
-use Rattle.route.specs.Firing.{start}
 use Rattle.route.specs.Rows.{first}
 use Rattle.route.specs.declared.Opened.{Opened}
 use Rattle.route.proofs.Full.{full}
 use Rattle.route.proofs.StepList.{length-steps}
-use Rattle.job.specs.Job.{Job, jobOf, jobLine}
+use Rattle.job.specs.Job.{Job, jobOf, jobLine, oldStart}
 use Rattle.job.specs.Lines.{lineRows, checked}
 use Rattle.job.specs.Run.{runFrom, openedBoth}
 use Rattle.job.proofs.Rows.{LinesFit, lines-fit}
@@ -43,7 +42,7 @@ module _ (c : tie.Start) where
     outcome-is : checked job ≡ a .outcome
     outcome-is = checked-nets job _ refl passes ∙ ap (λ (x : Opened). x .outcome) (sym opens)
 
-    start-is : a .marking .tokens ≡ start (job .oldPlaces) (job .old)
+    start-is : a .marking .tokens ≡ oldStart job
     unfolding openedBoth
     start-is = ap (λ (x : Opened). x .marking .tokens) opens
 
