@@ -16,11 +16,11 @@ use Rattle.job.specs.Job.{Job, jobLine, newStart}
 use Rattle.job.specs.Run.{ran}
 use Rattle.slice.specs.Order.{inTurn}
 use Rattle.search.specs.Search.{isSome}
-use Rattle.fit.specs.Straight.{sameStep, fireAll, stepsOn, runsStraight}
-use Rattle.fit.specs.Fit.{keptOf, KeptFit, FitAt, Fit}
-use Rattle.fit.specs.KeptRows.{keptRows}
-use Rattle.fit.specs.Try.{tryStopped, tryAccepted, sameList, listRow, tryFrom, tryList, tryRows, tried}
-use Rattle.fit.specs.declared.Tried.{Tried}
+use Rattle.matching.specs.Straight.{sameStep, fireAll, stepsOn, runsStraight}
+use Rattle.matching.specs.Fit.{keptOf, KeptFit, FitAt, Fit}
+use Rattle.matching.specs.KeptRows.{keptRows}
+use Rattle.trying.specs.Try.{tryStopped, tryAccepted, sameList, listRow, tryFrom, tryList, tryRows, tried}
+use Rattle.trying.specs.declared.Tried.{Tried}
 use Rattle.claim.specs.Demand3.{Runs, stepsDone, positions, FitFor}
 use Rattle.claim.proofs.Pass.{passed, passes}
 use Rattle.claim.proofs.Turn.{whole-steps}

@@ -16,9 +16,9 @@ use Rattle.route.specs.declared.Step.{Step}
 use Rattle.job.specs.Job.{Job, newStart}
 use Rattle.slice.specs.Slice.{variables}
 use Rattle.slice.specs.Order.{inTurn, times}
-use Rattle.fit.specs.Straight.{sameData, sameStep}
-use Rattle.fit.specs.Fit.{keptOf, FitAt}
-use Rattle.fit.specs.Try.{tried}
+use Rattle.matching.specs.Straight.{sameData, sameStep}
+use Rattle.matching.specs.Fit.{keptOf, FitAt}
+use Rattle.trying.specs.Try.{tried}
 use Rattle.claim.specs.Values.{Store, Work, allBlank, replay, performAll}
 use Rattle.claim.specs.Demand3.{Runs, stepsDone, nameAt, positions, moved, InTurn, Carried}
 use Rattle.claim.proofs.Perform.{stepAt}

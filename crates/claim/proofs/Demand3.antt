@@ -10,9 +10,9 @@ use Rattle.route.specs.Firing.{start}
 use Rattle.route.specs.declared.Step.{Step}
 use Rattle.job.specs.Job.{Job, newStart}
 use Rattle.slice.specs.Order.{times}
-use Rattle.fit.specs.Straight.{fireAll, stepsOn}
-use Rattle.fit.specs.Try.{tried}
-use Rattle.fit.specs.Judge.{judged}
+use Rattle.matching.specs.Straight.{fireAll, stepsOn}
+use Rattle.trying.specs.Try.{tried}
+use Rattle.judging.specs.Judge.{judged}
 use Rattle.claim.specs.Demand3.{Runs, stepsDone, nameAt, positions, Accepted, FitFor, ordered, Own, Demand3}
 use Rattle.claim.proofs.Ran.{done-named}
 use Rattle.claim.proofs.Accepts.{try-fit, try-second, try-marking}

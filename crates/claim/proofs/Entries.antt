@@ -12,7 +12,7 @@ use Rattle.route.specs.Steps.{blank}
 use Rattle.route.specs.declared.Step.{Step}
 use Rattle.slice.specs.Precedence.{comesAfter}
 use Rattle.slice.specs.Order.{times, EachOnce, noneOf, inOrder}
-use Rattle.fit.specs.Straight.{allOf, stepsOn}
+use Rattle.matching.specs.Straight.{allOf, stepsOn}
 use Rattle.mask.proofs.Truth.{both}
 
 -- an entry is counted

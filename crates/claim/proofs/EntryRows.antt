@@ -11,9 +11,9 @@ use Rattle.route.specs.Firing.{canFire, fire}
 use Rattle.route.specs.declared.Step.{Step}
 use Rattle.slice.specs.Precedence.{comesAfter}
 use Rattle.slice.specs.Order.{noneOf, inOrder}
-use Rattle.fit.specs.Straight.{fireStep, fireAll, stepsOn}
-use Rattle.fit.specs.Try.{tryStopped, tryAccepted, tryFire, tryFrom}
-use Rattle.fit.specs.declared.Tried.{Tried}
+use Rattle.matching.specs.Straight.{fireStep, fireAll, stepsOn}
+use Rattle.trying.specs.Try.{tryStopped, tryAccepted, tryFire, tryFrom}
+use Rattle.trying.specs.declared.Tried.{Tried}
 use Rattle.claim.proofs.Fires.{fire-on}
 use Rattle.claim.proofs.Entries.{head-order}
 

@@ -8,7 +8,7 @@ use lib.ListN.{getD}
 use Rattle.route.specs.Firing.{canFire, fire}
 use Rattle.route.specs.Steps.{blank, lookup}
 use Rattle.route.specs.declared.Step.{Step}
-use Rattle.fit.specs.Straight.{fireStep, fireAll, stepsOn}
+use Rattle.matching.specs.Straight.{fireStep, fireAll, stepsOn}
 use Rattle.claim.specs.Values.{Store, Work, perform, replayStep, replayFrom}
 use Rattle.claim.specs.Demand3.{FiresTo, InTurn}
 

@@ -14,11 +14,11 @@ use Rattle.mask.proofs.Laws.{has-zero}
 use Rattle.route.specs.declared.Step.{Step}
 use Rattle.slice.specs.Order.{times, EachOnce}
 use Rattle.search.specs.Search.{isSome, search}
-use Rattle.fit.specs.Straight.{sameStep, fireAll, stepsOn}
-use Rattle.fit.specs.Fit.{keptOf, KeptFit}
+use Rattle.matching.specs.Straight.{sameStep, fireAll, stepsOn}
+use Rattle.matching.specs.Fit.{keptOf, KeptFit}
 use Rattle.search.specs.Dictionary.{NotAfter}
-use Rattle.fit.specs.Placing.{placeNext}
-use Rattle.fit.specs.Judge.{firstOf, firstFit}
+use Rattle.judging.specs.Placing.{placeNext}
+use Rattle.judging.specs.Judge.{firstOf, firstFit}
 use Rattle.search.proofs.Finds.{Allowed, search-sound, search-complete, search-least}
 use Rattle.claim.proofs.Entries.{entry-member, member-entry, each-all}
 use Rattle.claim.proofs.Count.{one, count-none, count-full}

@@ -13,8 +13,8 @@ use Rattle.route.specs.Steps.{blank}
 use Rattle.route.specs.declared.Step.{Step}
 use Rattle.slice.specs.Order.{times}
 use Rattle.search.specs.Search.{isSome}
-use Rattle.fit.specs.Straight.{allOf, sameStep, fireAll, stepsOn, runsStraight}
-use Rattle.fit.specs.Fit.{KeptFit, FitAt}
+use Rattle.matching.specs.Straight.{allOf, sameStep, fireAll, stepsOn, runsStraight}
+use Rattle.matching.specs.Fit.{KeptFit, FitAt}
 use Rattle.claim.proofs.Entries.{all-at, all-each}
 use Rattle.claim.proofs.Turn.{turn-below, whole-steps}
 

@@ -18,12 +18,12 @@ use Rattle.route.specs.declared.Step.{Step}
 use Rattle.job.specs.Job.{Job, jobLine, newStart}
 use Rattle.job.specs.Run.{ran}
 use Rattle.slice.specs.Order.{inTurn}
-use Rattle.fit.specs.Straight.{fireAll, stepsOn, runsStraight}
-use Rattle.fit.specs.Fit.{keptOf, FitAt}
+use Rattle.matching.specs.Straight.{fireAll, stepsOn, runsStraight}
+use Rattle.matching.specs.Fit.{keptOf, FitAt}
 use Rattle.search.specs.Dictionary.{NotAfter}
-use Rattle.fit.specs.KeptRows.{keptRows}
-use Rattle.fit.specs.Judge.{padded, judgeStopped, answer, firstFit, judgeFound, judgeRows, judged}
-use Rattle.fit.specs.declared.Judged.{Judged}
+use Rattle.matching.specs.KeptRows.{keptRows}
+use Rattle.judging.specs.Judge.{padded, judgeStopped, answer, firstFit, judgeFound, judgeRows, judged}
+use Rattle.judging.specs.declared.Judged.{Judged}
 use Rattle.claim.specs.Demand3.{Runs, stepsDone, positions, FitFor, ordered}
 use Rattle.claim.specs.Given.{Given}
 use Rattle.claim.proofs.Pass.{passes}

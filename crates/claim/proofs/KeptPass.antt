@@ -20,9 +20,9 @@ use Rattle.slice.specs.Slice.{variables}
 use Rattle.slice.specs.Order.{times, EachOnce}
 use Rattle.slice.proofs.Laws.{kept-below}
 use Rattle.search.specs.Search.{isSome}
-use Rattle.fit.specs.Straight.{sameData, sameStep, runsStraight}
-use Rattle.fit.specs.Fit.{keptOf, FitAt}
-use Rattle.fit.specs.KeptRows.{keptRow, keptLines, keptRows}
+use Rattle.matching.specs.Straight.{sameData, sameStep, runsStraight}
+use Rattle.matching.specs.Fit.{keptOf, FitAt}
+use Rattle.matching.specs.KeptRows.{keptRow, keptLines, keptRows}
 use Rattle.claim.proofs.Pass.{passes, row-holds, rows-hold, row-most, rows-most}
 use Rattle.claim.proofs.Entries.{once, each-entry, entry-member, member-entry}
 use Rattle.claim.proofs.Own.{own-once}

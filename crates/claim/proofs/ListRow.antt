@@ -12,7 +12,7 @@ use Rattle.mask.specs.Mask.{has, bit}
 use Rattle.mask.proofs.Truth.{both}
 use Rattle.route.specs.Rows.{pass, refuse}
 use Rattle.slice.specs.Order.{EachOnce}
-use Rattle.fit.specs.Try.{isKept, listRow}
+use Rattle.trying.specs.Try.{isKept, listRow}
 use Rattle.claim.specs.Demand3.{positions}
 use Rattle.claim.proofs.Fresh.{marks, fresh, marks-old, once-fresh, fresh-once}
 use Rattle.claim.proofs.Count.{has-new}

@@ -17,7 +17,7 @@ use Rattle.route.specs.declared.Step.{Step}
 use Rattle.slice.specs.Slice.{writesAt, LastWriter}
 use Rattle.slice.specs.Precedence.{row, comesAfter}
 use Rattle.slice.proofs.Laws.{row-exact}
-use Rattle.fit.specs.Judge.{lastWriter, afterOf}
+use Rattle.judging.specs.Judge.{lastWriter, afterOf}
 
 -- ---- the last writer
 

@@ -16,10 +16,10 @@ use Rattle.slice.specs.Precedence.{comesAfter, row}
 use Rattle.slice.specs.Order.{inTurn, EachOnce, inOrder}
 use Rattle.slice.proofs.Closure.{kept-sound, kept-complete}
 use Rattle.slice.proofs.Laws.{silent-not-kept, row-exact}
-use Rattle.fit.specs.Straight.{fireAll, stepsOn}
-use Rattle.fit.specs.KeptRows.{keptRows}
-use Rattle.fit.specs.Try.{tried}
-use Rattle.fit.specs.Judge.{judged}
+use Rattle.matching.specs.Straight.{fireAll, stepsOn}
+use Rattle.matching.specs.KeptRows.{keptRows}
+use Rattle.trying.specs.Try.{tried}
+use Rattle.judging.specs.Judge.{judged}
 use Rattle.claim.specs.Values.{Work, allBlank, performAll}
 use Rattle.claim.specs.Demand3.{Runs, stepsDone, positions, FitFor, ordered, Demand3}
 use Rattle.claim.specs.Given.{Given}

@@ -12,7 +12,7 @@ use Rattle.route.specs.Firing.{fire}
 use Rattle.route.specs.declared.Step.{Step}
 use Rattle.route.proofs.Toggle.{fire-toggles}
 use Rattle.slice.specs.Order.{times}
-use Rattle.fit.specs.Straight.{fireAll}
+use Rattle.matching.specs.Straight.{fireAll}
 use Rattle.claim.proofs.Entries.{once}
 use Rattle.claim.proofs.Put.{Put, here, there, put-times, take-out}
 use Rattle.claim.proofs.Fires.{fire-on}

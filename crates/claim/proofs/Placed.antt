@@ -19,9 +19,9 @@ use Rattle.route.specs.Firing.{canFire, fire}
 use Rattle.route.specs.declared.Step.{Step}
 use Rattle.slice.specs.Precedence.{comesAfter}
 use Rattle.slice.specs.Order.{times, noneOf, inOrder}
-use Rattle.fit.specs.Straight.{fireStep, fireAll, stepsOn}
+use Rattle.matching.specs.Straight.{fireStep, fireAll, stepsOn}
 use Rattle.search.specs.Search.{fireNext}
-use Rattle.fit.specs.Placing.{before, placeNext}
+use Rattle.judging.specs.Placing.{before, placeNext}
 use Rattle.search.proofs.Finds.{Allowed, done, then}
 use Rattle.claim.proofs.Entries.{once, each-entry, none-each, each-none, head-order}
 use Rattle.claim.proofs.Own.{not-after}

@@ -19,7 +19,7 @@ use Rattle.job.specs.Run.{stopped, runStep, runFrom, ran}
 use Rattle.job.specs.declared.Ran.{Ran}
 use Rattle.slice.specs.Slice.{performed}
 use Rattle.slice.specs.Order.{inTurn, times}
-use Rattle.fit.specs.Straight.{fireStep, fireAll}
+use Rattle.matching.specs.Straight.{fireStep, fireAll}
 use Rattle.claim.specs.Values.{Work, allBlank, replay, performAll}
 use Rattle.claim.specs.Demand3.{Runs, stepsDone, nameAt, wholeJob}
 use Rattle.claim.proofs.Pass.{passed, row-holds, rows-hold, both-hold}

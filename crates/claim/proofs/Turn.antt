@@ -11,7 +11,7 @@ use borrow.Author.Tests.{eqb-true}
 use Rattle.route.specs.Steps.{blank}
 use Rattle.route.specs.declared.Step.{Step}
 use Rattle.slice.specs.Order.{inTurn, times}
-use Rattle.fit.specs.Straight.{stepsOn}
+use Rattle.matching.specs.Straight.{stepsOn}
 
 pub turn-below : (k i v : ℕ) → 0 < times v (inTurn i k) → v < i + k
 unfolding times inTurn

@@ -14,9 +14,9 @@ use Rattle.job.specs.Job.{Job, oldStart, newStart}
 use Rattle.job.specs.Run.{ran}
 use Rattle.slice.specs.Slice.{performed, variables}
 use Rattle.slice.specs.Order.{inTurn, times}
-use Rattle.fit.specs.Fit.{Fit}
-use Rattle.fit.specs.Try.{tried}
-use Rattle.fit.specs.Judge.{judged}
+use Rattle.matching.specs.Fit.{Fit}
+use Rattle.trying.specs.Try.{tried}
+use Rattle.judging.specs.Judge.{judged}
 use Rattle.claim.specs.Values.{Work, End, replay}
 
 -- "In demand 3 such a job is one that no row to 9 refuses"

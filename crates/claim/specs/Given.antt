@@ -6,7 +6,7 @@ use Prim.Native.Nat.{ℕ, suc}
 use lib.ListN.{length}
 use Rattle.job.specs.Job.{Job, newStart}
 use Rattle.slice.specs.Order.{inTurn}
-use Rattle.fit.specs.Straight.{runsStraight}
+use Rattle.matching.specs.Straight.{runsStraight}
 use Rattle.search.specs.Dictionary.{NotAfter}
 use Rattle.claim.specs.Demand3.{stepsDone, FitFor}
 

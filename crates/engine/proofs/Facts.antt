@@ -6,8 +6,8 @@ use Prim.Native.Nat.{ℕ}
 use borrow.Author.Tests.{eq-eqb, ne-eqb}
 use Rattle.sheet.specs.Facts.{readOf, jobRead}
 use Rattle.sheet.specs.declared.Sheet.{Sheet}
-use Rattle.fit.specs.Try.{tried, tryStopped}
-use Rattle.fit.proofs.Choice.{cond-yes, cond-no}
+use Rattle.trying.specs.Try.{tried, tryStopped}
+use Rattle.matching.proofs.Choice.{cond-yes, cond-no}
 use Rattle.engine.specs.SheetTry.{triedFacts, triedSheet}
 
 module _ (s : Sheet) (order : List ℕ) where

@@ -5,8 +5,8 @@ use Prim.Native.Nat.{ℕ}
 use lib.Dec.{eqb}
 use Rattle.sheet.specs.Facts.{readOf, jobRead}
 use Rattle.sheet.specs.declared.Sheet.{Sheet}
-use Rattle.fit.specs.Try.{tried, tryStopped}
-use Rattle.fit.specs.declared.Tried.{Tried}
+use Rattle.trying.specs.Try.{tried, tryStopped}
+use Rattle.trying.specs.declared.Tried.{Tried}
 
 -- what try answers of a sheet's records; a sheet that doesn't read is refused as reading refuses it
 unfoldable pub triedFacts : Sheet → List ℕ → Tried

@@ -1,9 +1,9 @@
 // Try and print as C functions: an answer's number is returned, its other numbers are stored, on every path.
-use fit::Tried;
-use fit::trying::try_checked;
 use listing::print::print;
 use sheet::Sheet;
 use sheet::reads::read;
+use trying::Tried;
+use trying::trying::try_checked;
 ghost use mathlib.Core.Path.{_≡_};
 ghost use Prim.Native.Nat.{_≤_};
 ghost use lib.ListN.{length};

@@ -10,11 +10,11 @@ use Rattle.slice.specs.Order.{inTurn}
 use Rattle.slice.specs.Precedence.{clash, comesAfter, row}
 use Rattle.slice.specs.Slice.{performed, variables, sweepStep, sweep, keptMask}
 use Rattle.search.specs.Search.{isSome, orElse, onwards, tryEach, search, fireNext}
-use Rattle.fit.specs.Straight.{sameData, sameStep, allOf, fireStep, fireAll, stepsOn, runsStraight}
-use Rattle.fit.specs.Fit.{keptOf}
-use Rattle.fit.specs.KeptRows.{keptRow, keptLines, keptRows}
-use Rattle.fit.specs.Placing.{before, placeNext}
-use Rattle.fit.specs.Judge.{padded, lastWriter, afterOf, writerOf, answer, firstOf, firstFit, judgeFound, judgeRows, judged}
+use Rattle.matching.specs.Straight.{sameData, sameStep, allOf, fireStep, fireAll, stepsOn, runsStraight}
+use Rattle.matching.specs.Fit.{keptOf}
+use Rattle.matching.specs.KeptRows.{keptRow, keptLines, keptRows}
+use Rattle.judging.specs.Placing.{before, placeNext}
+use Rattle.judging.specs.Judge.{padded, lastWriter, afterOf, writerOf, answer, firstOf, firstFit, judgeFound, judgeRows, judged}
 use Rattle.layout.specs.Words.{spelling}
 use Rattle.layout.specs.Points.{digit, alive, expect, chosen, spelt, inList, pastWord, first as firstDigit, ended, more as moreDigits, closed, next}
 use Rattle.layout.specs.Parse.{stored, took, putStep, putLine, keep, atEnd, run, parse}

@@ -15,8 +15,8 @@ use Rattle.job.specs.Job.{Job, jobOf}
 use Rattle.job.specs.Lines.{lineRows, checked}
 use Rattle.job.specs.Run.{ran}
 use Rattle.slice.specs.Table.{sliced}
-use Rattle.fit.specs.Try.{tried}
-use Rattle.fit.specs.Judge.{judged, searched, workAfter}
+use Rattle.trying.specs.Try.{tried}
+use Rattle.judging.specs.Judge.{judged, searched, workAfter}
 use Rattle.writing.specs.Writes.{writeRow, wrote, outAfter}
 use Rattle.lent.specs.Lent.{lentJob}
 use Rattle.lent.proofs.Turned.{Refused, same-job}

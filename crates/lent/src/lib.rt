@@ -1,17 +1,17 @@
 // The operations over lent lists of step records: each loads both lists and calls the operation over routes by value.
-use fit::Judged;
-use fit::Tried;
 use job::Ran;
+use judging::Judged;
 use records::load;
 use route::Step;
 use slice::Sliced;
+use trying::Tried;
 use writing::Wrote;
 ghost use mathlib.Core.Path.{_≡_};
 ghost use lib.ListN.{length};
 ghost use Rattle.job.specs.Run.{ran};
 ghost use Rattle.slice.specs.Table.{sliced};
-ghost use Rattle.fit.specs.Try.{tried};
-ghost use Rattle.fit.specs.Judge.{judged, workAfter};
+ghost use Rattle.trying.specs.Try.{tried};
+ghost use Rattle.judging.specs.Judge.{judged, workAfter};
 ghost use Rattle.writing.specs.Writes.{wrote, outAfter};
 ghost use Rattle.lent.specs.Lent.{lentJob};
 
@@ -56,7 +56,7 @@ pub fn try_order(
 {
     let a = load(old_places, old);
     let b = load(new_places, new);
-    fit::trying::try_order(a, b, done, order)
+    trying::trying::try_order(a, b, done, order)
 }
 
 pub fn judge(
@@ -72,7 +72,7 @@ pub fn judge(
 {
     let a = load(old_places, old);
     let b = load(new_places, new);
-    fit::judging::judge(a, b, done, work)
+    judging::judging::judge(a, b, done, work)
 }
 
 pub fn write(

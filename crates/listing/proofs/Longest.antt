@@ -10,7 +10,7 @@ use lib.ListN.{length, getD, take, length-append, length-take}
 use Rattle.mask.specs.Mask.{has, membersFrom, members, count}
 use Rattle.mask.proofs.Truth.{split}
 use Rattle.slice.specs.Order.{inTurn}
-use Rattle.fit.specs.declared.Judged.{Judged}
+use Rattle.judging.specs.declared.Judged.{Judged}
 use Rattle.listing.specs.Listing.{over, entry, close, line, movedLine, afterWord, afterLine, afterLines, orderWord, orderLine, markingWord, markingLine, valueWord, valueLine, valueLines, refusedWord, refusedLine, movedText, listing}
 use Rattle.listing.proofs.Number.{entry-long, entry-small}
 

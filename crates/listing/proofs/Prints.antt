@@ -11,10 +11,10 @@ use borrow.Author.Tests.{leb-true, le-leb, lt-leb, eq-eqb, ne-eqb}
 use Rattle.sheet.specs.Facts.{readOf, jobRead}
 use Rattle.sheet.specs.declared.Sheet.{Sheet}
 use Rattle.job.specs.Job.{Job}
-use Rattle.fit.specs.Judge.{judged, judgeStopped, workAfter}
-use Rattle.fit.specs.declared.Judged.{Judged}
-use Rattle.fit.proofs.Choice.{cond-yes, cond-no}
-use Rattle.fit.proofs.Whole as W
+use Rattle.judging.specs.Judge.{judged, judgeStopped, workAfter}
+use Rattle.judging.specs.declared.Judged.{Judged}
+use Rattle.matching.proofs.Choice.{cond-yes, cond-no}
+use Rattle.judging.proofs.Whole as W
 use Rattle.listing.specs.Listing.{listing}
 use Rattle.listing.specs.Written.{writtenFor, outAfter}
 use Rattle.listing.specs.Print.{sheetAnswer, printed, outPrinted, workPrinted}

@@ -7,7 +7,7 @@ use native.Mathlib.Omega.{arith}
 use lib.Dec.{leb}
 use lib.ListN.{length}
 use borrow.Author.Tests.{eq-eqb, ne-eqb, leb-true, leb-false, le-leb, lt-leb}
-use Rattle.fit.specs.declared.Judged.{Judged}
+use Rattle.judging.specs.declared.Judged.{Judged}
 use Rattle.listing.specs.Listing.{movedLine, afterLines, orderLine, markingLine, valueLines, refusedLine, movedText, listing}
 use Rattle.listing.specs.Written.{writtenFor, outAfter}
 use Rattle.listing.specs.Emit.{Wrote}

@@ -6,7 +6,7 @@ use lib.Dec.{eqb, ltb}
 use lib.ListN.{getD, take}
 use Rattle.mask.specs.Mask.{members, count}
 use Rattle.slice.specs.Order.{inTurn}
-use Rattle.fit.specs.declared.Judged.{Judged}
+use Rattle.judging.specs.declared.Judged.{Judged}
 
 -- "Numbers are written in base ten": the last digit of n stands after those of its tenth, k digits at most
 unfoldable pub digits : ℕ → ℕ → List ℕ

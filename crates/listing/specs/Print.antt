@@ -5,8 +5,8 @@ use Prim.Native.Nat.{ℕ}
 use lib.Dec.{eqb, leb}
 use lib.ListN.{length}
 use Rattle.sheet.specs.Facts.{readOf, jobRead}
-use Rattle.fit.specs.Judge.{judged, judgeStopped, workAfter}
-use Rattle.fit.specs.declared.Judged.{Judged}
+use Rattle.judging.specs.Judge.{judged, judgeStopped, workAfter}
+use Rattle.judging.specs.declared.Judged.{Judged}
 use Rattle.listing.specs.Listing.{listing}
 use Rattle.listing.specs.Written.{writtenFor, outAfter}
 use Rattle.listing.specs.declared.Written.{Written}

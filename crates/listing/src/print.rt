@@ -1,9 +1,9 @@
 // The operation print: a sheet in, its listing out.
 use crate::Written;
 use crate::printing::write_listing;
-use fit::Judged;
-use fit::answering::stop;
-use fit::judging::judge_checked;
+use judging::Judged;
+use judging::answering::stop;
+use judging::judging::judge_checked;
 use sheet::Sheet;
 use sheet::reads::read;
 ghost use mathlib.Core.Path.{_≡_};
@@ -13,7 +13,7 @@ ghost use lib.Dec.{eqb};
 ghost use lib.ListN.{length};
 ghost use Rattle.job.specs.Lines.{LinesPass};
 ghost use Rattle.sheet.specs.Facts.{jobRead};
-ghost use Rattle.fit.specs.Judge.{judged, judgeStopped, workAfter};
+ghost use Rattle.judging.specs.Judge.{judged, judgeStopped, workAfter};
 ghost use Rattle.listing.specs.Print.{printed, outPrinted, workPrinted};
 
 // What judge answers of a sheet's facts, whose lines reading has checked; a refused sheet's number and place stand for it.

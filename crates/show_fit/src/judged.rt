@@ -1,5 +1,5 @@
 // An answer of judge: a line with its number and second number, and for a job that moves what the listing shows.
-use fit::Judged;
+use judging::Judged;
 
 fn number(word: &[u8], n: u64) {
     io::write_all(1, word);

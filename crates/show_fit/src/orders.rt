@@ -1,9 +1,9 @@
 // Orders that somebody hands in.
 use crate::try_order;
-use fit::Tried;
 use route::Route;
 use samples::chains;
 use samples::letters;
+use trying::Tried;
 
 fn say(label: &[u8], t: Tried) {
     io::write_all(1, label);

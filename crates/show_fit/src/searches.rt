@@ -70,21 +70,21 @@ pub fn show_work() {
     let new = samples::letters::a_new();
     let done = [10u32, 20, 30];
     let mut short = [7u8; 8191];
-    let a = fit::judging::judge(old, new, &done, &mut short);
+    let a = judging::judging::judge(old, new, &done, &mut short);
     say_work(b"8191 bytes", a.number, &short);
     let mut enough = [7u8; 8192];
-    let b = fit::judging::judge(old, new, &done, &mut enough);
+    let b = judging::judging::judge(old, new, &done, &mut enough);
     say_work(b"8192 bytes", b.number, &enough);
     let mut more = [7u8; 8200];
-    let c = fit::judging::judge(old, new, &done, &mut more);
+    let c = judging::judging::judge(old, new, &done, &mut more);
     say_work(b"8200 bytes", c.number, &more);
     let mut kept = [7u8; 8200];
-    let d = fit::judging::judge(old, old, &done, &mut kept);
+    let d = judging::judging::judge(old, old, &done, &mut kept);
     say_work(b"8200 bytes, straight", d.number, &kept);
     let mut refused = [7u8; 8200];
-    let e = fit::judging::judge(old, new, &[40], &mut refused);
+    let e = judging::judging::judge(old, new, &[40], &mut refused);
     say_work(b"8200 bytes, refused by 8", e.number, &refused);
     let mut none = [7u8; 8200];
-    let f = fit::judging::judge(old, new, &[10], &mut none);
+    let f = judging::judging::judge(old, new, &[10], &mut none);
     say_work(b"8200 bytes, no order", f.number, &none);
 }

@@ -2,12 +2,12 @@
 // one whose answer takes a search. A line shows both lengths and then, of each operation, its two numbers and: run, its marking; slice, its mask of
 // kept ones; try, its marking; judge, its order's length, its marking and the first byte of the work slice; write, how many bytes it wrote and the
 // first of them. Both slices hold 46 before. A line of reading shows how many steps a route of the sheet has and both lengths.
-use fit::Judged;
-use fit::Tried;
 use job::Ran;
+use judging::Judged;
 use lent::Counts;
 use route::Step;
 use slice::Sliced;
+use trying::Tried;
 use writing::Wrote;
 ghost use mathlib.Core.Path.{_≡_};
 ghost use Prim.Native.Nat.{_≤_};
@@ -15,8 +15,8 @@ ghost use mathlib.Core.List.{_++_};
 ghost use lib.ListN.{length, take, drop};
 ghost use Rattle.job.specs.Run.{ran};
 ghost use Rattle.slice.specs.Table.{sliced};
-ghost use Rattle.fit.specs.Try.{tried};
-ghost use Rattle.fit.specs.Judge.{judged, workAfter};
+ghost use Rattle.trying.specs.Try.{tried};
+ghost use Rattle.judging.specs.Judge.{judged, workAfter};
 ghost use Rattle.writing.specs.Writes.{wrote, outAfter};
 ghost use Rattle.records.specs.Loaded.{laid};
 ghost use Rattle.sheet.specs.Facts.{readOf};

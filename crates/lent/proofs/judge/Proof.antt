@@ -1,4 +1,4 @@
--- `judge` meets its contract: both lists are loaded and `fit::judging::judge` is called (Filled).
+-- `judge` meets its contract: both lists are loaded and `judging::judging::judge` is called (Filled).
 use mathlib.Core.Path.{_≡_, _∙_}
 use Prim.Native.Nat.{ℕ}
 use mathlib.Core.List.{List, [], _∷_}
@@ -17,12 +17,12 @@ use denote.Triple.Table.{entered, cited}
 use Rattle.route.specs.declared.Step.{Step}
 use Rattle.records.specs.Loaded.{loaded}
 use Rattle.job.specs.Job.{jobOf}
-use Rattle.fit.specs.Judge.{judged, workAfter}
-use Rattle.fit.specs.declared.Judged.{Judged}
-use Rattle.fit.proofs.Judged as R
-use Rattle.fit.proofs.Judged.Laws as R′
-use Rattle.fit.proofs.judging.judge.Symbol as core
-use Rattle.fit.proofs.judging.judge.Met as core-thm
+use Rattle.judging.specs.Judge.{judged, workAfter}
+use Rattle.judging.specs.declared.Judged.{Judged}
+use Rattle.judging.proofs.Judged as R
+use Rattle.judging.proofs.Judged.Laws as R′
+use Rattle.judging.proofs.judging.judge.Symbol as core
+use Rattle.judging.proofs.judging.judge.Met as core-thm
 use Rattle.records.proofs.load.Symbol as load
 use Rattle.records.proofs.load.Met as load-thm
 use Rattle.lent.specs.Lent.{lentJob}
@@ -34,7 +34,7 @@ use Rattle.lent.proofs.judge as judge
 use Rattle.lent.proofs.judge.Statement as stated
 use Rattle.lent.proofs.judge.Code as code
 
--- what `fit::judging::judge` says, and so what is asked
+-- what `judging::judging::judge` says, and so what is asked
 abbrev said : {M : Type 1} (𝓤 : URA M) → Says R.the-row 𝓤
 said 𝓤 a b d o r z = sep 𝓤 (fact 𝓤 (r ≡ judged (jobOf a b d) (length o))) (fact 𝓤 (z ≡ workAfter (jobOf a b d) o))
 

@@ -1,14 +1,14 @@
--- `try_order` meets its contract: both lists are loaded and `fit::trying::try_order` is called (Ordered).
+-- `try_order` meets its contract: both lists are loaded and `trying::trying::try_order` is called (Ordered).
 use contract.Running.{givenOf, tables, tablesOf}
 use denote.Struct.Laws as LL
 use denote.Triple.Spec.{tripleOf}
 use denote.Triple.Table.{entered, cited}
 use Rattle.job.specs.Job.{jobOf}
-use Rattle.fit.specs.Try.{tried}
-use Rattle.fit.proofs.Tried as R
-use Rattle.fit.proofs.Tried.Laws as R′
-use Rattle.fit.proofs.trying.try_order.Symbol as core
-use Rattle.fit.proofs.trying.try_order.Met as core-thm
+use Rattle.trying.specs.Try.{tried}
+use Rattle.trying.proofs.Tried as R
+use Rattle.trying.proofs.Tried.Laws as R′
+use Rattle.trying.proofs.trying.try_order.Symbol as core
+use Rattle.trying.proofs.trying.try_order.Met as core-thm
 use Rattle.records.proofs.load.Symbol as load
 use Rattle.records.proofs.load.Met as load-thm
 use Rattle.lent.specs.Lent.{lentJob}

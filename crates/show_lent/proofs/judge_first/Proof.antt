@@ -43,10 +43,10 @@ use denote.Triple.Walked.{says, needs, Stays, stay-dropped, gave-slice, goes-dro
 use Rattle.route.specs.declared.Step.{Step}
 use Rattle.route.proofs.Step as St
 use Rattle.route.proofs.Step.Laws as St′
-use Rattle.fit.specs.Judge.{judged, workAfter}
-use Rattle.fit.specs.declared.Judged.{Judged}
-use Rattle.fit.proofs.Judged as R
-use Rattle.fit.proofs.Judged.Laws as R′
+use Rattle.judging.specs.Judge.{judged, workAfter}
+use Rattle.judging.specs.declared.Judged.{Judged}
+use Rattle.judging.proofs.Judged as R
+use Rattle.judging.proofs.Judged.Laws as R′
 use Rattle.records.proofs.Record.{S, word, vals, tells}
 use Rattle.lent.specs.Lent.{lentJob}
 use Rattle.lent.proofs.judge as judge′

@@ -43,10 +43,10 @@ use denote.Triple.Walked.{says, needs, Stays, stay-dropped, goes-dropped, walkOf
 use Rattle.route.specs.declared.Step.{Step}
 use Rattle.route.proofs.Step as St
 use Rattle.route.proofs.Step.Laws as St′
-use Rattle.fit.specs.Try.{tried}
-use Rattle.fit.specs.declared.Tried.{Tried}
-use Rattle.fit.proofs.Tried as R
-use Rattle.fit.proofs.Tried.Laws as R′
+use Rattle.trying.specs.Try.{tried}
+use Rattle.trying.specs.declared.Tried.{Tried}
+use Rattle.trying.proofs.Tried as R
+use Rattle.trying.proofs.Tried.Laws as R′
 use Rattle.records.proofs.Record.{S, word, vals, tells}
 use Rattle.lent.specs.Lent.{lentJob}
 use Rattle.lent.proofs.try_order as try′

@@ -6,7 +6,7 @@ use Rattle.sheet.specs.Facts.{jobRead}
 use Rattle.sheet.specs.declared.Sheet.{Sheet}
 use Rattle.sheet.proofs.Dones.{Dones, read-dones}
 use Rattle.sheet.proofs.Records.{read-lines}
-use Rattle.fit.specs.declared.Tried.{Tried}
+use Rattle.trying.specs.declared.Tried.{Tried}
 use Rattle.engine.specs.SheetTry.{triedFacts, triedSheet}
 use Rattle.engine.proofs.Facts.{sheet-tried}
 use Rattle.engine.proofs.host.reroute_try.Statement.{statement}

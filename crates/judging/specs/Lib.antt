@@ -1,0 +1,4 @@
+-- The operation judge.
+pub mod Judge
+pub mod Placing
+pub mod Told

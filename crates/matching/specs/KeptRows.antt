@@ -1,0 +1,30 @@
+-- Rows 10, 11 and 12: the kept occurrences, if the job isn't straight, and then in turn.
+use mathlib.Core.Bool.{Bool, true, false, _||_}
+use mathlib.Core.List.{List, [], _∷_}
+use Prim.Native.Nat.{ℕ, _+_}
+use lib.Dec.{leb}
+use lib.ListN.{getD}
+use Rattle.mask.specs.Mask.{members, count}
+use Rattle.route.specs.Steps.{blank, lookup}
+use Rattle.route.specs.Rows.{unless, first}
+use Rattle.route.specs.declared.Step.{Step}
+use Rattle.route.specs.declared.Outcome.{Outcome}
+use Rattle.search.specs.Search.{isSome}
+use Rattle.matching.specs.Straight.{sameStep, runsStraight}
+use Rattle.matching.specs.Fit.{keptOf}
+
+-- 11: not in the new route; 12: reads or writes differ; at its done line
+unfoldable pub keptRow : List Step → ℕ → Step → Outcome
+keptRow new line s = first (unless (isSome (lookup (s .name) new)) 11 line ∷ unless (sameStep new s) 12 line ∷ [])
+
+-- the kept in turn; `line` is that of the first done line
+unfoldable pub keptLines : List Step → List Step → ℕ → List ℕ → List Outcome
+keptLines new l line [] = []
+keptLines new l line (i ∷ o) = keptRow new (line + i) (getD l i blank) ∷ keptLines new l line o
+
+-- 10 at the job line, then 11 and 12
+unfoldable pub keptRows : ℕ → ℕ → List Step → List Step → Outcome
+keptRows line from new l =
+    first
+    (unless (runsStraight from new l || leb (count 64 (keptOf new l)) 16) 10 line
+    ∷ keptLines new l (line + 1) (members 64 (keptOf new l)))
