@@ -1,17 +1,20 @@
 //! Jobs for scripts: small nets that loop and branch, jobs with kept at and
 //! over 16, done lists up to 64, routes at their limits, and twists that rows 6
-//! to 12 refuse.
+//! to 12 refuse or that leave nothing to keep.
 
 use super::dice::Dice;
 use super::{plan, run_at_random, spoil};
+use crate::fit;
+use crate::job::Job;
 use crate::net;
 use crate::sheet::{Route, Sheet, Step};
 
 /// A job: right by the rows to 5, nearly always.
 pub fn job(dice: &mut Dice) -> Sheet {
     let mut job = match dice.below(20) {
-        0..=7 => super::sheet(dice),
-        8..=9 => unchanged(super::sheet(dice)),
+        0..=3 => super::sheet(dice),
+        4..=8 => searched(dice),
+        9 => unchanged(super::sheet(dice)),
         10..=12 => tiny(dice),
         13..=14 => chain(dice),
         15..=16 => building(dice),
@@ -20,6 +23,22 @@ pub fn job(dice: &mut Dice) -> Sheet {
     };
     if dice.chance(25) {
         twist(&mut job, dice);
+    }
+    job
+}
+
+/// A job that gets as far as the search, with two or more kept, most often.
+fn searched(dice: &mut Dice) -> Sheet {
+    let gets_there = |sheet: &Sheet| {
+        let searches = |job: Job| fit::check_kept(&job).is_ok() && !fit::moves_straight(&job);
+        Job::of(sheet).is_ok_and(|job| job.kept.len() > 1 && searches(job))
+    };
+    let mut job = super::sheet(dice);
+    for _ in 0..12 {
+        if gets_there(&job) {
+            break;
+        }
+        job = super::sheet(dice);
     }
     job
 }
@@ -265,18 +284,29 @@ fn crowded(dice: &mut Dice) -> Sheet {
     Sheet { old, new, done }
 }
 
-/// A change that leads to one of the rows 6 to 12, most often.
+/// A change that most often leads to one of the rows 6 to 12.
 fn twist(job: &mut Sheet, dice: &mut Dice) {
     let at = dice.below(job.new.steps.len());
-    match dice.below(9) {
+    match dice.below(12) {
         0 => job.old.places = 64.min(job.old.places + 1),
         1 => job.new.places = 64.min(job.new.places + 1),
         2 => close(&mut job.old),
         3 => close(&mut job.new),
-        4..=5 => spoil(&mut job.done, dice),
-        6 => job.new.steps[at].name = plan::any_name(dice),
-        7 => job.new.steps[at].reads = perhaps(32, dice),
+        4..=6 => spoil(&mut job.done, dice),
+        7..=8 => job.new.steps[at].name = plan::any_name(dice),
+        9 => job.new.steps[at].reads = perhaps(32, dice),
+        10 => without_data(job, at),
         _ => job.new.steps[at].writes = perhaps(32, dice),
+    }
+}
+
+/// No step reads or writes, so nothing is kept; one of the new route has a
+/// name of its own.
+fn without_data(job: &mut Sheet, at: usize) {
+    job.new.steps[at].name = 40_000;
+    for step in job.old.steps.iter_mut().chain(&mut job.new.steps) {
+        step.reads.clear();
+        step.writes.clear();
     }
 }
 

@@ -17,6 +17,7 @@ pub fn order(facts: &Sheet, dice: &mut Dice) -> Vec<u8> {
         5..=6 => job.whole(),
         7..=8 => job.kept.iter().copied().collect(),
         9..=10 => shuffled(&job, dice),
+        11..=12 => too_early(&job, dice),
         _ => in_turn(&job, dice),
     };
     let mut bytes: Vec<u8> = list.iter().map(|&o| o as u8).collect();
@@ -56,6 +57,20 @@ fn in_turn(job: &Job, dice: &mut Dice) -> Vec<usize> {
         marking = next(one).unwrap_or(marking);
         left.retain(|&other| other != one);
         list.push(one);
+    }
+    list
+}
+
+/// The same, with one that comes after another put in its place.
+fn too_early(job: &Job, dice: &mut Dice) -> Vec<usize> {
+    let mut list = in_turn(job, dice);
+    let pairs: Vec<(usize, usize)> = (0..list.len())
+        .flat_map(|first| (first + 1..list.len()).map(move |later| (first, later)))
+        .filter(|&(first, later)| job.comes_after(list[later], list[first]))
+        .collect();
+    if !pairs.is_empty() {
+        let (first, later) = pairs[dice.below(pairs.len())];
+        list.swap(first, later);
     }
     list
 }

@@ -30,6 +30,14 @@ impl Records {
         }
     }
 
+    /// The route of all the records.
+    fn route(&self) -> Route {
+        Route {
+            places: self.places,
+            steps: self.list.iter().map(Record::step).collect(),
+        }
+    }
+
     fn text(&self, lent: bool) -> String {
         if lent {
             writing::lent(self.places, &self.list)
@@ -53,6 +61,15 @@ impl Facts {
     pub fn text(&self, lent: bool) -> String {
         let done = writing::names(&self.done);
         [self.old.text(lent), self.new.text(lent), done].join(" ")
+    }
+
+    /// The facts of a sheet, in range or not.
+    pub fn sheet(&self) -> Sheet {
+        Sheet {
+            old: self.old.route(),
+            new: self.new.route(),
+            done: self.done.clone(),
+        }
     }
 
     /// Makes one thing wrong, or puts it at its limit.

@@ -9,8 +9,11 @@ use crate::record::Record;
 use crate::script::writing::{self, bytes, fill};
 use crate::sheet::{self, Sheet};
 
-/// No script is longer.
+/// Each script is shorter.
 pub const MOST_BYTES: usize = 60_000;
+
+/// What a script's ending may add to its operations.
+const ENDING: usize = 2_000;
 
 /// Each operation, and how often it is drawn.
 const OPERATIONS: [(u64, usize); 16] = [
@@ -38,7 +41,7 @@ pub fn script(dice: &mut Dice) -> String {
     let mut text = String::new();
     for _ in 0..dice.from_to(8, 16) {
         let line = operation(dice);
-        if text.len() + line.len() <= MOST_BYTES {
+        if text.len() + line.len() + ENDING < MOST_BYTES {
             text += &line;
         }
     }
@@ -103,15 +106,11 @@ fn fire(dice: &mut Dice) -> Vec<String> {
 /// The arguments of an operation on records, by value or lent.
 fn of_records(number: u64, dice: &mut Dice) -> Vec<String> {
     let job = jobs::job(dice);
-    let mut facts = Facts::of(&job);
-    let wrong = if dice.chance(28) {
-        dice.from_to(1, 3)
+    let facts = if dice.chance(28) {
+        spoiled(&job, dice)
     } else {
-        0
+        Facts::of(&job)
     };
-    for _ in 0..wrong {
-        facts.spoil(dice);
-    }
     let mut arguments = vec![facts.text(number > 10)];
     match number {
         4 | 14 => arguments.push(bytes(&orders::order(&job, dice))),
@@ -122,12 +121,23 @@ fn of_records(number: u64, dice: &mut Dice) -> Vec<String> {
     arguments
 }
 
+/// The job's facts with one to three things wrong, or at their limits.
+fn spoiled(job: &Sheet, dice: &mut Dice) -> Facts {
+    let mut facts = Facts::of(job);
+    for _ in 0..dice.from_to(1, 3) {
+        facts.spoil(dice);
+    }
+    facts
+}
+
 /// The arguments of an operation on a sheet.
 fn of_sheet(number: u64, dice: &mut Dice) -> Vec<String> {
     let job = jobs::job(dice);
     let mut text = sheet::text(&job).into_bytes();
-    if dice.chance(28) {
-        text = damage::damage(&text, dice);
+    match dice.below(100) {
+        0..=14 => text = damage::damage(&text, dice),
+        15..=29 => text = sheet::text(&spoiled(&job, dice).sheet()).into_bytes(),
+        _ => {}
     }
     let mut arguments = vec![bytes(&text)];
     match number {
@@ -145,7 +155,7 @@ fn of_sheet(number: u64, dice: &mut Dice) -> Vec<String> {
 /// A work slice, seldom too short.
 fn work(dice: &mut Dice) -> String {
     let lengths = [0, 1, WORK - 1, WORK - 1, WORK + 1, 20_000];
-    let length = if dice.chance(75) {
+    let length = if dice.chance(85) {
         WORK
     } else {
         lengths[dice.below(lengths.len())]
