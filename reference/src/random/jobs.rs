@@ -12,8 +12,9 @@ use crate::sheet::{Route, Sheet, Step};
 /// A job: right by the rows to 5, nearly always.
 pub fn job(dice: &mut Dice) -> Sheet {
     let mut job = match dice.below(20) {
-        0..=3 => super::sheet(dice),
-        4..=8 => searched(dice),
+        0..=2 => super::sheet(dice),
+        3..=6 => searched(dice),
+        7..=8 => tangled(dice),
         9 => unchanged(super::sheet(dice)),
         10..=12 => tiny(dice),
         13..=14 => chain(dice),
@@ -249,6 +250,55 @@ fn waits(step: &mut Step, place: u32) {
     }
 }
 
+/// Steps side by side, all done in any order; in the new route they hand tokens
+/// on over shared places, so that some orders fire and others get stuck.
+fn tangled(dice: &mut Dice) -> Sheet {
+    let count = [3, 4, 5, 6, 7, 8, 12, 16][dice.below(8)];
+    let step = |at: u32| Step {
+        name: at + 1,
+        ins: vec![at],
+        outs: vec![count + at],
+        reads: if dice.chance(15) {
+            some(count as usize, dice)
+        } else {
+            vec![]
+        },
+        writes: vec![at],
+    };
+    let old = Route {
+        places: 2 * count,
+        steps: (0..count).map(step).collect(),
+    };
+    let mut new = old.clone();
+    let mut order: Vec<usize> = (0..count as usize).collect();
+    dice.shuffle(&mut order);
+    share(&mut new, &order, dice);
+    let done = run_at_random(&old, count as usize, dice);
+    Sheet { old, new, done }
+}
+
+/// Lets the steps take and fill shared places, so that they fire in this order.
+fn share(route: &mut Route, order: &[usize], dice: &mut Dice) {
+    let (mut full, mut empty): (Vec<u32>, Vec<u32>) = (vec![], vec![]);
+    for &at in order {
+        let step = &mut route.steps[at];
+        if !full.is_empty() && dice.chance(65) {
+            let place = full.swap_remove(dice.below(full.len()));
+            step.ins.push(place);
+            empty.push(place);
+        }
+        if dice.chance(65) {
+            if empty.is_empty() || dice.chance(35) {
+                empty.push(route.places);
+                route.places += 1;
+            }
+            let place = empty.swap_remove(dice.below(empty.len()));
+            step.outs.push(place);
+            full.push(place);
+        }
+    }
+}
+
 /// Eight variables, rising.
 fn eight(dice: &mut Dice) -> Vec<u32> {
     let mut all: Vec<u32> = (0..32).collect();
@@ -287,15 +337,15 @@ fn crowded(dice: &mut Dice) -> Sheet {
 /// A change that most often leads to one of the rows 6 to 12.
 fn twist(job: &mut Sheet, dice: &mut Dice) {
     let at = dice.below(job.new.steps.len());
-    match dice.below(12) {
+    match dice.below(14) {
         0 => job.old.places = 64.min(job.old.places + 1),
         1 => job.new.places = 64.min(job.new.places + 1),
         2 => close(&mut job.old),
         3 => close(&mut job.new),
-        4..=6 => spoil(&mut job.done, dice),
-        7..=8 => job.new.steps[at].name = plan::any_name(dice),
-        9 => job.new.steps[at].reads = perhaps(32, dice),
-        10 => without_data(job, at),
+        4..=8 => spoil(&mut job.done, dice),
+        9..=10 => job.new.steps[at].name = plan::any_name(dice),
+        11 => job.new.steps[at].reads = perhaps(32, dice),
+        12 => without_data(job, at),
         _ => job.new.steps[at].writes = perhaps(32, dice),
     }
 }

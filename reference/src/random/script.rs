@@ -18,16 +18,16 @@ const ENDING: usize = 2_000;
 /// Each operation, and how often it is drawn.
 const OPERATIONS: [(u64, usize); 16] = [
     (1, 5),
-    (2, 4),
+    (2, 5),
     (3, 6),
     (4, 12),
     (5, 12),
-    (6, 4),
+    (6, 6),
     (7, 3),
     (8, 5),
     (9, 10),
     (10, 8),
-    (12, 4),
+    (12, 5),
     (13, 5),
     (14, 9),
     (15, 9),
@@ -202,7 +202,7 @@ fn cut(text: &str, dice: &mut Dice) -> String {
 fn strange(text: &str, dice: &mut Dice) -> String {
     let mut words: Vec<&str> = text.split_whitespace().collect();
     let at = dice.below(words.len() + 1);
-    let strange = ["x", "-1", "+1", "1.0", "\t", "1,", "18446744073709551616"];
+    let strange = ["x", "-1", "+1", "\t", ";", "18446744073709551616"];
     words.insert(at, strange[dice.below(strange.len())]);
     words.join(" ")
 }
@@ -236,5 +236,5 @@ fn past_a_limit(text: &str, dice: &mut Dice) -> String {
 
 /// The same with more spaces and LFs between, and none at the end.
 fn spaced(text: &str) -> String {
-    format!("\n {}", text.trim_end().replace('\n', " \n\n  "))
+    text.trim_end().replace('\n', " \n\n  ")
 }

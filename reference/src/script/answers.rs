@@ -69,7 +69,7 @@ pub fn run(facts: &Sheet) -> Vec<u64> {
 
 pub fn slice(facts: &Sheet) -> Vec<u64> {
     let numbers = |slice: slice::Slice| {
-        let rows: Vec<u64> = slice.table.iter().map(|row| bits(row)).collect();
+        let rows: Vec<u64> = slice.table.iter().map(bits).collect();
         [vec![bits(&slice.kept)], padded(rows, ROWS)].concat()
     };
     line(slice::slice(facts).map(numbers), 1 + ROWS)
