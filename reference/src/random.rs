@@ -1,16 +1,23 @@
 //! Random sheets: an old route drawn from a tree of blocks, a done list got by
 //! really running it, and a new route that is the old one redrawn in small ways.
+//! Random scripts: operations on such jobs, on jobs at the limits, and on wrong
+//! records, sheets and orders.
 
 pub mod block;
 pub mod damage;
 pub mod dice;
+pub mod jobs;
+pub mod orders;
 pub mod plan;
+pub mod records;
 pub mod redraw;
+pub mod script;
 
 use crate::net;
 use crate::sheet::{self, Route, Sheet};
 use dice::Dice;
 use plan::Plan;
+pub use script::script;
 
 /// The facts of a random sheet. Most of them reach judge.
 pub fn sheet(dice: &mut Dice) -> Sheet {
@@ -77,7 +84,7 @@ pub fn run_at_random(route: &Route, length: usize, dice: &mut Dice) -> Vec<u32> 
 
 /// Makes a done list that the old route may not run: a strange name, two
 /// entries swapped, or one left out.
-fn spoil(done: &mut Vec<u32>, dice: &mut Dice) {
+pub fn spoil(done: &mut Vec<u32>, dice: &mut Dice) {
     if done.is_empty() {
         return;
     }

@@ -1,0 +1,212 @@
+//! Records of a job, right ones and ones that are wrong at every limit.
+
+use super::dice::Dice;
+use crate::record::Record;
+use crate::script::writing;
+use crate::sheet::{Route, Sheet};
+
+/// A route as records: by value it has `len`, as a lent list it has all of them.
+#[derive(Clone, Debug)]
+pub struct Records {
+    pub places: u32,
+    pub len: u64,
+    pub list: Vec<Record>,
+}
+
+/// The records of both routes, and the done list.
+#[derive(Clone, Debug)]
+pub struct Facts {
+    pub old: Records,
+    pub new: Records,
+    pub done: Vec<u32>,
+}
+
+impl Records {
+    pub fn of(route: &Route) -> Records {
+        Records {
+            places: route.places,
+            len: route.steps.len() as u64,
+            list: route.steps.iter().map(Record::of).collect(),
+        }
+    }
+
+    /// The route of all the records.
+    fn route(&self) -> Route {
+        Route {
+            places: self.places,
+            steps: self.list.iter().map(Record::step).collect(),
+        }
+    }
+
+    fn text(&self, lent: bool) -> String {
+        if lent {
+            writing::lent(self.places, &self.list)
+        } else {
+            let held = self.list.len().min(64);
+            writing::by_value(self.places, self.len, &self.list[..held])
+        }
+    }
+}
+
+impl Facts {
+    pub fn of(job: &Sheet) -> Facts {
+        Facts {
+            old: Records::of(&job.old),
+            new: Records::of(&job.new),
+            done: job.done.clone(),
+        }
+    }
+
+    /// The three arguments of an operation.
+    pub fn text(&self, lent: bool) -> String {
+        let done = writing::names(&self.done);
+        [self.old.text(lent), self.new.text(lent), done].join(" ")
+    }
+
+    /// The facts of a sheet, in range or not.
+    pub fn sheet(&self) -> Sheet {
+        Sheet {
+            old: self.old.route(),
+            new: self.new.route(),
+            done: self.done.clone(),
+        }
+    }
+
+    /// Makes one thing wrong, or puts it at its limit.
+    pub fn spoil(&mut self, dice: &mut Dice) {
+        match dice.below(9) {
+            0..=3 => spoil_route(&mut self.old, dice),
+            4..=7 => spoil_route(&mut self.new, dice),
+            _ => spoil_done(&mut self.done, dice),
+        }
+    }
+}
+
+fn any<T: Copy>(of: &[T], dice: &mut Dice) -> T {
+    of[dice.below(of.len())]
+}
+
+fn spoil_route(route: &mut Records, dice: &mut Dice) {
+    match dice.below(14) {
+        0..=1 => route.places = some_places(route.places, dice),
+        2..=3 => lengthen(route, dice),
+        4 => {
+            route.list.clear();
+            route.len = 0;
+        }
+        5..=6 => route.len = some_len(route.list.len() as u64, dice),
+        7 => add_past_len(route, dice),
+        _ => spoil_record(route, dice),
+    }
+}
+
+/// A place count at or past its limits, or one off.
+fn some_places(places: u32, dice: &mut Dice) -> u32 {
+    let less = places.saturating_sub(1);
+    let more = places.saturating_add(1);
+    let counts = [0, 1, 63, 64, 65, 66, 128, u32::MAX, less, more, less];
+    any(&counts, dice)
+}
+
+/// Copies of the last record under fresh names, up to 64, 65 or more.
+fn lengthen(route: &mut Records, dice: &mut Dice) {
+    let Some(&last) = route.list.last() else {
+        return;
+    };
+    let length = any(&[63, 64, 64, 65, 65, 66, 100], dice);
+    let mut name = 65_535;
+    while route.list.len() < length {
+        while route.list.iter().any(|record| record.name == name) {
+            name -= 1;
+        }
+        route.list.push(Record { name, ..last });
+    }
+    route.list.truncate(100);
+    route.len = route.list.len() as u64;
+    if dice.chance(25) {
+        spoil_record(route, dice);
+    }
+}
+
+/// A `len` that isn't the number of records given.
+fn some_len(records: u64, dice: &mut Dice) -> u64 {
+    let more = records + (1 << 32);
+    let less = records.saturating_sub(1);
+    let lens = [0, 1, less, records + 1, 64, 65, 66, 256, more, u64::MAX];
+    any(&lens, dice)
+}
+
+/// Records that stand past `len` and don't count in a route by value.
+fn add_past_len(route: &mut Records, dice: &mut Dice) {
+    for _ in 0..dice.from_to(1, 3) {
+        if route.list.is_empty() || route.list.len() == 100 {
+            return;
+        }
+        let mut record = any(&route.list, dice);
+        record.name = any(&[record.name, 0, 7, 65_536], dice);
+        route.list.push(record);
+    }
+}
+
+fn spoil_record(route: &mut Records, dice: &mut Dice) {
+    if route.list.is_empty() {
+        return;
+    }
+    let at = dice.below(route.list.len());
+    let other = any(&route.list, dice);
+    let record = &mut route.list[at];
+    match dice.below(12) {
+        0..=1 => record.name = any(&[0, 1, 65_535, 65_536, 65_537, u32::MAX], dice),
+        2..=3 => record.name = other.name,
+        4..=5 => record.ins = some_mask(record.ins, route.places, dice),
+        6..=7 => record.outs = some_mask(record.outs, route.places, dice),
+        8 => record.reads = some_variables(record.reads, dice),
+        9 => record.writes = some_variables(record.writes, dice),
+        10 => *record = Record::default(),
+        _ => {
+            record.name = other.name;
+            record.outs = 0;
+        }
+    }
+}
+
+/// A mask of places: empty, of 8 or 9, or with places not below N.
+fn some_mask(mask: u64, places: u32, dice: &mut Dice) -> u64 {
+    let at_places = 1_u64.checked_shl(places).unwrap_or(0);
+    let below = at_places.wrapping_sub(1);
+    let high = below >> 8 << 8;
+    let masks = [
+        0,
+        mask | at_places,
+        at_places,
+        mask | 1 << 63,
+        0xff,
+        0x1ff,
+        high,
+        below,
+        u64::MAX,
+        1 << 32,
+        mask | 1,
+    ];
+    any(&masks, dice)
+}
+
+/// A mask of variables: any, of 8 or 9.
+fn some_variables(mask: u32, dice: &mut Dice) -> u32 {
+    let masks = [0, 0xff, 0x1ff, 0xff00_0000, 0xff80_0000, u32::MAX];
+    any(&[&masks[..], &[mask | 1 << 31, mask ^ 1]].concat(), dice)
+}
+
+/// A name at or past its limits, or 63 and more done.
+fn spoil_done(done: &mut Vec<u32>, dice: &mut Dice) {
+    let name = any(&[0, 1, 65_535, 65_536, u32::MAX], dice);
+    if done.is_empty() || dice.chance(50) {
+        let length = any(&[63, 64, 65, 66, 100], dice);
+        let name = done.last().copied().unwrap_or(name);
+        done.resize(length, name);
+    }
+    if dice.chance(60) {
+        let at = dice.below(done.len());
+        done[at] = name;
+    }
+}

@@ -1,0 +1,73 @@
+//! Scripts: operations with their arguments, as numbers, and what each answers.
+
+pub mod answers;
+pub mod arguments;
+pub mod numbers;
+pub mod writing;
+
+use crate::sheet::Sheet;
+use arguments::{bytes, fill, names, record, route};
+use numbers::Numbers;
+
+/// The text that the program must print for this script: a line for each
+/// operation, up to the first one that isn't whole.
+pub fn answer(script: &str) -> String {
+    let mut text = String::new();
+    for (_, numbers) in answers(script) {
+        let words: Vec<String> = numbers.iter().map(u64::to_string).collect();
+        text += &words.join(" ");
+        text.push('\n');
+    }
+    text
+}
+
+/// Each operation's number, and the numbers of its answer.
+pub fn answers(script: &str) -> Vec<(u64, Vec<u64>)> {
+    let mut numbers = Numbers::of(script);
+    let next = || {
+        let operation = numbers.any()?;
+        Some((operation, one(operation, &mut numbers)?))
+    };
+    std::iter::from_fn(next).collect()
+}
+
+/// The answer of one operation; none where its arguments aren't whole.
+fn one(operation: u64, script: &mut Numbers) -> Option<Vec<u64>> {
+    match operation {
+        1 => Some(answers::fire(script.any()?, &record(script)?)),
+        2 | 12 => Some(answers::run(&facts(operation, script)?)),
+        3 | 13 => Some(answers::slice(&facts(operation, script)?)),
+        4 | 14 => Some(answers::try_order(
+            &facts(operation, script)?,
+            &bytes(script)?,
+        )),
+        5 | 15 => Some(answers::judge(&facts(operation, script)?, fill(script)?)),
+        6 => Some(answers::read(&bytes(script)?)),
+        7 => Some(answers::job_part(&bytes(script)?)),
+        8 | 18 => Some(answers::write(&facts(operation, script)?, fill(script)?)),
+        9 => Some(answers::print(
+            &bytes(script)?,
+            fill(script)?,
+            fill(script)?,
+        )),
+        10 => Some(answers::try_sheet(&bytes(script)?, &bytes(script)?)),
+        16 => Some(answers::read_into(&bytes(script)?, lengths(script)?)),
+        _ => None,
+    }
+}
+
+/// Both routes and the done list; those of operations 12 and on are lent lists.
+fn facts(operation: u64, script: &mut Numbers) -> Option<Sheet> {
+    let lent = operation > 10;
+    Some(Sheet {
+        old: route(script, lent)?,
+        new: route(script, lent)?,
+        done: names(script)?,
+    })
+}
+
+/// The lengths of the lent lists for old, new and done.
+fn lengths(script: &mut Numbers) -> Option<[usize; 3]> {
+    let mut length = || script.most(arguments::MOST_LENT).map(|n| n as usize);
+    Some([length()?, length()?, length()?])
+}

@@ -1,0 +1,80 @@
+//! The arguments of operations: records, routes, names, bytes.
+
+use super::numbers::Numbers;
+use crate::lines::MOST_STEPS;
+use crate::record::Record;
+use crate::sheet::Route;
+
+/// The most records that a route by value holds.
+pub const MOST_BY_VALUE: u64 = MOST_STEPS as u64;
+/// The most records or names in a lent list.
+pub const MOST_LENT: u64 = 100;
+/// The most bytes in a lent slice.
+pub const MOST_SLICE: u64 = 20_000;
+
+/// A number below 2^32.
+fn word(script: &mut Numbers) -> Option<u32> {
+    script.any()?.try_into().ok()
+}
+
+/// A number below 256.
+fn byte(script: &mut Numbers) -> Option<u8> {
+    script.any()?.try_into().ok()
+}
+
+/// A count, at most so much, and so many entries.
+fn counted<T>(
+    script: &mut Numbers,
+    most: u64,
+    one: fn(&mut Numbers) -> Option<T>,
+) -> Option<Vec<T>> {
+    let count = script.most(most)?;
+    (0..count).map(|_| one(script)).collect()
+}
+
+/// STEP: a step record.
+pub fn record(script: &mut Numbers) -> Option<Record> {
+    Some(Record {
+        name: word(script)?,
+        ins: script.any()?,
+        outs: script.any()?,
+        reads: word(script)?,
+        writes: word(script)?,
+    })
+}
+
+/// LIST or ROUTE: a lent list of records, or a route by value.
+pub fn route(script: &mut Numbers, lent: bool) -> Option<Route> {
+    let places = word(script)?;
+    let records = if lent {
+        counted(script, MOST_LENT, record)?
+    } else {
+        let len = script.any()?;
+        by_value(len, counted(script, MOST_BY_VALUE, record)?)
+    };
+    let steps = records.iter().map(Record::step).collect();
+    Some(Route { places, steps })
+}
+
+/// The list that a route by value stands for: its first `len` records, those
+/// past the ones given blank. At the 65th it is refused, so no more are taken.
+fn by_value(len: u64, mut records: Vec<Record>) -> Vec<Record> {
+    records.resize(len.min(MOST_BY_VALUE + 1) as usize, Record::default());
+    records
+}
+
+/// NAMES: a lent list of done names.
+pub fn names(script: &mut Numbers) -> Option<Vec<u32>> {
+    counted(script, MOST_LENT, word)
+}
+
+/// BYTES: a lent slice of bytes.
+pub fn bytes(script: &mut Numbers) -> Option<Vec<u8>> {
+    counted(script, MOST_SLICE, byte)
+}
+
+/// FILL: a lent slice of bytes, all the same.
+pub fn fill(script: &mut Numbers) -> Option<Vec<u8>> {
+    let length = script.most(MOST_SLICE)?;
+    Some(vec![byte(script)?; length as usize])
+}

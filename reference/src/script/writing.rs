@@ -1,0 +1,53 @@
+//! Writing a script's operations and their arguments.
+
+use crate::record::Record;
+
+/// Numbers with one space between.
+fn words<T: ToString>(numbers: impl IntoIterator<Item = T>) -> String {
+    let words: Vec<String> = numbers.into_iter().map(|n| n.to_string()).collect();
+    words.join(" ")
+}
+
+/// A count, and the numbers after it.
+fn counted<T: ToString>(count: usize, numbers: impl IntoIterator<Item = T>) -> String {
+    format!("{count} {}", words(numbers)).trim_end().to_string()
+}
+
+/// An operation: its number and its arguments, as a line.
+pub fn operation(number: u64, arguments: &[String]) -> String {
+    format!("{number} {}\n", arguments.join(" "))
+}
+
+/// STEP.
+pub fn record(record: &Record) -> String {
+    words(record.numbers())
+}
+
+/// ROUTE: a route by value, with any `len`.
+pub fn by_value(places: u32, len: u64, records: &[Record]) -> String {
+    format!("{places} {len} {}", counted_records(records))
+}
+
+/// LIST: a lent list.
+pub fn lent(places: u32, records: &[Record]) -> String {
+    format!("{places} {}", counted_records(records))
+}
+
+fn counted_records(records: &[Record]) -> String {
+    counted(records.len(), records.iter().flat_map(Record::numbers))
+}
+
+/// NAMES.
+pub fn names(names: &[u32]) -> String {
+    counted(names.len(), names)
+}
+
+/// BYTES.
+pub fn bytes(bytes: &[u8]) -> String {
+    counted(bytes.len(), bytes)
+}
+
+/// FILL: so many bytes, all the same.
+pub fn fill(length: usize, byte: u8) -> String {
+    format!("{length} {byte}")
+}
