@@ -52,4 +52,4 @@ judge-spec 𝓤 H 𝓜 𝓖 𝓡 =
     (filled-meets R.the-row 𝓤 H (𝓖 .A) (givenOf 𝓤 H 𝓜 𝓖) (𝓜 .mem) (𝓡 .run) R′.mir (λ r v is. LL.lawful R.the-type R′.the-laws 𝓤 H (𝓖 .A) (givenOf 𝓤 H 𝓜 𝓖) .typed r _ is .0)
     (said 𝓤) (λ p l q m d o. judged (lentJob p l q m d) (length o)) (λ p l q m d o. workAfter (lentJob p l q m d) o) (hears 𝓤 H (𝓖 .A) (givenOf 𝓤 H 𝓜 𝓖)) core.name (tablesOf 𝓤 H 𝓜 (tables 𝓤 H 𝓜 𝓡 code.env))
     (cited 𝓤 H (Load 𝓤 H (𝓖 .A) (𝓜 .mem) (𝓡 .run)) 𝓜 𝓡 code.env load.name load.routine code.calls-records·load (load-thm.met 𝓤 H 𝓜 𝓖 𝓡))
-    (cited 𝓤 H (Known R.the-row 𝓤 H (𝓖 .A) (said 𝓤)) 𝓜 𝓡 code.env core.name core.routine code.calls-fit·judging·judge (core-thm.met 𝓤 H 𝓜 𝓖 𝓡)))
+    (cited 𝓤 H (Known R.the-row 𝓤 H (𝓖 .A) (said 𝓤)) 𝓜 𝓡 code.env core.name core.routine code.calls-judging·judging·judge (core-thm.met 𝓤 H 𝓜 𝓖 𝓡)))

@@ -28,4 +28,4 @@ try-order-spec 𝓤 H 𝓜 𝓖 𝓡 =
     (ordered-meets R.the-row 𝓤 H (𝓖 .A) (givenOf 𝓤 H 𝓜 𝓖) (𝓜 .mem) (𝓡 .run) R′.mir (λ r v is. LL.lawful R.the-type R′.the-laws 𝓤 H (𝓖 .A) (givenOf 𝓤 H 𝓜 𝓖) .typed r _ is .0)
     (λ a b d o. tried (jobOf a b d) o) (λ p l q m d o. tried (lentJob p l q m d) o) tried-same core.name (tablesOf 𝓤 H 𝓜 (tables 𝓤 H 𝓜 𝓡 code.env))
     (cited 𝓤 H (Load 𝓤 H (𝓖 .A) (𝓜 .mem) (𝓡 .run)) 𝓜 𝓡 code.env load.name load.routine code.calls-records·load (load-thm.met 𝓤 H 𝓜 𝓖 𝓡))
-    (cited 𝓤 H (Known R.the-row 𝓤 H (𝓖 .A) (λ a b d o. tried (jobOf a b d) o)) 𝓜 𝓡 code.env core.name core.routine code.calls-fit·trying·try-order (core-thm.met 𝓤 H 𝓜 𝓖 𝓡)))
+    (cited 𝓤 H (Known R.the-row 𝓤 H (𝓖 .A) (λ a b d o. tried (jobOf a b d) o)) 𝓜 𝓡 code.env core.name core.routine code.calls-trying·trying·try-order (core-thm.met 𝓤 H 𝓜 𝓖 𝓡)))
