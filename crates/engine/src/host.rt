@@ -1,33 +1,10 @@
 // Try and print as C functions: an answer's number is returned, its other numbers are stored, on every path.
-use listing::print::print;
-use sheet::Sheet;
-use sheet::reads::read;
-use trying::Tried;
-use trying::trying::try_checked;
+use ops::print::print;
+use ops::tries::try_sheet;
 ghost use mathlib.Core.Path.{_≡_};
-ghost use Prim.Native.Nat.{_≤_};
 ghost use lib.ListN.{length};
-ghost use Rattle.job.specs.Lines.{LinesPass};
-ghost use Rattle.sheet.specs.Facts.{jobRead};
-ghost use Rattle.listing.specs.Print.{printed, outPrinted, workPrinted};
-ghost use Rattle.engine.specs.SheetTry.{triedFacts, triedSheet};
-
-// An order tried on a sheet's facts, whose lines reading has checked; a refused sheet's number and place stand for it.
-fn try_facts(s: Sheet, order: &[u8]) -> Tried
-    requires { ⌜ (s .«done_len» ≤ 64) × (length (s .done) ≡ 64) ⌝ }
-    requires { ⌜ (s .number ≡ 0 → LinesPass (jobRead s)) ⌝ }
-    ensures { λ r. ⌜ r ≡ triedFacts s (now (order .entry)) ⌝ }
-{
-    if s.number != 0 {
-        return Tried {
-            number: s.number,
-            second: s.second,
-            marking: 0,
-        };
-    }
-    let done = s.done;
-    try_checked(s.old, s.new, &done[..s.done_len], order)
-}
+ghost use Rattle.ops.specs.Print.{printed, outPrinted, workPrinted};
+ghost use Rattle.ops.specs.SheetTry.{triedSheet};
 
 #[no_mangle]
 pub extern "C" fn reroute_try(
@@ -40,8 +17,7 @@ pub extern "C" fn reroute_try(
     ensures { λ _. ⌜ now (second .exit) ≡ triedSheet (now (sheet .entry)) (now (order .entry)) .second ⌝ }
     ensures { λ _. ⌜ now (marking .exit) ≡ triedSheet (now (sheet .entry)) (now (order .entry)) .marking ⌝ }
 {
-    let s = read(sheet);
-    let t = try_facts(s, order);
+    let t = try_sheet(sheet, order);
     *second = t.second;
     *marking = t.marking;
     t.number

@@ -3,7 +3,8 @@ use mathlib.Core.Path.{refl}
 use Rattle.mask.specs.Mask.{has, membersFrom, members, collect, count}
 use Rattle.route.specs.Steps.{stepsOf, union, names, lookup}
 use Rattle.route.specs.Firing.{canFire, fire, start}
-use Rattle.route.specs.Rows.{unless, first, netRow}
+use Rattle.refusal.specs.Rows.{unless, first}
+use Rattle.route.specs.Net.{netRow}
 use Rattle.job.specs.Lines.{nameFits, placesFit, stepFits, variableList, placeList, listsFit, among, stepRow, stepRows, routeRows, doneRow, doneRows, lineRows, checked}
 use Rattle.job.specs.Run.{runStep, runFrom, ran}
 use Rattle.slice.specs.Order.{inTurn}
@@ -18,10 +19,10 @@ use Rattle.judging.specs.Judge.{padded, lastWriter, afterOf, writerOf, answer, 
 use Rattle.layout.specs.Words.{spelling}
 use Rattle.layout.specs.Points.{digit, alive, expect, chosen, spelt, inList, pastWord, first as firstDigit, ended, more as moreDigits, closed, next}
 use Rattle.layout.specs.Parse.{stored, took, putStep, putLine, keep, atEnd, run, parse}
-use Rattle.sheet.specs.Forms.{allBelow, rising, formFits, listFits, formLists, formRow, masked, recordOf}
-use Rattle.sheet.specs.Facts.{failed, settled, headed, stepped, oldHead, newHead, jobHead, doneIn, stepIn, more, moreSteps, moreDones, factsOf, answered, readOf}
+use Rattle.facts.specs.Forms.{allBelow, rising, formFits, listFits, formLists, formRow, masked, recordOf}
+use Rattle.facts.specs.Facts.{failed, settled, headed, stepped, oldHead, newHead, jobHead, doneIn, stepIn, more, moreSteps, moreDones, factsOf, answered, readOf}
 use Rattle.listing.specs.Listing.{digits, decimal, entry, over, line, movedLine, afterLine, afterLines, orderLine, markingLine, valueLine, valueLines, refusedLine, movedText, listing}
-use Rattle.listing.specs.Print.{sheetAnswer, listingOf}
+use Rattle.ops.specs.Print.{sheetAnswer, listingOf}
 use Rattle.examples.specs.Table.{codes, bytes, AllPrint, table}
 
 -- The definitions on the way, a name for each stage: to open the name opens all on its line.

@@ -6,7 +6,7 @@ use Prim.Native.Nat.{ℕ}
 use Prim.Native.Char.{code}
 use Prim.Native.String.{String, [] as nothing, _∷_ as _then_}
 use lib.ListN.{set}
-use Rattle.listing.specs.Print.{listingOf}
+use Rattle.ops.specs.Print.{listingOf}
 
 -- the bytes of a text. (Every sign in the table is one byte, its code.)
 unfoldable pub codes : String → List ℕ

@@ -11,10 +11,10 @@ use lib.ListN.{length, take, drop, getD, set, drop-of-length-le, length-append}
 use lib.Seq.{take-suc-set, length-take-le, drop-cons}
 use borrow.Author.Tests.{le-ltb, lt-ltb, ltb-true, leb-true, not-true, not-false, eqb-false, eq-eqb, ne-eqb}
 use Rattle.mask.proofs.Truth.{both}
-use Rattle.route.specs.Rows.{pass, refuse, unless, first}
+use Rattle.refusal.specs.Rows.{pass, refuse, unless, first}
 use Rattle.route.specs.declared.Step.{Step}
-use Rattle.route.specs.declared.Outcome.{Outcome}
-use Rattle.route.proofs.RowList.{head-refuses, head-passes, head-passed, row-refuses, row-passes, row-passed, rows-end, rows-pass, rows-refuse, rows-passed}
+use Rattle.refusal.specs.declared.Outcome.{Outcome}
+use Rattle.refusal.proofs.Rows.{head-refuses, head-passes, head-passed, row-refuses, row-passes, row-passed, rows-end, rows-pass, rows-refuse, rows-passed}
 use Rattle.job.specs.Lines.{stepRow, stepRows, routeRows, doneRow, doneRows, lineRows, nameFits, placesFit}
 use Rattle.job.specs.Job.{Job, afterSteps, newLine, jobLine}
 

@@ -7,9 +7,10 @@ use lib.Dec.{eqb, ltb, leb}
 use lib.Bits.{bitOr}
 use lib.ListN.{length}
 use Rattle.mask.specs.Mask.{below, within, count}
-use Rattle.route.specs.Rows.{unless, first, netRow}
+use Rattle.refusal.specs.Rows.{unless, first}
+use Rattle.route.specs.Net.{netRow}
 use Rattle.route.specs.declared.Step.{Step}
-use Rattle.route.specs.declared.Outcome.{Outcome}
+use Rattle.refusal.specs.declared.Outcome.{Outcome}
 use Rattle.job.specs.Job.{Job, afterSteps, newLine, jobLine}
 
 -- a name is 1 to 65,535

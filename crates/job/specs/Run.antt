@@ -7,7 +7,8 @@ use lib.Dec.{eqb}
 use Rattle.route.specs.Steps.{lookup}
 use Rattle.route.specs.Firing.{canFire, fire}
 use Rattle.route.specs.declared.Step.{Step}
-use Rattle.route.specs.Rows.{first, netRow}
+use Rattle.refusal.specs.Rows.{first}
+use Rattle.route.specs.Net.{netRow}
 use Rattle.route.specs.declared.Opened.{Opened}
 use Rattle.job.specs.Job.{Job, newLine, jobLine, oldStart}
 use Rattle.job.specs.Lines.{checked}

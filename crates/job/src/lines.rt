@@ -1,6 +1,6 @@
 // Rows 4, 2, 3 and 5, line by line.
+use refusal::Outcome;
 use route::Found;
-use route::Outcome;
 use route::Route;
 use route::Step;
 ghost use mathlib.Core.Path.{_≡_};
@@ -8,7 +8,7 @@ ghost use mathlib.Core.List.{[]};
 ghost use Prim.Native.Nat.{_≤_, _<_};
 ghost use lib.ListN.{length};
 ghost use Rattle.route.specs.Steps.{stepsOf};
-ghost use Rattle.route.specs.Rows.{first};
+ghost use Rattle.refusal.specs.Rows.{first};
 ghost use Rattle.job.specs.Job.{jobOf};
 ghost use Rattle.job.specs.Lines.{nameFits, placesFit, stepFits, placeList, variableList, listsFit, stepRow, stepRows, routeRows, doneRows, lineRows};
 

@@ -1,10 +1,10 @@
 // Running the done list on the old route.
 use crate::Ran;
 use crate::lines::check_lines;
+use refusal::Outcome;
 use route::Found;
 use route::Marking;
 use route::Opened;
-use route::Outcome;
 use route::Route;
 ghost use mathlib.Core.Path.{_≡_};
 ghost use mathlib.Core.List.{[]};

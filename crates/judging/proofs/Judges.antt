@@ -25,7 +25,7 @@ use Rattle.judging.specs.Told.{CutFits, KeptOf, ToJudge}
 use Rattle.matching.specs.declared.Case.{Case}
 use Rattle.matching.specs.declared.Fires.{Fires}
 use Rattle.matching.specs.declared.Fires.the-variants.{To, Stuck}
-use Rattle.judging.proofs.Members.{count-few}
+use Rattle.mask.proofs.Members.{count-few}
 use Rattle.matching.proofs.Passed.{limit-holds, kept-same}
 
 -- ---- where the straight list ends

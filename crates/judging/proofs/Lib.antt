@@ -5,7 +5,6 @@ pub mod Front
 pub mod Judges
 pub mod Lent
 pub mod Located
-pub mod Members
 pub mod MovesTo
 pub mod Padded
 pub mod Picks

@@ -25,7 +25,7 @@ use Rattle.matching.specs.declared.Met.{Met}
 use Rattle.judging.specs.declared.Picked.{Picked}
 use Rattle.judging.proofs.Same.{Columns}
 use Rattle.judging.proofs.Lent.{Room, ins-length}
-use Rattle.judging.proofs.Members.{member-at}
+use Rattle.mask.proofs.Members.{member-at}
 
 has-step : (s : Step) (q : Option Step) → sameData s q ≡ true → (t : Step) × (q ≡ some t)
 unfolding sameData

@@ -18,7 +18,7 @@ use Rattle.judging.specs.Judge.{padded, afterOf, writerOf, answer}
 use Rattle.judging.specs.Told.{ItemsOf}
 use Rattle.judging.proofs.Front.{all-steps}
 use Rattle.judging.proofs.Padded.{padded-is, number-at}
-use Rattle.judging.proofs.Members.{count-few}
+use Rattle.mask.proofs.Members.{count-few}
 
 pub answer-is : (from : ℕ) (new l : List Step) (kept : ℕ) (o : List ℕ) (d n : ℕ) (order : List ℕ) (marking : ℕ) (after writers : List ℕ) → d ≡ length l - count 64 kept → n ≡ length o → order ≡ padded 64 (map suc o) → marking ≡ Option·getD (fireAll new from (stepsOn l o)) 0 → after ≡ map (afterOf l kept) (inTurn 0 64) → writers ≡ map (writerOf new l) (inTurn 0 32) → record { number = 0; second = 0; kept = kept; dropped = d; len = n; order = order; marking = marking; after = after; writers = writers } ≡ answer from new l kept o
 unfolding answer

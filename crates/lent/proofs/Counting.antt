@@ -5,11 +5,11 @@ use Prim.Native.Nat.{ℕ, _≤_, _<_}
 use native.Mathlib.Omega.{arith}
 use lib.Dec.{eqb, leb}
 use borrow.Author.Tests.{lt-leb, le-leb, eq-eqb, ne-eqb, leb-true}
-use Rattle.route.specs.Rows.{unless, first}
-use Rattle.route.proofs.RowList.{head-passed, row-passed}
-use Rattle.sheet.specs.declared.Sheet.{Sheet}
-use Rattle.sheet.proofs.Counts.{Few}
-use Rattle.sheet.proofs.Dones.{Dones}
+use Rattle.refusal.specs.Rows.{unless, first}
+use Rattle.refusal.proofs.Rows.{head-passed, row-passed}
+use Rattle.facts.specs.declared.Sheet.{Sheet}
+use Rattle.facts.proofs.Counts.{Few}
+use Rattle.facts.proofs.Dones.{Dones}
 use Rattle.lent.specs.declared.Counts.{Counts}
 use Rattle.lent.specs.Reading.{readRow, noCounts, counts, counted}
 

@@ -9,11 +9,11 @@ use lib.Dec.{eqb, ltb, leb, ltb→lt, nltb→le, T}
 use lib.ListN.{length, take, drop, replicate, getD, length-append, length-take, length-replicate}
 use lib.Seq.{take-all, take-at, split-at, length-take-le}
 use Rattle.route.specs.Steps.{blank, stepsOf}
-use Rattle.route.specs.Rows.{pass, refuse, unless, first}
+use Rattle.refusal.specs.Rows.{pass, refuse, unless, first}
 use Rattle.route.specs.declared.Step.{Step}
 use Rattle.route.specs.declared.Route.{Route}
-use Rattle.route.specs.declared.Outcome.{Outcome}
-use Rattle.route.proofs.RowList.{rows-pass, rows-refuse, head-refuses, row-refuses}
+use Rattle.refusal.specs.declared.Outcome.{Outcome}
+use Rattle.refusal.proofs.Rows.{rows-pass, rows-refuse, head-refuses, row-refuses}
 use Rattle.records.specs.Loaded.{loaded}
 use Rattle.job.specs.Job.{Job, jobOf, afterSteps, newLine, jobLine}
 use Rattle.job.specs.Lines.{placesFit, stepRow, stepRows, routeRows, doneRows, lineRows}

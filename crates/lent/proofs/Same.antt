@@ -6,10 +6,10 @@ use mathlib.Core.List.{List, _++_}
 use Prim.Native.Nat.{ℕ}
 use lib.Dec.{eqb}
 use lib.ListN.{length}
-use Rattle.route.specs.Rows.{first}
+use Rattle.refusal.specs.Rows.{first}
 use Rattle.route.specs.declared.Step.{Step}
-use Rattle.route.specs.declared.Outcome.{Outcome}
-use Rattle.route.proofs.RowList.{rows-refuse}
+use Rattle.refusal.specs.declared.Outcome.{Outcome}
+use Rattle.refusal.proofs.Rows.{rows-refuse}
 use Rattle.records.specs.Loaded.{loaded}
 use Rattle.job.specs.Job.{Job, jobOf}
 use Rattle.job.specs.Lines.{lineRows, checked}
@@ -17,7 +17,7 @@ use Rattle.job.specs.Run.{ran}
 use Rattle.slice.specs.Table.{sliced}
 use Rattle.trying.specs.Try.{tried}
 use Rattle.judging.specs.Judge.{judged, searched, workAfter}
-use Rattle.writing.specs.Writes.{writeRow, wrote, outAfter}
+use Rattle.writer.specs.Writes.{writeRow, wrote, outAfter}
 use Rattle.lent.specs.Lent.{lentJob}
 use Rattle.lent.proofs.Turned.{Refused, same-job}
 

@@ -17,8 +17,8 @@ use Rattle.route.specs.declared.Route.{Route}
 use Rattle.route.proofs.Step as St
 use Rattle.route.proofs.Step.Laws as St′
 use Rattle.route.proofs.Route as Ro
-use Rattle.sheet.specs.declared.Sheet.{Sheet}
-use Rattle.sheet.proofs.Sheet as Sh
+use Rattle.facts.specs.declared.Sheet.{Sheet}
+use Rattle.facts.proofs.Sheet as Sh
 
 back : {D E : Type 0} (f : D → List Val → Fml) (g : E → List Val → Fml) (into : E → D) → ((x : E) (vs : List Val) → shadow (f (into x) vs) → shadow (g x vs)) → (xs : List E) (us : List Val) → shadow (each D f (map into xs) us) → shadow (each E g xs us)
 back f g into h [] [] s = tt

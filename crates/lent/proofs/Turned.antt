@@ -8,10 +8,10 @@ use lib.Dec.{eqb, ltb}
 use borrow.Author.Tests.{ltb-true, ltb-false}
 use lib.ListN.{length}
 use Rattle.route.specs.Steps.{stepsOf}
-use Rattle.route.specs.Rows.{first}
+use Rattle.refusal.specs.Rows.{first}
 use Rattle.route.specs.declared.Step.{Step}
-use Rattle.route.specs.declared.Outcome.{Outcome}
-use Rattle.route.proofs.RowList.{rows-pass, rows-refuse}
+use Rattle.refusal.specs.declared.Outcome.{Outcome}
+use Rattle.refusal.proofs.Rows.{rows-pass, rows-refuse}
 use Rattle.records.specs.Loaded.{loaded}
 use Rattle.job.specs.Job.{Job, jobOf, newLine, jobLine}
 use Rattle.job.specs.Lines.{routeRows, doneRows, lineRows}

@@ -3,9 +3,9 @@ use mathlib.Core.Bool.{cond}
 use mathlib.Core.List.{[], _∷_}
 use Prim.Native.Nat.{ℕ}
 use lib.Dec.{eqb, leb}
-use Rattle.route.specs.Rows.{refuse, unless, first}
-use Rattle.route.specs.declared.Outcome.{Outcome}
-use Rattle.sheet.specs.declared.Sheet.{Sheet}
+use Rattle.refusal.specs.Rows.{refuse, unless, first}
+use Rattle.refusal.specs.declared.Outcome.{Outcome}
+use Rattle.facts.specs.declared.Sheet.{Sheet}
 use Rattle.lent.specs.declared.Counts.{Counts}
 
 -- "15: a lent list too short; old, new, done in turn", with the length needed, after the rows of reading. The numbers are the lists' lengths

@@ -5,14 +5,14 @@ use records::load;
 use route::Step;
 use slice::Sliced;
 use trying::Tried;
-use writing::Wrote;
+use writer::Wrote;
 ghost use mathlib.Core.Path.{_≡_};
 ghost use lib.ListN.{length};
 ghost use Rattle.job.specs.Run.{ran};
 ghost use Rattle.slice.specs.Table.{sliced};
 ghost use Rattle.trying.specs.Try.{tried};
 ghost use Rattle.judging.specs.Judge.{judged, workAfter};
-ghost use Rattle.writing.specs.Writes.{wrote, outAfter};
+ghost use Rattle.writer.specs.Writes.{wrote, outAfter};
 ghost use Rattle.lent.specs.Lent.{lentJob};
 
 pub mod reading;
@@ -88,5 +88,5 @@ pub fn write(
 {
     let a = load(old_places, old);
     let b = load(new_places, new);
-    writing::writes::write(a, b, done, out)
+    writer::writes::write(a, b, done, out)
 }

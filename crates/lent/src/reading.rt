@@ -1,13 +1,13 @@
 // Reading a sheet into lent lists.
 use crate::Counts;
+use facts::Sheet;
 use records::fill;
 use route::Step;
-use sheet::Sheet;
 ghost use mathlib.Core.Path.{_≡_};
 ghost use Prim.Native.Nat.{_≤_};
 ghost use lib.ListN.{length};
 ghost use Rattle.records.specs.Loaded.{laid};
-ghost use Rattle.sheet.specs.Facts.{readOf};
+ghost use Rattle.facts.specs.Facts.{readOf};
 ghost use Rattle.lent.specs.Reading.{counted, noCounts};
 
 fn refuse(number: u32, second: u64) -> Counts
@@ -71,7 +71,7 @@ pub fn read(sheet: &[u8], old: &mut [Step], new: &mut [Step], done: &mut [u32]) 
         × ((now (new .exit) ≡ laid (r .«new_len») (readOf (now (sheet .entry)) .new .steps) (now (new .entry)))
         × (now (done .exit) ≡ laid (r .«done_len») (readOf (now (sheet .entry)) .done) (now (done .entry))))) ⌝ }
 {
-    let s = sheet::reads::read(sheet);
+    let s = reader::reads::read(sheet);
     let c = count(s, old.len(), new.len(), done.len());
     fill(old, c.old_len, s.old.steps);
     fill(new, c.new_len, s.new.steps);

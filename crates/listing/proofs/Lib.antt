@@ -1,6 +1,5 @@
 -- Laws on what emitters write, and on the listing's length.
 pub mod Runs
-pub mod Prints
 pub mod Number
 pub mod Numbered
 pub mod Walking

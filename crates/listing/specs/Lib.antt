@@ -2,4 +2,3 @@
 pub mod Listing
 pub mod Written
 pub mod Emit
-pub mod Print

@@ -2,7 +2,6 @@
 pub mod emit;
 pub mod lines;
 pub mod lists;
-pub mod print;
 pub mod printing;
 
 // How writing ended: 0 and 0, and the bytes written; or a refusal and its second number.

@@ -13,10 +13,10 @@ use Rattle.mask.specs.Mask.{has, membersFrom, members, count, collect}
 use Rattle.mask.proofs.Laws.{has-collect}
 use Rattle.mask.proofs.Truth.{split}
 use Rattle.route.specs.Steps.{blank}
-use Rattle.route.specs.Rows.{pass, refuse, first}
+use Rattle.refusal.specs.Rows.{pass, refuse, first}
 use Rattle.route.specs.declared.Step.{Step}
-use Rattle.route.specs.declared.Outcome.{Outcome}
-use Rattle.route.proofs.RowList.{row-passes, row-refuses, row-passed, head-passes, head-passed, head-refuses, rows-end}
+use Rattle.refusal.specs.declared.Outcome.{Outcome}
+use Rattle.refusal.proofs.Rows.{row-passes, row-refuses, row-passed, head-passes, head-passed, head-refuses, rows-end}
 use Rattle.slice.specs.Slice.{variables}
 use Rattle.slice.proofs.Laws.{kept-below}
 use Rattle.search.specs.Search.{isSome}

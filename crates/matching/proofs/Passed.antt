@@ -10,9 +10,9 @@ use lib.ListN.{length, getD}
 use borrow.Author.Tests.{leb-true, eq-eqb}
 use Rattle.mask.specs.Mask.{members, count}
 use Rattle.route.specs.Steps.{blank}
-use Rattle.route.specs.Rows.{first}
+use Rattle.refusal.specs.Rows.{first}
 use Rattle.route.specs.declared.Step.{Step}
-use Rattle.route.proofs.RowList.{head-passed, row-passed}
+use Rattle.refusal.proofs.Rows.{head-passed, row-passed}
 use Rattle.matching.specs.Straight.{sameStep, runsStraight}
 use Rattle.matching.specs.Fit.{keptOf}
 use Rattle.matching.specs.KeptRows.{keptRow, keptLines, keptRows}

@@ -8,9 +8,9 @@ use lib.Dec.{eqb}
 use lib.ListN.{length, getD}
 use Rattle.mask.specs.Mask.{collect}
 use Rattle.route.specs.Steps.{blank, lookup}
-use Rattle.route.specs.Rows.{refuse}
+use Rattle.refusal.specs.Rows.{refuse}
 use Rattle.route.specs.declared.Step.{Step}
-use Rattle.route.specs.declared.Outcome.{Outcome}
+use Rattle.refusal.specs.declared.Outcome.{Outcome}
 use Rattle.job.specs.Job.{Job, jobLine, newStart}
 use Rattle.job.specs.Run.{ran}
 use Rattle.slice.specs.Slice.{performed, variables}

@@ -6,9 +6,9 @@ use lib.Dec.{leb}
 use lib.ListN.{getD}
 use Rattle.mask.specs.Mask.{members, count}
 use Rattle.route.specs.Steps.{blank, lookup}
-use Rattle.route.specs.Rows.{unless, first}
+use Rattle.refusal.specs.Rows.{unless, first}
 use Rattle.route.specs.declared.Step.{Step}
-use Rattle.route.specs.declared.Outcome.{Outcome}
+use Rattle.refusal.specs.declared.Outcome.{Outcome}
 use Rattle.search.specs.Search.{isSome}
 use Rattle.matching.specs.Straight.{sameStep, runsStraight}
 use Rattle.matching.specs.Fit.{keptOf}

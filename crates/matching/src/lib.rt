@@ -1,5 +1,5 @@
 // How the new route matches a job's occurrences: straight replay, rows 10 to 12, and what try and judge start from.
-use route::Outcome;
+use refusal::Outcome;
 use slice::Cut;
 
 pub mod limits;

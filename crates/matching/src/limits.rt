@@ -1,7 +1,7 @@
 // Rows 10, 11 and 12: what stops a job whose done list has run.
 use crate::Fires;
 use crate::Met;
-use route::Outcome;
+use refusal::Outcome;
 use route::Route;
 ghost use mathlib.Core.Path.{_≡_};
 ghost use mathlib.Core.List.{List};
@@ -9,7 +9,7 @@ ghost use mathlib.Core.Bool.{_||_};
 ghost use Prim.Native.Nat.{ℕ, _≤_};
 ghost use lib.Dec.{leb};
 ghost use Rattle.mask.specs.Mask.{members, count};
-ghost use Rattle.route.specs.Rows.{first};
+ghost use Rattle.refusal.specs.Rows.{first};
 ghost use Rattle.route.specs.declared.Step.{Step};
 ghost use Rattle.matching.specs.Fit.{keptOf};
 ghost use Rattle.matching.specs.KeptRows.{keptLines, keptRows};

@@ -6,4 +6,3 @@ pub mod Lookup
 pub mod Column
 pub mod Hinted
 pub mod Toggle
-pub mod RowList

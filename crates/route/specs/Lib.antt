@@ -2,5 +2,5 @@
 pub mod Steps
 pub mod Flat
 pub mod Firing
-pub mod Rows
 pub mod Ends
+pub mod Net

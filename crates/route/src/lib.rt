@@ -1,8 +1,9 @@
 // A route by value, its marking, and the rows that speak of a route as a whole.
+use refusal::Outcome;
+
 pub mod firing;
 pub mod flat;
 pub mod net;
-pub mod rows;
 pub mod steps;
 
 // Places and variables are bit masks: place p at bit p.
@@ -24,12 +25,6 @@ pub struct Route {
 // The places with a token.
 pub struct Marking {
     pub tokens: u64,
-}
-
-// A refusal and its second number; 0 and 0 where nothing is refused.
-pub struct Outcome {
-    pub number: u32,
-    pub second: u64,
 }
 
 pub struct Fired {

@@ -2,12 +2,12 @@
 use crate::Ends;
 use crate::Marking;
 use crate::Opened;
-use crate::Outcome;
 use crate::Route;
+use refusal::Outcome;
 ghost use mathlib.Core.Path.{_≡_};
 ghost use Prim.Native.Nat.{_≤_};
 ghost use Rattle.route.specs.Steps.{stepsOf};
-ghost use Rattle.route.specs.Rows.{opened};
+ghost use Rattle.route.specs.Net.{opened};
 ghost use Rattle.route.specs.Ends.{EndsOf};
 
 impl Route {

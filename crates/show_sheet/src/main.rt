@@ -6,7 +6,7 @@ fn number(n: u64) {
 }
 
 fn show(s: &[u8]) {
-    let x = sheet::reads::read(s);
+    let x = reader::reads::read(s);
     number(x.number as u64);
     number(x.second);
     number(x.old.places);
@@ -14,7 +14,7 @@ fn show(s: &[u8]) {
     number(x.old.len as u64);
     number(x.new.len as u64);
     number(x.done_len as u64);
-    let part = sheet::part::job_part(s);
+    let part = reader::part::job_part(s);
     number(part.len() as u64);
     io::write_all(1, b"\n");
 }

@@ -24,7 +24,7 @@ fn agree(a: &[u8], b: &[u8]) -> u64 {
 }
 
 fn show(s: &[u8], old: Route, new: Route, done: &[u32], out: &mut [u8]) {
-    let w = writing::writes::write(old, new, done, out);
+    let w = writer::writes::write(old, new, done, out);
     number(w.number as u64);
     number(w.second);
     number(w.written);
@@ -93,7 +93,7 @@ fn show_records(s: &[u8], old: Route, new: Route, done: [u32; 64], k: usize) {
 }
 
 fn show_sheet(s: &[u8]) {
-    let x = sheet::reads::read(s);
+    let x = reader::reads::read(s);
     let old = x.old;
     let new = x.new;
     let done = x.done;

@@ -14,8 +14,8 @@ use borrow.Author.Tests.{eq-eqb, ne-eqb, leb-true, le-ltb, not-true}
 use Rattle.mask.specs.Mask.{has, bit, below, without}
 use Rattle.mask.proofs.Laws.{has-and, has-below, has-without}
 use Rattle.mask.proofs.Truth.{both}
-use Rattle.route.specs.Rows.{pass, refuse}
-use Rattle.route.specs.declared.Outcome.{Outcome}
+use Rattle.refusal.specs.Rows.{pass, refuse}
+use Rattle.refusal.specs.declared.Outcome.{Outcome}
 use Rattle.trying.specs.Try.{isKept, listRow}
 
 -- ---- one entry

@@ -13,7 +13,7 @@ use Rattle.mask.specs.Mask.{has, bit, within}
 use Rattle.mask.proofs.Laws.{has-and, has-or, has-bit, within-all, all-within}
 use Rattle.mask.proofs.Truth.{split, both}
 use Rattle.route.specs.Steps.{blank}
-use Rattle.route.specs.Rows.{pass, refuse}
+use Rattle.refusal.specs.Rows.{pass, refuse}
 use Rattle.route.specs.declared.Step.{Step}
 use Rattle.slice.specs.Precedence.{clash, comesAfter, row}
 use Rattle.slice.specs.Order.{noneOf}

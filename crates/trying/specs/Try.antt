@@ -9,9 +9,9 @@ use lib.Bits.{bitOr}
 use Rattle.mask.specs.Mask.{has, bit}
 use Rattle.route.specs.Steps.{blank, lookup}
 use Rattle.route.specs.Firing.{canFire, fire}
-use Rattle.route.specs.Rows.{pass, refuse}
+use Rattle.refusal.specs.Rows.{pass, refuse}
 use Rattle.route.specs.declared.Step.{Step}
-use Rattle.route.specs.declared.Outcome.{Outcome}
+use Rattle.refusal.specs.declared.Outcome.{Outcome}
 use Rattle.job.specs.Job.{Job, jobLine, newStart}
 use Rattle.job.specs.Run.{ran}
 use Rattle.slice.specs.Slice.{performed}

@@ -3,7 +3,7 @@ use crate::Tried;
 use matching::Fires;
 use matching::Met;
 use matching::replaying::fire_places;
-use route::Outcome;
+use refusal::Outcome;
 ghost use mathlib.Core.Path.{_≡_};
 ghost use mathlib.Core.Bool.{not, _&&_};
 ghost use mathlib.Core.List.{List, map};

@@ -17,12 +17,12 @@ use denote.Triple.Table.{entered, cited}
 use Rattle.route.specs.declared.Step.{Step}
 use Rattle.records.specs.Loaded.{loaded}
 use Rattle.job.specs.Job.{jobOf}
-use Rattle.writing.specs.Writes.{wrote, outAfter}
-use Rattle.writing.specs.declared.Wrote.{Wrote}
-use Rattle.writing.proofs.Wrote as R
-use Rattle.writing.proofs.Wrote.Laws as R′
-use Rattle.writing.proofs.writes.write.Symbol as core
-use Rattle.writing.proofs.writes.write.Met as core-thm
+use Rattle.writer.specs.Writes.{wrote, outAfter}
+use Rattle.writer.specs.declared.Wrote.{Wrote}
+use Rattle.writer.proofs.Wrote as R
+use Rattle.writer.proofs.Wrote.Laws as R′
+use Rattle.writer.proofs.writes.write.Symbol as core
+use Rattle.writer.proofs.writes.write.Met as core-thm
 use Rattle.records.proofs.load.Symbol as load
 use Rattle.records.proofs.load.Met as load-thm
 use Rattle.lent.specs.Lent.{lentJob}
@@ -51,4 +51,4 @@ write-spec 𝓤 H 𝓜 𝓖 𝓡 =
     (filled-meets R.the-row 𝓤 H (𝓖 .A) (givenOf 𝓤 H 𝓜 𝓖) (𝓜 .mem) (𝓡 .run) R′.mir (λ r v is. LL.lawful R.the-type R′.the-laws 𝓤 H (𝓖 .A) (givenOf 𝓤 H 𝓜 𝓖) .typed r _ is .0)
     (said 𝓤) (λ p l q m d o. wrote (lentJob p l q m d) (length o)) (λ p l q m d o. outAfter (lentJob p l q m d) o) (hears 𝓤 H (𝓖 .A) (givenOf 𝓤 H 𝓜 𝓖)) core.name (tablesOf 𝓤 H 𝓜 (tables 𝓤 H 𝓜 𝓡 code.env))
     (cited 𝓤 H (Load 𝓤 H (𝓖 .A) (𝓜 .mem) (𝓡 .run)) 𝓜 𝓡 code.env load.name load.routine code.calls-records·load (load-thm.met 𝓤 H 𝓜 𝓖 𝓡))
-    (cited 𝓤 H (Known R.the-row 𝓤 H (𝓖 .A) (said 𝓤)) 𝓜 𝓡 code.env core.name core.routine code.calls-writing·writes·write (core-thm.met 𝓤 H 𝓜 𝓖 𝓡)))
+    (cited 𝓤 H (Known R.the-row 𝓤 H (𝓖 .A) (said 𝓤)) 𝓜 𝓡 code.env core.name core.routine code.calls-writer·writes·write (core-thm.met 𝓤 H 𝓜 𝓖 𝓡)))

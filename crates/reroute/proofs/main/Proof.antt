@@ -5,7 +5,7 @@ use native.Mathlib.Omega.{arith}
 use lib.ListN.{length, length-replicate}
 use lib.Seq.{length-take-le}
 use borrow.Author.Needs.{needs}
-use Rattle.listing.proofs.Prints.{written-fits}
+use Rattle.ops.proofs.Prints.{written-fits}
 use Rattle.reroute.proofs.main.Statement.{statement}
 use Rattle.reroute.proofs.main.Tie as tie
 

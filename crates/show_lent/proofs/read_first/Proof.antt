@@ -43,7 +43,7 @@ use denote.Triple.Walked.{says, needs, Stays, stay-dropped, gave-slice, goes-dro
 use Rattle.route.specs.declared.Step.{Step}
 use Rattle.route.proofs.Step as St
 use Rattle.route.proofs.Step.Laws as St′
-use Rattle.sheet.specs.Facts.{readOf}
+use Rattle.facts.specs.Facts.{readOf}
 use Rattle.records.specs.Loaded.{laid}
 use Rattle.records.proofs.Record.{S, word, vals, tells, makes}
 use Rattle.lent.specs.declared.Counts.{Counts}

@@ -43,10 +43,10 @@ use denote.Triple.Walked.{says, needs, Stays, stay-dropped, gave-slice, goes-dro
 use Rattle.route.specs.declared.Step.{Step}
 use Rattle.route.proofs.Step as St
 use Rattle.route.proofs.Step.Laws as St′
-use Rattle.writing.specs.Writes.{wrote, outAfter}
-use Rattle.writing.specs.declared.Wrote.{Wrote}
-use Rattle.writing.proofs.Wrote as R
-use Rattle.writing.proofs.Wrote.Laws as R′
+use Rattle.writer.specs.Writes.{wrote, outAfter}
+use Rattle.writer.specs.declared.Wrote.{Wrote}
+use Rattle.writer.proofs.Wrote as R
+use Rattle.writer.proofs.Wrote.Laws as R′
 use Rattle.records.proofs.Record.{S, word, vals, tells}
 use Rattle.lent.specs.Lent.{lentJob}
 use Rattle.lent.proofs.write as write′

@@ -4,7 +4,7 @@ use Prim.Native.Nat.{ℕ, _+_, _-_, _≤_}
 use native.Mathlib.Omega.{arith}
 use borrow.Author.Needs.{needs}
 use lib.ListN.{length, drop}
-use Rattle.route.specs.Rows.{first}
+use Rattle.refusal.specs.Rows.{first}
 use Rattle.job.specs.Lines.{doneRows}
 use Rattle.job.proofs.Rows.{done-over, done-refused, done-passed, done-end}
 use Rattle.job.proofs.lines.check_done.Statement.{statement}

@@ -9,9 +9,9 @@ use lib.ListN.{length}
 use borrow.Author.Needs.{needs}
 use borrow.Author.Tests.{not-true, not-false}
 use Rattle.route.specs.Steps.{stepsOf}
-use Rattle.route.specs.Rows.{first}
+use Rattle.refusal.specs.Rows.{first}
 use Rattle.route.specs.declared.Step.{Step}
-use Rattle.route.specs.declared.Outcome.{Outcome}
+use Rattle.refusal.specs.declared.Outcome.{Outcome}
 use Rattle.route.proofs.Full.{full}
 use Rattle.route.proofs.StepList.{length-steps}
 use Rattle.job.specs.Job.{Job, jobOf, newLine, jobLine}

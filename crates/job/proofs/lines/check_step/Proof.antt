@@ -7,13 +7,13 @@ use lib.Dec.{ltb}
 use lib.ListN.{length}
 use borrow.Author.Needs.{needs}
 use borrow.Author.Tests.{not-true, not-false, lt-ltb, le-ltb}
-use Rattle.route.specs.Rows.{pass, refuse, unless, first}
+use Rattle.refusal.specs.Rows.{pass, refuse, unless, first}
 use Rattle.route.specs.Steps.{position}
 use Rattle.route.specs.declared.Step.{Step}
-use Rattle.route.specs.declared.Outcome.{Outcome}
+use Rattle.refusal.specs.declared.Outcome.{Outcome}
 use Rattle.route.specs.declared.Found.{Found}
 use Rattle.route.specs.declared.Found.the-variants.{At, Nothing}
-use Rattle.route.proofs.RowList.{row-passes, row-refuses, rows-end}
+use Rattle.refusal.proofs.Rows.{row-passes, row-refuses, rows-end}
 use Rattle.job.specs.Lines.{stepFits, listsFit, among, stepRow}
 use Rattle.job.proofs.Among.{among-found, among-missed}
 use Rattle.job.proofs.lines.check_step.Statement.{statement}

@@ -7,7 +7,7 @@ use lib.ListN.{length, take, drop}
 use lib.Seq.{length-take-le}
 use borrow.Author.Tests.{not-true, not-false}
 use Rattle.route.specs.Steps.{stepsOf}
-use Rattle.route.specs.Rows.{first}
+use Rattle.refusal.specs.Rows.{first}
 use Rattle.route.proofs.Full.{full}
 use Rattle.route.proofs.StepList.{steps-more, steps-on, steps-end}
 use Rattle.job.specs.Lines.{stepRows}
@@ -18,9 +18,9 @@ use Rattle.job.proofs.lines.check_steps.Tie as tie
 use Rattle.job.proofs.lines.check_steps.Reads as reads
 use Rattle.job.proofs.lines.check_steps.Lts as lts
 use Rattle.job.proofs.lines.check_step.Reads as check-step-reads
-use Rattle.route.proofs.Outcome.pass.Reads as pass-reads
-use Rattle.route.proofs.Outcome.passed.Reads as passed-reads
-use Rattle.route.proofs.Outcome.refuse.Reads as refuse-reads
+use Rattle.refusal.proofs.Outcome.pass.Reads as pass-reads
+use Rattle.refusal.proofs.Outcome.passed.Reads as passed-reads
+use Rattle.refusal.proofs.Outcome.refuse.Reads as refuse-reads
 
 abbrev Inv-loop : tie.InvT-loop
 Inv-loop line r column₀ i₀ column i =

@@ -7,7 +7,7 @@ use lib.Dec.{eqb}
 use lib.ListN.{length}
 use borrow.Author.Needs.{needs}
 use borrow.Author.Tests.{not-true, not-false, eq-eqb}
-use Rattle.route.specs.Rows.{first}
+use Rattle.refusal.specs.Rows.{first}
 use Rattle.route.specs.declared.Opened.{Opened}
 use Rattle.route.proofs.Full.{full}
 use Rattle.route.proofs.StepList.{length-steps}

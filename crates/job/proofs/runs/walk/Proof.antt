@@ -9,7 +9,7 @@ use lib.ListN.{getD}
 use borrow.Author.Tests.{not-true, not-false}
 use Rattle.route.specs.Steps.{blank, stepsOf, lookup}
 use Rattle.route.specs.declared.Route.{Route}
-use Rattle.route.specs.declared.Outcome.{Outcome}
+use Rattle.refusal.specs.declared.Outcome.{Outcome}
 use Rattle.route.proofs.Full.{full}
 use Rattle.route.proofs.Column.{column-length, missed-step, found-below, found-step}
 use Rattle.job.specs.Run.{stopped, runFrom}

@@ -42,15 +42,15 @@ use denote.Triple.Walked.{says, Stays, stay-dropped, gave-slice, goes-dropped, g
 use Rattle.route.specs.declared.Step.{Step}
 use Rattle.route.proofs.Step as St
 use Rattle.route.proofs.Step.Laws as St′
-use Rattle.sheet.specs.Facts.{readOf}
-use Rattle.sheet.specs.declared.Sheet.{Sheet}
-use Rattle.sheet.proofs.Counts.{read-few}
-use Rattle.sheet.proofs.Dones.{read-dones}
-use Rattle.sheet.proofs.Sheet as Sh
-use Rattle.sheet.proofs.Sheet.Laws as Sh′
-use Rattle.sheet.proofs.reads.read as read-sheet
-use Rattle.sheet.proofs.reads.read.Symbol as read-def
-use Rattle.sheet.proofs.reads.read.Met as read-thm
+use Rattle.facts.specs.Facts.{readOf}
+use Rattle.facts.specs.declared.Sheet.{Sheet}
+use Rattle.facts.proofs.Counts.{read-few}
+use Rattle.facts.proofs.Dones.{read-dones}
+use Rattle.facts.proofs.Sheet as Sh
+use Rattle.facts.proofs.Sheet.Laws as Sh′
+use Rattle.reader.proofs.reads.read as read-sheet
+use Rattle.reader.proofs.reads.read.Symbol as read-def
+use Rattle.reader.proofs.reads.read.Met as read-thm
 use Rattle.records.specs.Loaded.{laid}
 use Rattle.records.proofs.fill.Symbol as fill-def
 use Rattle.records.proofs.fill.Symbol.{name as #fill}
@@ -242,7 +242,7 @@ read-spec 𝓤 H 𝓜 𝓖 𝓡 =
     entered 𝓤 H (tripleOf 𝓤 H (𝓖 .A) read.signature (read.spec 𝓤 H (𝓖 .A) (𝓜 .mem) (𝓡 .run)))
     (tables 𝓤 H 𝓜 𝓡 code.env .C) (tables 𝓤 H 𝓜 𝓡 code.env .Λ) #lent·read code.function (code.unfolded 𝓤 H 𝓜 𝓡)
     (read-meets 𝓤 H (𝓖 .A) (givenOf 𝓤 H 𝓜 𝓖) (𝓜 .mem) (𝓡 .run) (tablesOf 𝓤 H 𝓜 (tables 𝓤 H 𝓜 𝓡 code.env))
-    (cited 𝓤 H (Read 𝓤 H (𝓖 .A) (𝓜 .mem) (𝓡 .run)) 𝓜 𝓡 code.env read-def.name read-def.routine code.calls-sheet·reads·read (read-thm.met 𝓤 H 𝓜 𝓖 𝓡))
+    (cited 𝓤 H (Read 𝓤 H (𝓖 .A) (𝓜 .mem) (𝓡 .run)) 𝓜 𝓡 code.env read-def.name read-def.routine code.calls-reader·reads·read (read-thm.met 𝓤 H 𝓜 𝓖 𝓡))
     (cited 𝓤 H (Count 𝓤 H (𝓖 .A) (𝓜 .mem) (𝓡 .run)) 𝓜 𝓡 code.env count-def.name count-def.routine code.calls-lent·reading·count (count-thm.met 𝓤 H 𝓜 𝓖 𝓡))
     (cited 𝓤 H (Lay St.the-row 𝓤 H (𝓖 .A)) 𝓜 𝓡 code.env #fill fill-def.routine code.calls-records·fill (fill-thm.met 𝓤 H 𝓜 𝓖 𝓡))
     (cited 𝓤 H (Lay u32 𝓤 H (𝓖 .A)) 𝓜 𝓡 code.env #put put-def.routine code.calls-lent·reading·put (put-thm.met 𝓤 H 𝓜 𝓖 𝓡)))

@@ -7,7 +7,7 @@ use native.Mathlib.Omega.{arith}
 use borrow.Author.Needs.{needs}
 use borrow.Author.Tests.{not-true, not-false}
 use Rattle.mask.specs.Mask.{has, members}
-use Rattle.route.specs.Rows.{first}
+use Rattle.refusal.specs.Rows.{first}
 use Rattle.route.specs.declared.Step.{Step}
 use Rattle.matching.specs.Fit.{keptOf}
 use Rattle.matching.specs.KeptRows.{keptLines}

@@ -6,7 +6,7 @@ use native.Mathlib.Omega.{arith}
 use borrow.Author.Needs.{needs}
 use Rattle.route.specs.Steps.{stepsOf}
 use Rattle.route.specs.Firing.{start}
-use Rattle.route.specs.Rows.{opened}
+use Rattle.route.specs.Net.{opened}
 use Rattle.route.specs.declared.Step.{Step}
 use Rattle.route.specs.declared.Opened.{Opened}
 use Rattle.route.proofs.Full.{full}

@@ -11,12 +11,13 @@ use Rattle.mask.specs.Mask.{below, without, within}
 use Rattle.route.specs.Steps.{union}
 use Rattle.route.specs.Firing.{start}
 use Rattle.route.specs.Ends.{EndsOf}
-use Rattle.route.specs.Rows.{pass, refuse, unless, first, netRow, opened}
+use Rattle.refusal.specs.Rows.{pass, refuse, unless, first}
+use Rattle.route.specs.Net.{netRow, opened}
 use Rattle.route.specs.declared.Step.{Step}
 use Rattle.route.specs.declared.Ends.{Ends}
-use Rattle.route.specs.declared.Outcome.{Outcome}
+use Rattle.refusal.specs.declared.Outcome.{Outcome}
 use Rattle.route.specs.declared.Opened.{Opened}
-use Rattle.route.proofs.RowList.{row-passes, row-refuses, rows-end}
+use Rattle.refusal.proofs.Rows.{row-passes, row-refuses, rows-end}
 use Rattle.route.proofs.Route.open.Statement.{statement}
 use Rattle.route.proofs.Route.open.Tie as tie
 

@@ -4,7 +4,7 @@ use mathlib.Core.Bool.{true}
 use lib.Dec.{eqb}
 use borrow.Author.Needs.{needs}
 use borrow.Author.Tests.{eqb-true, not-true, not-false}
-use Rattle.route.specs.declared.Outcome.{Outcome}
+use Rattle.refusal.specs.declared.Outcome.{Outcome}
 use Rattle.trying.proofs.TryRows.{rows-refused, rows-tried}
 use Rattle.trying.proofs.entries.by_rows.Statement.{statement}
 use Rattle.trying.proofs.entries.by_rows.Tie as tie

@@ -2,7 +2,7 @@
 use mathlib.Core.Path.{sym, ap, _∙_}
 use borrow.Author.Needs.{needs}
 use borrow.Author.Tests.{not-true, not-false, eqb-true}
-use Rattle.route.specs.declared.Outcome.{Outcome}
+use Rattle.refusal.specs.declared.Outcome.{Outcome}
 use Rattle.job.specs.Job.{jobOf}
 use Rattle.matching.proofs.Cases.{lines-refused}
 use Rattle.trying.proofs.TryRows.{tried-refused}

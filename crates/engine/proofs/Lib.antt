@@ -1,2 +1,0 @@
--- Laws on the C host's functions.
-pub mod Facts

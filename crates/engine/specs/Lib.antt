@@ -1,2 +1,0 @@
--- The operations on a sheet's bytes that a C host calls.
-pub mod SheetTry

@@ -1,0 +1,121 @@
+-- The records that reading gives: their lines are the sheet's lines, and pass the rows.
+-- Assumes nothing.
+use mathlib.Core.Path.{_≡_, refl, sym, ap, ap₂, _∙_, subst}
+use mathlib.Core.Bool.{Bool, true, not, _&&_}
+use mathlib.Core.List.{List, [], _∷_, map}
+use Prim.Native.Nat.{ℕ, _-_, _≤_}
+use native.Mathlib.Omega.{arith}
+use lib.Dec.{eqb, ltb, leb}
+use lib.ListN.{length, replicate, length-map}
+use lib.Seq.{take-append-seam}
+use borrow.Author.Tests.{ltb-true, lt-ltb, eqb-true}
+use Rattle.mask.proofs.Truth.{both}
+use Rattle.route.specs.Steps.{stepsOf}
+use Rattle.refusal.specs.Rows.{first}
+use Rattle.route.specs.declared.Step.{Step}
+use Rattle.refusal.specs.declared.Outcome.{Outcome}
+use Rattle.job.specs.Lines.{nameFits, lineRows, LinesPass}
+use Rattle.layout.specs.Text.{Form, Lines}
+use Rattle.layout.specs.Parse.{Parsed, parse}
+use Rattle.facts.specs.Forms.{allBelow, rising, listFits, formFits, formLists, recordOf}
+use Rattle.facts.specs.Facts.{failed, factsOf, answered, readOf, jobRead}
+use Rattle.facts.specs.SheetRows.{sheetRows, filled, factsRecord}
+use Rattle.facts.specs.Back.{formOf, linesOf, Wide, AllWide}
+use Rattle.facts.specs.declared.Sheet.{Sheet}
+use Rattle.facts.proofs.Stand.{reads-facts, filled-steps}
+use Rattle.facts.proofs.Masks.{mask-members, members-mask, masked-below}
+use Rattle.facts.proofs.Fine.{Passes, Fine, AllFine, AllLines, lines-fine}
+use Rattle.facts.proofs.Ties.{tie}
+
+-- ---- a step: its form's record, and its record's form
+
+pub record-form : (s : Step) → Wide s → recordOf (formOf s) ≡ s
+unfolding recordOf formOf
+record-form s h = λ i. record { name = s .name; ins = mask-members 64 (s .ins) (h .ins) i; outs = mask-members 64 (s .outs) (h .outs) i; reads = mask-members 32 (s .reads) (h .reads) i; writes = mask-members 32 (s .writes) (h .writes) i }
+
+pub records-forms : (l : List Step) → AllWide l → map recordOf (map formOf l) ≡ l
+records-forms [] h = refl
+records-forms (s ∷ l) h = ap₂ {C = List Step} (λ (x : Step) (k : List Step). x ∷ k) (record-form s (h .0)) (records-forms l (h .1))
+
+wider : (l : List ℕ) (n m : ℕ) → n ≤ m → allBelow n l ≡ true → allBelow m l ≡ true
+unfolding allBelow
+wider [] n m h e = refl
+wider (v ∷ l) n m h e =
+    let parts = both (ltb v n) (allBelow n l) e in
+    ap₂ (λ (x y : Bool). x && y) (lt-ltb v m (omega (arith, ltb-true v n (parts .0)))) (wider l n m h (parts .1))
+
+risen : (l : List ℕ) → listFits l ≡ true → rising 0 l ≡ true
+unfolding listFits
+risen l e = both (leb (length l) 8) (rising 0 l) e .1
+
+pub form-record : (places : ℕ) (f : Form) → places ≤ 64 → Fine places f → formOf (recordOf f) ≡ f
+unfolding recordOf formOf formFits formLists
+form-record places f h fine =
+    let a = both (nameFits (f .name)) _ (fine .fits) in
+    let b = both (allBelow places (f .ins)) _ (a .1) in
+    let c = both (allBelow places (f .outs)) _ (b .1) in
+    let d = both (allBelow 32 (f .reads)) _ (c .1) in
+    let p = both (not (eqb (length (f .outs)) 0)) _ (both (not (eqb (length (f .ins)) 0)) _ (fine .lists) .1) in
+    let q = both (listFits (f .ins)) _ (p .1) in
+    let r = both (listFits (f .outs)) _ (q .1) in
+    let s = both (listFits (f .reads)) _ (r .1) in
+    let ins = members-mask 64 (f .ins) (risen (f .ins) (q .0)) (wider (f .ins) places 64 h (b .0)) in
+    let outs = members-mask 64 (f .outs) (risen (f .outs) (r .0)) (wider (f .outs) places 64 h (c .0)) in
+    let reads = members-mask 32 (f .reads) (risen (f .reads) (s .0)) (d .0) in
+    let writes = members-mask 32 (f .writes) (risen (f .writes) (s .1)) (d .1) in
+    λ i. record { name = f .name; ins = ins i; outs = outs i; reads = reads i; writes = writes i }
+
+forms-records : (l : List Form) (places : ℕ) → places ≤ 64 → AllFine places l → map formOf (map recordOf l) ≡ l
+forms-records [] places h fine = refl
+forms-records (f ∷ l) places h fine = ap₂ {C = List Form} (λ (x : Form) (k : List Form). x ∷ k) (form-record places f h (fine .0)) (forms-records l places h (fine .1))
+
+-- ---- the whole
+
+-- the records that reading gives
+pub lines-back : (x : Lines) → AllLines x → linesOf (jobRead (factsRecord x)) ≡ x
+unfolding linesOf factsRecord filled
+lines-back x h =
+    λ i. record {
+      oldPlaces = x .oldPlaces;
+      old = (ap (map formOf) (filled-steps (x .oldPlaces) (map recordOf (x .old)) (omega (arith, length-map (x .old) recordOf, h .oldFew))) ∙ forms-records (x .old) (x .oldPlaces) (h .oldPlaces) (h .old)) i;
+      newPlaces = x .newPlaces;
+      new = (ap (map formOf) (filled-steps (x .newPlaces) (map recordOf (x .new)) (omega (arith, length-map (x .new) recordOf, h .newFew))) ∙ forms-records (x .new) (x .newPlaces) (h .newPlaces) (h .new)) i;
+      done = take-append-seam (x .done) (replicate (64 - length (x .done)) 0) i;
+    }
+
+pub read-is : (s : List ℕ) (x : Lines) → parse s ≡ Parsed.read x → readOf s ≡ factsOf x
+unfolding readOf answered
+read-is s x e = ap (answered (length s)) e
+
+-- ---- the records that reading gives pass the rows
+
+wide-records : (l : List Form) → AllWide (map recordOf l)
+unfolding recordOf
+wide-records [] = tt
+wide-records (f ∷ l) = (record { ins = masked-below 64 0 (f .ins) (omega arith); outs = masked-below 64 0 (f .outs) (omega arith); reads = masked-below 32 0 (f .reads) (omega arith); writes = masked-below 32 0 (f .writes) (omega arith) }, wide-records l)
+
+wide-filled : (n : ℕ) (l : List Form) → length l ≤ 64 → AllWide (stepsOf (filled n (map recordOf l)))
+wide-filled n l h = subst AllWide (sym (filled-steps n (map recordOf l) (omega (arith, length-map l recordOf)))) (wide-records l)
+
+records-pass : (x : Lines) → Passes (sheetRows x) → Passes (lineRows (jobRead (factsRecord x)))
+unfolding factsRecord
+records-pass x h =
+    let fine = lines-fine x h in
+    ap (λ (rows : List Outcome). eqb (first rows .number) 0)
+    (sym (tie (jobRead (factsRecord x)) (wide-filled (x .oldPlaces) (x .old) (fine .oldFew)) (wide-filled (x .newPlaces) (x .new) (fine .newFew)))
+    ∙ ap sheetRows (lines-back x fine))
+    ∙ h
+
+pub not-broken : (s r : List ℕ) → readOf s .number ≡ 0 → parse s ≡ Parsed.broken r → ⊥
+unfolding readOf answered failed
+not-broken s r z e = let one : _≡_ {A = ℕ} 1 0 = sym (ap (λ (p : Parsed). answered (length s) p .number) e) ∙ z in omega arith
+
+-- a sheet that reads passes the rows of its lines
+pub read-lines : (s : List ℕ) → readOf s .number ≡ 0 → LinesPass (jobRead (readOf s))
+read-lines s z = go (parse s) refl
+  where
+    go : (p : Parsed) → parse s ≡ p → LinesPass (jobRead (readOf s))
+    go (Parsed.read x) e =
+        let passed = reads-facts x (ap (λ (y : Sheet). y .number) (sym (read-is s x e)) ∙ z) in
+        ap (λ (y : Sheet). first (lineRows (jobRead y)) .number) (read-is s x e ∙ passed .1) ∙ eqb-true _ 0 (records-pass x (passed .0))
+    go (Parsed.broken r) e = absurd (not-broken s r z e)

@@ -1,0 +1,3 @@
+-- Laws on the operations on a sheet's bytes.
+pub mod Prints
+pub mod SheetTry

@@ -1,0 +1,3 @@
+// The operations on a sheet's bytes: print, and try as a host calls it.
+pub mod print;
+pub mod tries;

@@ -1,0 +1,18 @@
+-- `sheet::rows::entries_fit`: the two tests in turn.
+use mathlib.Core.Path.{refl}
+use borrow.Author.Tests.{le-leb, lt-leb}
+use Rattle.mask.proofs.Truth.{and-yes, and-no}
+use Rattle.reader.specs.Pens.{entriesFit}
+use Rattle.reader.proofs.rows.entries_fit.Statement.{statement}
+use Rattle.reader.proofs.rows.entries_fit.Tie as tie
+
+returns : tie.Need-returns
+unfolding entriesFit
+returns c = and-yes refl (le-leb _ _ (c .before .if1 .taken)) refl
+
+returns-2 : tie.Need-returns-2
+unfolding entriesFit
+returns-2 c = and-no _ refl (lt-leb _ _ (c .if1 .left))
+
+pub entries-fit-spec : {M : Type 1} → statement M
+entries-fit-spec = tie.close (tie.spec returns returns-2)

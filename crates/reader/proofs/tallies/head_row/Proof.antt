@@ -1,0 +1,44 @@
+-- `sheet::tallies::head_row`: row 2.
+use mathlib.Core.Path.{_≡_, refl, sym, ap, _∙_}
+use mathlib.Core.Bool.{Bool, true, false, not}
+use mathlib.Core.List.{[], _∷_}
+use Prim.Native.Nat.{ℕ, _≤_, _<_}
+use lib.Dec.{eqb}
+use borrow.Author.Tests.{eq-eqb, ne-eqb, lt-ltb, le-ltb, not-true, not-false}
+use Rattle.refusal.specs.Rows.{pass, refuse, unless}
+use Rattle.refusal.specs.declared.Outcome.{Outcome}
+use Rattle.refusal.proofs.Rows.{row-passes, row-refuses, rows-end}
+use Rattle.job.specs.Lines.{placesFit, nameFits, doneRow}
+use Rattle.reader.specs.Tallies.{headRow, newRow, jobRow}
+use Rattle.facts.proofs.Settle.{unless-no, unless-yes}
+use borrow.Author.Needs.{needs}
+use Rattle.reader.proofs.tallies.head_row.Statement.{statement}
+use Rattle.reader.proofs.tallies.head_row.Tie as tie
+
+module _ (line n : ℕ) (f : Bool) (fits : f ≡ placesFit n) (o : Outcome) where
+  fine : f ≡ true → o ≡ pass → o ≡ headRow line n
+  unfolding headRow
+  fine h q = q ∙ sym (unless-yes (placesFit n) 2 line (sym fits ∙ h))
+
+  two : f ≡ false → o ≡ refuse 2 line → o ≡ headRow line n
+  unfolding headRow
+  two h q = q ∙ sym (unless-no (placesFit n) 2 line (sym fits ∙ h))
+
+places-fit-requires : tie.Need-places-fit-requires
+places-fit-requires c κs = search needs
+
+pass-requires : tie.Need-pass-requires
+pass-requires c κs = search needs
+
+refuse-requires : tie.Need-refuse-requires
+refuse-requires c κs = search needs
+
+returns : tie.Need-returns
+returns c = search (needs, fine, two)
+
+returns-2 : tie.Need-returns-2
+returns-2 c = search (needs, fine, two)
+
+pub head-row-spec : {M : Type 1} → statement M
+head-row-spec =
+    tie.close (tie.spec places-fit-requires pass-requires refuse-requires returns returns-2)

@@ -1,0 +1,2 @@
+-- What a refusal is.
+pub mod Rows

@@ -1,0 +1,103 @@
+-- Candidates are numbered in the rising order of their positions. So a list of candidates and the list of their positions have the same
+-- counts and the same dictionary order.
+use mathlib.Core.Path.{_≡_, refl, sym, ap₂, _∙_}
+use mathlib.Core.Bool.{Bool, true, false, cond}
+use mathlib.Core.List.{List, [], _∷_, map}
+use Prim.Native.Nat.{ℕ, zero, suc, _+_, _≤_, _<_}
+use native.Mathlib.Omega.{arith}
+use native.Mathlib.Decide.{ℕ-discrete, decLt}
+use lib.Dec.{eqb}
+use lib.ListN.{length, getD}
+use borrow.Author.Tests.{eq-eqb, ne-eqb}
+use Rattle.mask.specs.Mask.{has, membersFrom, members}
+use Rattle.slice.specs.Order.{times}
+use Rattle.theorems.proofs.Entries.{once, each-entry}
+
+-- ---- the entries of a list, by their positions in it
+
+pub entry-at : (o : List ℕ) (k : ℕ) → k < length o → 0 < times (getD o k 0) o
+unfolding times
+entry-at [] k h = absurd (omega arith)
+entry-at (x ∷ o) zero h = once x (times x o)
+entry-at (x ∷ o) (suc k) h = let n : 0 < times (getD o k 0) o = entry-at o k (omega arith) in omega arith
+
+pub at-entry : (o : List ℕ) (i : ℕ) → 0 < times i o → (k : ℕ) × (k < length o) × (getD o k 0 ≡ i)
+unfolding times
+at-entry [] i n = absurd (omega arith)
+at-entry (x ∷ o) i n = each-entry (λ i. (k : ℕ) × (k < suc (length o)) × (getD (x ∷ o) k 0 ≡ i)) x o (0, omega arith, refl) (λ i n. let (k, h, e) = at-entry o i n in (suc k, omega arith, e)) i n
+
+-- every entry is below n
+abbrev pub Below : ℕ → List ℕ → Type 0
+Below n o = (k : ℕ) → 0 < times k o → k < n
+
+-- an entry of a mapped list comes from an entry
+pub map-entry : (f : ℕ → ℕ) (o : List ℕ) (i : ℕ) → 0 < times i (map f o) → (x : ℕ) × (0 < times x o) × (f x ≡ i)
+unfolding times
+map-entry f [] i n = absurd (omega arith)
+map-entry f (x ∷ o) i n = each-entry (λ i. (y : ℕ) × (0 < times y (x ∷ o)) × (f y ≡ i)) (f x) (map f o) (x, once x (times x o), refl) (λ i n. let (y, h, e) = map-entry f o i n in (y, omega arith, e)) i n
+
+-- ---- rising lists
+
+abbrev pub Rises : List ℕ → Type 0
+Rises ks = (j k : ℕ) → j < k → k < length ks → getD ks j 0 < getD ks k 0
+
+from-low : (c v m k : ℕ) → k < length (membersFrom v c m) → v ≤ getD (membersFrom v c m) k 0
+unfolding membersFrom
+from-low zero v m k h = absurd (omega arith)
+from-low (suc c) v m k h = go (has m v) k h (from-low c (suc v) m)
+  where
+    rest : List ℕ
+    rest = membersFrom (suc v) c m
+
+    go : (t : Bool) (k : ℕ) → k < length (cond t (v ∷ rest) rest) → ((k : ℕ) → k < length rest → suc v ≤ getD rest k 0) → v ≤ getD (cond t (v ∷ rest) rest) k 0
+    go true zero h ih = omega arith
+    go true (suc k) h ih = omega (arith, ih k (omega arith))
+    go false k h ih = omega (arith, ih k h)
+
+from-rises : (c v m : ℕ) → Rises (membersFrom v c m)
+unfolding membersFrom
+from-rises zero v m j k l h = absurd (omega arith)
+from-rises (suc c) v m j k l h = go (has m v) j k l h (from-rises c (suc v) m)
+  where
+    rest : List ℕ
+    rest = membersFrom (suc v) c m
+
+    go : (t : Bool) (j k : ℕ) → j < k → k < length (cond t (v ∷ rest) rest) → Rises rest → getD (cond t (v ∷ rest) rest) j 0 < getD (cond t (v ∷ rest) rest) k 0
+    go true zero (suc k) l h ih = from-low c (suc v) m k (omega arith)
+    go true (suc j) (suc k) l h ih = ih j k (omega arith) (omega arith)
+    go true j zero l h ih = absurd (omega arith)
+    go false j k l h ih = ih j k l h
+
+pub members-rise : (w m : ℕ) → Rises (members w m)
+unfolding members
+members-rise w m = from-rises w 0 m
+
+module _ (ks : List ℕ) (up : Rises ks) where
+  abbrev at : ℕ → ℕ
+  at k = getD ks k 0
+
+  at-one : (j k : ℕ) → j < length ks → k < length ks → at j ≡ at k → j ≡ k
+  at-one j k a b e = go (decLt j k) (decLt k j)
+    where
+      go : Dec (j < k) → Dec (k < j) → j ≡ k
+      go (yes h) d = absurd (omega (arith, up j k h b))
+      go (no h) (yes d) = absurd (omega (arith, up k j d a))
+      go (no h) (no d) = omega arith
+
+  pub times-at : (o : List ℕ) → Below (length ks) o → (k : ℕ) → k < length ks → times (at k) (map at o) ≡ times k o
+  unfolding times
+  times-at [] b k h = refl
+  times-at (x ∷ o) b k h = ap₂ (λ (t : Bool) (n : ℕ). cond t 1 0 + n) (go (ℕ-discrete x k)) (times-at o (λ x n. b x (omega arith)) k h)
+    where
+      go : Dec (x ≡ k) → eqb (at x) (at k) ≡ eqb x k
+      go (yes e) = rw e (eq-eqb (at k) (at k) refl ∙ sym (eq-eqb k k refl))
+      go (no n) = ne-eqb (at x) (at k) (λ e. n (at-one x k (b x (once x (times x o))) h e)) ∙ sym (ne-eqb x k n)
+
+  -- positions that are all candidates'
+  pub find-at : (p : List ℕ) → ((i : ℕ) → 0 < times i p → 0 < times i ks) → (q : List ℕ) × (p ≡ map at q) × Below (length ks) q
+  unfolding times
+  find-at [] h = ([], refl, λ k n. absurd (omega arith))
+  find-at (i ∷ p) h =
+      let (k, low, e) = at-entry ks i (h i (once i (times i p))) in
+      let (q, is, b) = find-at p (λ i n. h i (omega arith)) in
+      (k ∷ q, ap₂ (λ (x : ℕ) (l : List ℕ). x ∷ l) (sym e) is, each-entry (λ x. x < length ks) k q low b)

@@ -1,0 +1,50 @@
+-- Two occurrences that do not clash commute: neither writes what the other reads, so both read the same either way, and no variable is
+-- written by both.
+use mathlib.Core.Path.{_≡_, refl, sym, _∙_, fun-ext}
+use mathlib.Core.Bool.{Bool, true, false, _&&_, _||_, or-true, or-comm}
+use Prim.Native.Nat.{ℕ}
+use lib.Bits.{bitOr}
+use Rattle.mask.specs.Mask.{has, meets}
+use Rattle.mask.proofs.Laws.{has-or, meets-none}
+use Rattle.route.specs.declared.Step.{Step}
+use Rattle.slice.specs.Precedence.{clash}
+use Rattle.theorems.specs.Values.{Store, Work, perform}
+use Rattle.theorems.proofs.Perform.{unwritten, perform-agree}
+
+pub clash-comm : (s t : Step) → clash s t ≡ clash t s
+unfolding clash
+clash-comm s t = or-comm (meets (s .writes) (bitOr (t .reads) (t .writes))) (meets (t .writes) (bitOr (s .reads) (s .writes)))
+
+-- s writes nothing that t reads or writes
+record Spares (s t : Step) : Type 0 where
+  read : (v : ℕ) → has (t .reads) v ≡ true → has (s .writes) v ≡ false
+  written : (v : ℕ) → has (t .writes) v ≡ true → has (s .writes) v ≡ false
+
+spares : (s t : Step) → clash s t ≡ false → Spares s t
+unfolding clash
+spares s t h = record { read = λ v r. free v (has-or (t .reads) (t .writes) v ∙ rw r); written = λ v w. free v (has-or (t .reads) (t .writes) v ∙ rw w (or-true (has (t .reads) v))) }
+  where
+    left : (x y : Bool) → (x || y) ≡ false → x ≡ false
+    left true y e = e
+    left false y e = refl
+
+    table : (x y : Bool) → (x && y) ≡ false → y ≡ true → x ≡ false
+    table true y e k = sym k ∙ e
+    table false y e k = refl
+
+    free : (v : ℕ) → has (bitOr (t .reads) (t .writes)) v ≡ true → has (s .writes) v ≡ false
+    free v = table (has (s .writes) v) (has (bitOr (t .reads) (t .writes)) v) (meets-none (s .writes) (bitOr (t .reads) (t .writes)) (left (meets (s .writes) (bitOr (t .reads) (t .writes))) (meets (t .writes) (bitOr (s .reads) (s .writes))) h) v)
+
+module _ {T : Type 0} (f : Work T) where
+  -- in a variable that s does not write
+  commute-at : (i j : ℕ) (s t : Step) (σ : Store T) (v : ℕ) → Spares s t → has (s .writes) v ≡ false → perform f i s (perform f j t σ) v ≡ perform f j t (perform f i s σ) v
+  commute-at i j s t σ v p w =
+      unwritten f i s (perform f j t σ) v w
+      ∙ sym (perform-agree f j t (perform f i s σ) σ v (λ u r. unwritten f i s σ u (p .read u r)) (λ e. unwritten f i s σ v w))
+
+  pub commute : (i j : ℕ) (s t : Step) (σ : Store T) → clash s t ≡ false → perform f i s (perform f j t σ) ≡ perform f j t (perform f i s σ)
+  commute i j s t σ h = fun-ext (λ v. go v (has (t .writes) v) refl)
+    where
+      go : (v : ℕ) (b : Bool) → has (t .writes) v ≡ b → perform f i s (perform f j t σ) v ≡ perform f j t (perform f i s σ) v
+      go v true w = commute-at i j s t σ v (spares s t h) (spares s t h .written v w)
+      go v false w = sym (commute-at j i t s σ v (spares t s (clash-comm t s ∙ h)) w)

@@ -1,0 +1,22 @@
+-- The theorem on values: any order of the kept that is in order leaves in each wanted variable what the whole done list left. It leaves
+-- what the kept in their own order leave, and these leave what the whole list leaves.
+use mathlib.Core.Path.{_≡_, ap, _∙_}
+use mathlib.Core.Bool.{true}
+use mathlib.Core.List.{List}
+use Prim.Native.Nat.{ℕ}
+use lib.ListN.{length}
+use Rattle.mask.specs.Mask.{has, members}
+use Rattle.route.specs.declared.Step.{Step}
+use Rattle.slice.specs.Slice.{keptMask}
+use Rattle.slice.specs.Order.{inTurn, EachOnce, inOrder}
+use Rattle.slice.proofs.Laws.{kept-below}
+use Rattle.theorems.specs.Values.{Store, Work, allBlank, performAll}
+use Rattle.theorems.proofs.Perform.{stepAt}
+use Rattle.theorems.proofs.Drop.{drop-unkept}
+use Rattle.theorems.proofs.Reorder.{reorder}
+use Rattle.theorems.proofs.Own.{own-once, own-order}
+
+pub same-values : {T : Type 0} (f : Work T) (l : List Step) (vars : ℕ) (o : List ℕ) → EachOnce (keptMask l vars) o → inOrder l o ≡ true → (v : ℕ) → has vars v ≡ true → performAll f (stepAt l) o allBlank v ≡ performAll f (stepAt l) (inTurn 0 (length l)) allBlank v
+same-values {T} f l vars o c h v w =
+    ap (λ (σ : Store T). σ v) (reorder f l (keptMask l vars) o (members (length l) (keptMask l vars)) c (own-once (length l) (keptMask l vars) (kept-below l vars)) h (own-order l (length l) (keptMask l vars)) allBlank)
+    ∙ drop-unkept f l vars v w
