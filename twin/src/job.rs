@@ -86,7 +86,7 @@ fn same_data(step: &Step, uses: &Uses, index: usize) -> bool {
 
 /// One sweep from the last occurrence to the first: one is kept when it writes
 /// a variable whose value is still wanted; then what it reads is wanted.
-fn kept(uses: &Uses, variables: u32) -> u64 {
+pub fn kept(uses: &Uses, variables: u32) -> u64 {
     let mut wanted = variables;
     let mut kept = 0;
     for index in (0..uses.len).rev() {

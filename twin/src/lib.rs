@@ -14,8 +14,10 @@ mod reader;
 mod route;
 mod rows;
 mod search;
+mod trying;
 
 pub use print::print;
+pub use trying::try_order;
 
 /// A refusal: 01's number and the second number.
 pub type Refusal = (u32, u64);

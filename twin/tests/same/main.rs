@@ -1,6 +1,7 @@
 //! The twin gives what the second program gives.
 
 mod letters;
+mod orders;
 mod random;
 
 use reference::judge::WORK;

@@ -5,6 +5,8 @@ use std::fmt::Write;
 pub struct Case {
     pub name: &'static str,
     pub sheet: Vec<u8>,
+    /// Its order is timed through try too.
+    pub tried: bool,
 }
 
 /// A dozen steps from measuring to checking; cloth is chosen beside drawing,
@@ -46,17 +48,18 @@ const NEW: &str = "\
 const DONE: [u32; 10] = [110, 120, 130, 135, 140, 150, 160, 170, 190, 180];
 
 pub fn cases() -> Vec<Case> {
-    let case = |name, text: String| Case {
+    let case = |name, text: String, tried| Case {
         name,
         sheet: text.into_bytes(),
+        tried,
     };
     vec![
-        case("usual job, moved by search", sheet(OLD, NEW, &DONE)),
-        case("refused by row 12, last done", changed()),
-        case("full sheet, straight", full()),
-        case("long listing, straight", looped()),
-        case("worst search, no order", worst()),
-        case("longest sheet", longest()),
+        case("usual job, moved by search", sheet(OLD, NEW, &DONE), true),
+        case("refused by row 12, last done", changed(), false),
+        case("full sheet, straight", full(), true),
+        case("long listing, straight", looped(), false),
+        case("worst search, no order", worst(), false),
+        case("longest sheet", longest(), false),
     ]
 }
 

@@ -1,4 +1,4 @@
-//! The engine's print and the twin's, timed on the same sheets in one run.
+//! The engine's print and try and the twin's, timed on the same sheets in one run.
 
 mod cases;
 mod stack;
@@ -11,47 +11,65 @@ const WORK: usize = 8_192;
 const OUT: usize = 16_384;
 
 fn main() {
-    println!("Times of one print, engine and twin in turn: least and median of the rounds.");
+    println!("Times of one print or try, engine and twin in turn: least and median of the rounds.");
     println!("The work and out slices are not cleared between calls.");
     println!("Stack: the engine's deepest use, in bytes.\n");
     println!(
-        "{:<29} {:>6} | {:>9} {:>9} {:>5} | {:>9} {:>9} {:>5} | {:>6} {:>6}",
-        "case", "bytes", "engine", "twin", "ratio", "engine", "twin", "ratio", "print", "try"
+        "{:<33} {:>6} | {:>9} {:>9} {:>5} | {:>9} {:>9} {:>5} | {:>6}",
+        "case", "bytes", "engine", "twin", "ratio", "engine", "twin", "ratio", "stack"
     );
-    println!(
-        "{:<36} | {:^25} | {:^25} | {:^13}",
-        "", "least", "median", "stack"
-    );
-    for case in cases::cases() {
-        row(&case);
+    println!("{:<40} | {:^25} | {:^25} |", "", "least", "median");
+    let cases = cases::cases();
+    for case in &cases {
+        print_row(case);
+    }
+    for case in cases.iter().filter(|case| case.tried) {
+        try_row(case);
     }
 }
 
 /// The row of a case, after a look that both list it alike.
-fn row(case: &Case) {
+fn print_row(case: &Case) {
     let sheet = &case.sheet[..];
-    let listing = listing(case);
-    let [engine, twin] = times(sheet);
-    let print = stack::depth(|| {
+    listing(case);
+    let stack = stack::depth(|| {
         let (mut work, mut out) = (vec![0; WORK], vec![0; OUT]);
         black_box(host::print(sheet, &mut work, &mut out));
     });
-    let order = order(&listing);
-    let tried = stack::depth(|| {
+    row(case.name, sheet.len(), print_times(sheet), stack);
+}
+
+/// The row of trying the order that the case's listing gives, after a look that
+/// both answer it alike.
+fn try_row(case: &Case) {
+    let sheet = &case.sheet[..];
+    let order = order(&listing(case));
+    let engine = host::try_order(sheet, &order);
+    let engine = (engine.number, engine.second, engine.marking);
+    assert_eq!(engine, twin::try_order(sheet, &order), "{}", case.name);
+    let stack = stack::depth(|| {
         black_box(host::try_order(sheet, &order));
     });
+    let times = timing::both(
+        || {
+            black_box(host::try_order(black_box(sheet), &order));
+        },
+        || {
+            black_box(twin::try_order(black_box(sheet), &order));
+        },
+    );
+    row(&format!("try: {}", case.name), sheet.len(), times, stack);
+}
+
+fn row(name: &str, bytes: usize, [engine, twin]: [timing::Times; 2], stack: usize) {
     println!(
-        "{:<29} {:>6} | {:>9} {:>9} {:>5.2} | {:>9} {:>9} {:>5.2} | {:>6} {:>6}",
-        case.name,
-        sheet.len(),
+        "{name:<33} {bytes:>6} | {:>9} {:>9} {:>5.2} | {:>9} {:>9} {:>5.2} | {stack:>6}",
         shown(engine.least),
         shown(twin.least),
         engine.least / twin.least,
         shown(engine.median),
         shown(twin.median),
         engine.median / twin.median,
-        print,
-        tried,
     );
 }
 
@@ -68,7 +86,7 @@ fn listing(case: &Case) -> String {
     String::from_utf8_lossy(&out).into_owned()
 }
 
-fn times(sheet: &[u8]) -> [timing::Times; 2] {
+fn print_times(sheet: &[u8]) -> [timing::Times; 2] {
     let (mut work, mut out) = (vec![0; WORK], vec![0; OUT]);
     let (mut twin_work, mut twin_out) = (work.clone(), out.clone());
     timing::both(
