@@ -1,6 +1,6 @@
 -- Copying a list of records over another, one a turn: the copied ones come first, the rest stays.
 use mathlib.Core.Path.{_≡_, refl, sym, ap, ap₂, _∙_}
-use mathlib.Core.List.{List, [], _∷_, _++_}
+use mathlib.Core.List.{List, _++_}
 use Prim.Native.Nat.{ℕ, zero, suc, _-_, _≤_, _<_}
 use native.Mathlib.Nat.{sub-zero, zero-sub, suc-sub-suc}
 use native.Mathlib.Numerals.{add-one}
@@ -9,7 +9,6 @@ use lib.ListN.{length, take, drop, getD, set, replicate, length-set}
 use lib.Seq.{take-all, take-length}
 use Rattle.route.specs.Steps.{blank}
 use Rattle.route.specs.declared.Step.{Step}
-use Rattle.route.specs.declared.Route.{Route}
 use Rattle.records.specs.Loaded.{loaded, laid}
 use Rattle.records.proofs.Laid.{laid-none, laid-more}
 

@@ -2,3 +2,4 @@
 pub mod Laid
 pub mod Copied
 pub mod Record
+pub mod OneRecord

@@ -3,7 +3,7 @@ use route::Route;
 use route::Step;
 ghost use mathlib.Core.Path.{_≡_};
 ghost use Prim.Native.Nat.{_≤_};
-ghost use lib.ListN.{length, getD, set};
+ghost use lib.ListN.{length, getD};
 ghost use Rattle.route.specs.Steps.{blank};
 ghost use Rattle.records.specs.Loaded.{loaded, laid};
 
@@ -25,7 +25,7 @@ pub fn load(places: u64, steps: &[Step]) -> Route
     }
     let mut i = 0;
     while i < n {
-        copied[i] = steps[i];
+        copied[i] = record_at(steps, i);
         i += 1;
     }
     Route {
@@ -60,15 +60,5 @@ pub fn record_at(steps: &[Step], i: usize) -> Step
         outs: 0,
         reads: 0,
         writes: 0,
-    }
-}
-
-// Puts s at i. Past the end the list stays as it was.
-pub fn store(steps: &mut [Step], i: usize, s: Step)
-    ensures { λ _. ⌜ now (steps .exit) ≡ set (now (steps .entry)) i s ⌝ }
-{
-    let len = steps.len();
-    if i < len {
-        steps[i] = s;
     }
 }
