@@ -1,68 +1,33 @@
--- The rows of lines in turn: what a loop over them meets. A line that passes leaves the rows of those below it, and a line that refuses
--- is the answer.
+-- The rows of lines in turn: what a loop over them meets. A line that passes leaves the rows of those below it, and a
+-- line that refuses is the answer.
 use mathlib.Core.Path.{_≡_, refl, sym, ap, ap₂, _∙_}
-use mathlib.Core.Bool.{Bool, true, false, not, cond}
+use mathlib.Core.Bool.{Bool, true, false, not}
 use mathlib.Core.List.{List, [], _∷_, _++_}
 use Prim.Native.Nat.{ℕ, zero, suc, _+_, _≤_, _<_}
+use native.Mathlib.Nat.{not-suc-le-zero}
 use native.Mathlib.Omega.{arith}
 use native.Mathlib.Numerals.{add-one}
 use lib.Dec.{eqb, ltb, leb}
-use lib.ListN.{length, take, drop, getD, set, drop-of-length-le, length-append}
-use lib.Seq.{take-suc-set, length-take-le, drop-cons}
+use lib.ListN.{length, drop, getD, drop-of-length-le, length-append}
+use lib.Seq.{drop-cons}
 use borrow.Author.Tests.{le-ltb, lt-ltb, ltb-true, leb-true, not-true, not-false, eqb-false, eq-eqb, ne-eqb}
 use Rattle.mask.proofs.Truth.{both}
 use Rattle.refusal.specs.Rows.{pass, refuse, unless, first}
 use Rattle.route.specs.declared.Step.{Step}
 use Rattle.refusal.specs.declared.Outcome.{Outcome}
 use Rattle.refusal.proofs.Rows.{head-refuses, head-passes, head-passed, row-refuses, row-passes, row-passed, rows-end, rows-pass, rows-refuse, rows-passed}
-use Rattle.job.specs.Lines.{stepRow, stepRows, routeRows, doneRow, doneRows, lineRows, nameFits, placesFit}
+use Rattle.job.specs.Lines.{stepRow, stepRows, routeRows, doneRow, doneRows, lineRows, nameFits, placesFit, LinesPass}
+use Rattle.job.specs.Run.{AllNamed}
 use Rattle.job.specs.Job.{Job, afterSteps, newLine, jobLine}
-
--- ---- the steps of a route; `column` holds the names of those passed
-
-module _ (line places : ℕ) (column : List ℕ) (i : ℕ) (s : Step) (l k : List Step) (whole o : Outcome) (on : l ≡ s ∷ k) (inv : first (stepRows (line + i) places (take i column) l) ≡ whole) where
-  here : first (stepRow (line + i) places (take i column) s ∷ stepRows (line + i + 1) places (take i column ++ (s .name ∷ [])) k) ≡ whole
-  unfolding stepRows
-  here = ap (λ (x : List Step). first (stepRows (line + i) places (take i column) x)) (sym on) ∙ inv
-
-  pub step-refused : o ≡ stepRow (line + i) places (take i column) s → eqb (o .number) 0 ≡ false → o ≡ whole
-  step-refused is fails = is ∙ sym (head-refuses _ _ (ap (λ (x : Outcome). eqb (x .number) 0) (sym is) ∙ fails)) ∙ here
-
-  pub step-passed : o ≡ stepRow (line + i) places (take i column) s → eqb (o .number) 0 ≡ true → i < length column → first (stepRows (line + (i + 1)) places (take (i + 1) (set column i (s .name))) k) ≡ whole
-  step-passed is ok room =
-      ap₂ (λ (n : ℕ) (x : List ℕ). first (stepRows n places x k)) line-on names-on
-      ∙ sym (head-passes _ _ (ap (λ (x : Outcome). eqb (x .number) 0) (sym is) ∙ ok))
-      ∙ here
-    where
-      line-on : line + (i + 1) ≡ line + i + 1
-      line-on = omega arith
-
-      names-on : take (i + 1) (set column i (s .name)) ≡ take i column ++ (s .name ∷ [])
-      names-on = ap (λ (n : ℕ). take n (set column i (s .name))) (add-one i) ∙ take-suc-set column i (s .name) room
-
-  -- the 65th
-  pub step-over : o ≡ refuse 4 (line + 64) → i ≡ 64 → length column ≡ 64 → o ≡ whole
-  step-over is at full = is ∙ ap (λ (n : ℕ). refuse 4 (line + n)) (sym at) ∙ sym (head-refuses _ _ four) ∙ ap (λ (x : Outcome). first (x ∷ stepRows (line + i + 1) places (take i column ++ (s .name ∷ [])) k)) (sym refused) ∙ here
-    where
-      long : length (take i column) ≡ i
-      long = length-take-le i column (omega arith)
-
-      refused : stepRow (line + i) places (take i column) s ≡ refuse 4 (line + i)
-      refused = unfold stepRow in row-refuses _ 4 (line + i) _ (le-ltb (length (take i column)) 64 (omega (arith, long))) refl
-
-      four : eqb (refuse 4 (line + i) .number) 0 ≡ false
-      four = refl
-
-pub steps-passed : (line places : ℕ) (earlier : List ℕ) (l : List Step) (whole : Outcome) → l ≡ [] → first (stepRows line places earlier l) ≡ whole → pass ≡ whole
-unfolding stepRows
-steps-passed line places earlier l whole e inv = sym rows-end ∙ ap (λ (x : List Step). first (stepRows line places earlier x)) (sym e) ∙ inv
 
 -- ---- the done lines
 
 module _ (line i : ℕ) (done : List ℕ) (whole o : Outcome) where
   pub done-end : length done ≤ i → first (doneRows (line + i) i (drop i done)) ≡ whole → o ≡ pass → o ≡ whole
   unfolding doneRows
-  done-end h inv is = is ∙ sym rows-end ∙ ap (λ (x : List ℕ). first (doneRows (line + i) i x)) (sym (drop-of-length-le done {i = i} h)) ∙ inv
+  done-end h inv is =
+      is ∙ sym rows-end ∙ ap (λ (x : List ℕ). first (doneRows (line + i) i x)) (sym (drop-of-length-le done {i = i} h))
+      ∙ inv
 
   module _ (more : i < length done) (inv : first (doneRows (line + i) i (drop i done)) ≡ whole) where
     at-line : first (doneRow (line + i) i (getD done i 0) ∷ doneRows (line + i + 1) (i + 1) (drop (suc i) done)) ≡ whole
@@ -71,7 +36,9 @@ module _ (line i : ℕ) (done : List ℕ) (whole o : Outcome) where
 
     -- the 65th
     pub done-over : o ≡ refuse 4 (line + 64) → i ≤ 64 → 64 ≤ i → o ≡ whole
-    done-over is low high = is ∙ ap (λ (n : ℕ). refuse 4 (line + n)) at ∙ sym (head-refuses _ _ refl) ∙ ap (λ (x : Outcome). first (x ∷ doneRows (line + i + 1) (i + 1) (drop (suc i) done))) (sym refused) ∙ at-line
+    done-over is low high =
+        is ∙ ap (λ (n : ℕ). refuse 4 (line + n)) at ∙ sym (head-refuses _ _ refl)
+        ∙ ap (λ (x : Outcome). first (x ∷ doneRows (line + i + 1) (i + 1) (drop (suc i) done))) (sym refused) ∙ at-line
       where
         at : 64 ≡ i
         at = omega arith
@@ -79,22 +46,36 @@ module _ (line i : ℕ) (done : List ℕ) (whole o : Outcome) where
         refused : doneRow (line + i) i (getD done i 0) ≡ refuse 4 (line + i)
         refused = unfold doneRow in row-refuses _ 4 (line + i) _ (le-ltb i 64 high) refl
 
-    pub done-refused : (f : Bool) → i < 64 → f ≡ nameFits (getD done i 0) → not f ≡ true → o ≡ refuse 2 (line + i) → o ≡ whole
-    done-refused f low is fails to = to ∙ sym (head-refuses _ _ refl) ∙ ap (λ (x : Outcome). first (x ∷ doneRows (line + i + 1) (i + 1) (drop (suc i) done))) (sym refused) ∙ at-line
+    pub done-refused : (f : Bool) → i < 64 → f ≡ nameFits (getD done i 0) → not f ≡ true → o ≡ refuse 2 (line + i)
+        → o ≡ whole
+    done-refused f low is fails to =
+        to ∙ sym (head-refuses _ _ refl)
+        ∙ ap (λ (x : Outcome). first (x ∷ doneRows (line + i + 1) (i + 1) (drop (suc i) done))) (sym refused) ∙ at-line
       where
         refused : doneRow (line + i) i (getD done i 0) ≡ refuse 2 (line + i)
-        refused = unfold doneRow in row-passes _ 4 (line + i) _ (lt-ltb i 64 low) ∙ row-refuses (nameFits (getD done i 0)) 2 (line + i) [] (sym is ∙ not-true f fails) refl
+        refused =
+            unfold doneRow in row-passes _ 4 (line + i) _ (lt-ltb i 64 low)
+            ∙ row-refuses (nameFits (getD done i 0)) 2 (line + i) [] (sym is ∙ not-true f fails) refl
 
-    pub done-passed : (f : Bool) → i < 64 → f ≡ nameFits (getD done i 0) → not f ≡ false → first (doneRows (line + (i + 1)) (i + 1) (drop (i + 1) done)) ≡ whole
-    done-passed f low is passes = ap₂ (λ (n k : ℕ). first (doneRows n (i + 1) (drop k done))) line-on (add-one i) ∙ sym (head-passes _ _ (ap (λ (x : Outcome). eqb (x .number) 0) passed)) ∙ at-line
+    pub done-passed : (f : Bool) → i < 64 → f ≡ nameFits (getD done i 0) → not f ≡ false
+        → first (doneRows (line + (i + 1)) (i + 1) (drop (i + 1) done)) ≡ whole
+    done-passed f low is passes =
+        ap₂ (λ (n k : ℕ). first (doneRows n (i + 1) (drop k done))) line-on (add-one i)
+        ∙ sym (head-passes _ _ (ap (λ (x : Outcome). eqb (x .number) 0) passed)) ∙ at-line
       where
         line-on : line + (i + 1) ≡ line + i + 1
         line-on = omega arith
 
         passed : doneRow (line + i) i (getD done i 0) ≡ pass
-        passed = unfold doneRow in row-passes _ 4 (line + i) _ (lt-ltb i 64 low) ∙ row-passes (nameFits (getD done i 0)) 2 (line + i) [] (sym is ∙ not-false f passes) ∙ rows-end
+        passed =
+            unfold doneRow in row-passes _ 4 (line + i) _ (lt-ltb i 64 low)
+            ∙ row-passes (nameFits (getD done i 0)) 2 (line + i) [] (sym is ∙ not-false f passes) ∙ rows-end
 
 -- ---- a route's lines from its head on
+
+pub places-bound : (places : ℕ) → placesFit places ≡ true → places ≤ 64
+unfolding placesFit
+places-bound places e = leb-true places 64 (both (leb 1 places) (leb places 64) e .1)
 
 module _ (line places : ℕ) (l : List Step) (f : Bool) (fits : f ≡ placesFit places) where
   pub route-two : (o : Outcome) → not f ≡ true → o ≡ refuse 2 line → o ≡ first (routeRows line places l)
@@ -110,9 +91,11 @@ module _ (line places : ℕ) (l : List Step) (f : Bool) (fits : f ≡ placesFit 
 
     pub route-steps : eqb (o .number) 0 ≡ false → o ≡ first (routeRows line places l)
     unfolding routeRows
-    route-steps fails = lines ∙ sym (rows-refuse (stepRows (line + 1) places [] l) _ (sym number-is ∙ fails)) ∙ sym (after-head _)
+    route-steps fails =
+        lines ∙ sym (rows-refuse (stepRows (line + 1) places [] l) _ (sym number-is ∙ fails)) ∙ sym (after-head _)
 
-    pub route-none : (p : Outcome) → eqb (o .number) 0 ≡ true → length l ≡ 0 → p ≡ refuse 4 (line + 1) → p ≡ first (routeRows line places l)
+    pub route-none : (p : Outcome) → eqb (o .number) 0 ≡ true → length l ≡ 0 → p ≡ refuse 4 (line + 1)
+        → p ≡ first (routeRows line places l)
     unfolding routeRows
     route-none p passes none to =
         to ∙ ap (λ (n : ℕ). refuse 4 n) next
@@ -123,7 +106,8 @@ module _ (line places : ℕ) (l : List Step) (f : Bool) (fits : f ≡ placesFit 
         next : line + 1 ≡ afterSteps line l
         next = omega arith
 
-    pub route-pass : (p : Outcome) → eqb (o .number) 0 ≡ true → (length l ≡ 0 → ⊥) → p ≡ pass → p ≡ first (routeRows line places l)
+    pub route-pass : (p : Outcome) → eqb (o .number) 0 ≡ true → (length l ≡ 0 → ⊥) → p ≡ pass
+        → p ≡ first (routeRows line places l)
     unfolding routeRows
     route-pass p passes some to =
         to ∙ sym rows-end
@@ -133,17 +117,22 @@ module _ (line places : ℕ) (l : List Step) (f : Bool) (fits : f ≡ placesFit 
 
 -- ---- what lines that pass have: no list is over 64, and each route has a step
 
-steps-short : (line places : ℕ) (earlier : List ℕ) (l : List Step) → length earlier ≤ 64 → eqb (first (stepRows line places earlier l) .number) 0 ≡ true → length earlier + length l ≤ 64
+steps-short : (line places : ℕ) (earlier : List ℕ) (l : List Step) → length earlier ≤ 64
+    → eqb (first (stepRows line places earlier l) .number) 0 ≡ true → length earlier + length l ≤ 64
 unfolding stepRows stepRow
 steps-short line places earlier [] h e = omega arith
 steps-short line places earlier (s ∷ l) h e =
-    let now = head-passed (stepRow line places earlier s) (stepRows (line + 1) places (earlier ++ (s .name ∷ [])) l) e in
-    let room : length earlier < 64 = ltb-true (length earlier) 64 (row-passed (ltb (length earlier) 64) 4 line _ refl (now .0) .0) in
+    let now =
+    head-passed (stepRow line places earlier s) (stepRows (line + 1) places (earlier ++ (s .name ∷ [])) l) e in
+    let room : length earlier < 64 =
+    ltb-true (length earlier) 64 (row-passed (ltb (length earlier) 64) 4 line _ refl (now .0) .0) in
     let longer : length (earlier ++ (s .name ∷ [])) ≡ length earlier + 1 = length-append earlier (s .name ∷ []) in
-    let rest : length (earlier ++ (s .name ∷ [])) + length l ≤ 64 = steps-short (line + 1) places (earlier ++ (s .name ∷ [])) l (omega arith) (now .1) in
+    let rest : length (earlier ++ (s .name ∷ [])) + length l ≤ 64 =
+    steps-short (line + 1) places (earlier ++ (s .name ∷ [])) l (omega arith) (now .1) in
     omega arith
 
-done-short : (line above : ℕ) (l : List ℕ) → above ≤ 64 → eqb (first (doneRows line above l) .number) 0 ≡ true → above + length l ≤ 64
+done-short : (line above : ℕ) (l : List ℕ) → above ≤ 64 → eqb (first (doneRows line above l) .number) 0 ≡ true
+    → above + length l ≤ 64
 unfolding doneRows doneRow
 done-short line above [] h e = omega arith
 done-short line above (n ∷ l) h e =
@@ -157,15 +146,33 @@ pub record RouteFits (places : ℕ) (l : List Step) : Type 0 where
   pub steps-fit : length l ≤ 64
   pub some-step : 0 < length l
 
-pub route-fits : (line places : ℕ) (l : List Step) → eqb (first (routeRows line places l) .number) 0 ≡ true → RouteFits places l
-unfolding routeRows placesFit
+pub route-fits : (line places : ℕ) (l : List Step) → eqb (first (routeRows line places l) .number) 0 ≡ true
+    → RouteFits places l
+unfolding routeRows
 route-fits line places l e =
     let head = row-passed (placesFit places) 2 line _ refl e in
     let lines = rows-passed (stepRows (line + 1) places [] l) _ (head .1) in
     let bound : 0 + length l ≤ 64 = steps-short (line + 1) places [] l (omega arith) (lines .0) in
     let some = row-passed (not (eqb (length l) 0)) 4 (afterSteps line l) [] refl (lines .1) in
     let filled : (length l ≡ 0) → ⊥ = eqb-false (length l) 0 (not-true (eqb (length l) 0) (some .0)) in
-    record { places-fit = leb-true places 64 (both (leb 1 places) (leb places 64) (head .0) .1); steps-fit = omega arith; some-step = omega arith }
+    record { places-fit = places-bound places (head .0); steps-fit = omega arith; some-step = omega arith }
+
+-- each done name is at least 1
+done-named : (line above : ℕ) (l : List ℕ) → eqb (first (doneRows line above l) .number) 0 ≡ true → AllNamed l
+unfolding doneRows doneRow nameFits
+done-named line above [] e i h = absurd (not-suc-le-zero h)
+done-named line above (n ∷ l) e i h =
+    go i h (head-passed (doneRow line above n) (doneRows (line + 1) (above + 1) l) e)
+    (done-named (line + 1) (above + 1) l)
+  where
+    go : (i : ℕ) → i < length (n ∷ l)
+        → (eqb (doneRow line above n .number) 0 ≡ true)
+        × (eqb (first (doneRows (line + 1) (above + 1) l) .number) 0 ≡ true)
+        → (eqb (first (doneRows (line + 1) (above + 1) l) .number) 0 ≡ true → AllNamed l) → 1 ≤ getD (n ∷ l) i 0
+    go zero h now ih =
+        let fits = row-passed (ltb above 64) 4 line (unless (nameFits n) 2 line ∷ []) refl (now .0) .1 in
+        leb-true 1 n (both (leb 1 n) (leb n 65535) (row-passed (nameFits n) 2 line [] refl fits .0) .0)
+    go (suc i) h now ih = ih (now .1) i (omega arith)
 
 pub done-fits : (line : ℕ) (l : List ℕ) → eqb (first (doneRows line 0 l) .number) 0 ≡ true → length l ≤ 64
 done-fits line l e = omega (arith, done-short line 0 l (omega arith) e)
@@ -180,7 +187,8 @@ module _ (j : Job) (a : Outcome) (is : a ≡ first (routeRows 1 (j .oldPlaces) (
   unfolding lineRows
   lines-old e = is ∙ sym (rows-refuse (routeRows 1 (j .oldPlaces) (j .old)) _ (old-number ∙ e))
 
-  module _ (passes : eqb (a .number) 0 ≡ true) (b : Outcome) (then : b ≡ first (routeRows (newLine j) (j .newPlaces) (j .new))) where
+  module _ (passes : eqb (a .number) 0 ≡ true) (b : Outcome)
+      (then : b ≡ first (routeRows (newLine j) (j .newPlaces) (j .new))) where
     new-number : eqb (first (routeRows (newLine j) (j .newPlaces) (j .new)) .number) 0 ≡ eqb (b .number) 0
     new-number = ap (λ (o : Outcome). eqb (o .number) 0) (sym then)
 
@@ -190,7 +198,8 @@ module _ (j : Job) (a : Outcome) (is : a ≡ first (routeRows 1 (j .oldPlaces) (
         then ∙ sym (rows-refuse (routeRows (newLine j) (j .newPlaces) (j .new)) _ (new-number ∙ e))
         ∙ sym (rows-pass (routeRows 1 (j .oldPlaces) (j .old)) _ (old-number ∙ passes))
 
-    pub lines-done : eqb (b .number) 0 ≡ true → (o : Outcome) → o ≡ first (doneRows (jobLine j + 1) 0 (j .done)) → o ≡ first (lineRows j)
+    pub lines-done : eqb (b .number) 0 ≡ true → (o : Outcome) → o ≡ first (doneRows (jobLine j + 1) 0 (j .done))
+        → o ≡ first (lineRows j)
     unfolding lineRows
     lines-done e o last =
         last ∙ sym (rows-pass (routeRows (newLine j) (j .newPlaces) (j .new)) _ (new-number ∙ e))
@@ -201,6 +210,7 @@ pub record LinesFit (j : Job) : Type 0 where
   pub old-fits : RouteFits (j .oldPlaces) (j .old)
   pub new-fits : RouteFits (j .newPlaces) (j .new)
   pub done-fit : length (j .done) ≤ 64
+  pub done-names : AllNamed (j .done)
 
 pub lines-fit : (j : Job) → eqb (first (lineRows j) .number) 0 ≡ true → LinesFit j
 unfolding lineRows
@@ -211,4 +221,9 @@ lines-fit j e =
       old-fits = route-fits 1 (j .oldPlaces) (j .old) (one .0);
       new-fits = route-fits (newLine j) (j .newPlaces) (j .new) (two .0);
       done-fit = done-fits (jobLine j + 1) (j .done) (two .1);
+      done-names = done-named (jobLine j + 1) 0 (j .done) (two .1);
     }
+
+-- the same by the lines' number
+pub pass-fits : (j : Job) → LinesPass j → LinesFit j
+pass-fits j e = lines-fit j (eq-eqb (first (lineRows j) .number) 0 e)

@@ -3,6 +3,7 @@ use mathlib.Core.List.{List}
 use Prim.Native.Nat.{ℕ, _+_}
 use lib.ListN.{length}
 use Rattle.route.specs.Steps.{stepsOf}
+use Rattle.route.specs.Flat.{stepsIn}
 use Rattle.route.specs.Firing.{start}
 use Rattle.route.specs.declared.Step.{Step}
 use Rattle.route.specs.declared.Route.{Route}
@@ -16,7 +17,13 @@ pub record Job : Type 0 where
 
 -- the job of two routes by value and a done list
 abbrev pub jobOf : Route → Route → List ℕ → Job
-jobOf old new done = record { oldPlaces = old .places; old = stepsOf old; newPlaces = new .places; new = stepsOf new; done = done }
+jobOf old new done =
+    record { oldPlaces = old .places; old = stepsOf old; newPlaces = new .places; new = stepsOf new; done = done }
+
+-- the job of two lists of steps as numbers and a done list
+abbrev pub flatJob : ℕ → List ℕ → ℕ → List ℕ → List ℕ → Job
+flatJob oldPlaces old newPlaces new done =
+    record { oldPlaces = oldPlaces; old = stepsIn old; newPlaces = newPlaces; new = stepsIn new; done = done }
 
 -- where runs, replays and fit orders begin: the start of the old route, and of the new
 abbrev pub oldStart : Job → ℕ

@@ -2,3 +2,4 @@
 pub mod Job
 pub mod Lines
 pub mod Run
+pub mod Alone

@@ -1,8 +1,8 @@
 -- Rows 4, 2, 3 and 5: each line, top down, and for each line the rows in this order.
 use mathlib.Core.Path.{_≡_}
-use mathlib.Core.Bool.{Bool, true, false, not, _&&_, _||_}
+use mathlib.Core.Bool.{Bool, false, not, _&&_, _||_}
 use mathlib.Core.List.{List, [], _∷_, _++_}
-use Prim.Native.Nat.{ℕ, zero, suc, _+_}
+use Prim.Native.Nat.{ℕ, _+_}
 use lib.Dec.{eqb, ltb, leb}
 use lib.Bits.{bitOr}
 use lib.ListN.{length}
@@ -52,7 +52,8 @@ stepRow line places earlier s =
 
 unfoldable pub stepRows : ℕ → ℕ → List ℕ → List Step → List Outcome
 stepRows line places earlier [] = []
-stepRows line places earlier (s ∷ l) = stepRow line places earlier s ∷ stepRows (line + 1) places (earlier ++ (s .name ∷ [])) l
+stepRows line places earlier (s ∷ l) =
+    stepRow line places earlier s ∷ stepRows (line + 1) places (earlier ++ (s .name ∷ [])) l
 
 -- a route's lines from its head on, and row 4 of a route with no step, at the line that follows
 unfoldable pub routeRows : ℕ → ℕ → List Step → List Outcome

@@ -1,14 +1,12 @@
 -- That the code gives what the specs say.
-pub mod Answer
-pub mod Chosen
-pub mod Front
-pub mod Judges
-pub mod Lent
-pub mod Located
-pub mod MovesTo
+pub mod Filling
 pub mod Padded
-pub mod Picks
-pub mod Same
-pub mod Shown
-pub mod Whole
-pub mod Writers
+pub mod AfterRows
+pub mod LastWriters
+pub mod Gathering
+pub mod Decoding
+pub mod CandidateColumns
+pub mod FirstFit
+pub mod JudgeRows
+pub mod JudgeOperation
+pub mod LongLists

@@ -10,14 +10,9 @@ use lib.Seq.{length-take-le, getD-take, ext-getD}
 use borrow.Author.Tests.{ltb-true, ltb-false}
 use Rattle.mask.proofs.Truth.{split}
 use Rattle.slice.specs.Order.{inTurn}
-use Rattle.slice.proofs.Filled.{turn-at}
 use Rattle.judging.specs.Judge.{padded}
-use Rattle.judging.proofs.Front.{turn-length}
-
-pub zeros-at : (n k : ℕ) → getD {A = ℕ} (replicate n 0) k 0 ≡ 0
-zeros-at zero k = refl
-zeros-at (suc n) zero = refl
-zeros-at (suc n) (suc k) = zeros-at n k
+use Rattle.slice.proofs.Filled.{zeros-at}
+use Rattle.slice.proofs.InTurn.{length-inTurn, getD-map-inTurn}
 
 zeros-behind : (x : List ℕ) (n k : ℕ) → getD (x ++ replicate n 0) k 0 ≡ getD x k 0
 zeros-behind [] n k = zeros-at n k
@@ -27,24 +22,25 @@ zeros-behind (a ∷ x) n (suc k) = zeros-behind x n k
 pub padded-is : (n : ℕ) (x a : List ℕ) → length a ≡ n → ((k : ℕ) → getD a k 0 ≡ getD x k 0) → a ≡ padded n x
 unfolding padded
 padded-is n x a long e =
-    ext-getD 0 a (take n (x ++ replicate n 0)) (long ∙ sym (length-take-le n (x ++ replicate n 0) (omega (arith, length-append x (replicate n 0), length-replicate {A = ℕ} n 0))))
+    ext-getD 0 a (take n (x ++ replicate n 0))
+    (long ∙ sym (length-take-le n (x ++ replicate n 0) (omega (arith, length-append x (replicate n 0), length-replicate {A = ℕ} n 0))))
     (λ k h. e k ∙ sym (getD-take n (x ++ replicate n 0) k 0 (omega arith) ∙ zeros-behind x n k))
 
-number-in : (o : List ℕ) (k : ℕ) → k < length o → getD (map suc o) k 0 ≡ suc (getD o k 0)
-number-in [] k h = absurd (omega arith)
-number-in (x ∷ o) zero h = refl
-number-in (x ∷ o) (suc k) h = number-in o k (omega arith)
+pub map-at : (f : ℕ → ℕ) (o : List ℕ) (k : ℕ) → k < length o → getD (map f o) k 0 ≡ f (getD o k 0)
+map-at f [] k h = absurd (omega arith)
+map-at f (x ∷ o) zero h = refl
+map-at f (x ∷ o) (suc k) h = map-at f o k (omega arith)
 
 -- the occurrence number at k
 pub number-at : (o : List ℕ) (k : ℕ) → getD (map suc o) k 0 ≡ cond (ltb k (length o)) (suc (getD o k 0)) 0
 number-at o k =
     split (λ (t : Bool). getD (map suc o) k 0 ≡ cond t (suc (getD o k 0)) 0) (ltb k (length o))
-    (λ e. number-in o k (ltb-true k (length o) e))
+    (λ e. map-at suc o k (ltb-true k (length o) e))
     (λ e. List·getD-eq-default (map suc o) 0 (omega (arith, length-map o suc, ltb-false k (length o) e)))
 
 -- all in turn
 pub turn-number : (n k : ℕ) → getD (map suc (inTurn 0 n)) k 0 ≡ cond (ltb k n) (k + 1) 0
 turn-number n k =
     split (λ (t : Bool). getD (map suc (inTurn 0 n)) k 0 ≡ cond t (k + 1) 0) (ltb k n)
-    (λ e. turn-at suc 0 n k (ltb-true k n e) ∙ omega arith)
-    (λ e. List·getD-eq-default (map suc (inTurn 0 n)) 0 (omega (arith, length-map (inTurn 0 n) suc, turn-length 0 n, ltb-false k n e)))
+    (λ e. getD-map-inTurn suc 0 n k (ltb-true k n e) ∙ omega arith)
+    (λ e. List·getD-eq-default (map suc (inTurn 0 n)) 0 (omega (arith, length-map (inTurn 0 n) suc, length-inTurn 0 n, ltb-false k n e)))

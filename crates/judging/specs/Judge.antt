@@ -1,16 +1,16 @@
 -- The operation judge: the straight list where there is one, else the first fit list, and all that the listing shows of it.
-use mathlib.Core.Bool.{Bool, true, false, not, cond, _&&_}
+use mathlib.Core.Bool.{Bool, not, cond, _&&_}
 use mathlib.Core.List.{List, [], _∷_, _++_, map}
 use mathlib.Core.Option.{Option, none, some, Option·getD, Option·map}
-use Prim.Native.Nat.{ℕ, zero, suc, _-_}
+use Prim.Native.Nat.{ℕ, suc, _-_}
 use lib.Dec.{eqb, leb}
 use lib.ListN.{length, getD, take, drop, replicate}
 use lib.Bits.{bitAnd}
 use Rattle.mask.specs.Mask.{has, below, members, count}
 use Rattle.route.specs.declared.Step.{Step}
 use Rattle.job.specs.Job.{Job, jobLine, newStart}
-use Rattle.job.specs.Run.{ran}
-use Rattle.slice.specs.Slice.{performed, variables}
+use Rattle.job.specs.Run.{ran, performed}
+use Rattle.slice.specs.Slice.{variables}
 use Rattle.slice.specs.Precedence.{row}
 use Rattle.slice.specs.Order.{inTurn}
 use Rattle.matching.specs.Straight.{fireAll, stepsOn, runsStraight}
@@ -38,7 +38,7 @@ unfoldable pub writerOf : List Step → List Step → ℕ → ℕ
 writerOf new l v = cond (has (variables new) v) (lastWriter v 0 l) 0
 
 abbrev pub judgeStopped : ℕ → ℕ → Judged
-judgeStopped n k = record { number = n; second = k; kept = 0; dropped = 0; len = 0; order = replicate 64 0; marking = 0; after = replicate 64 0; writers = replicate 32 0 }
+judgeStopped n k = record { number = n; second = k; kept = 0; dropped = 0; len = 0; order = replicate 64 0; marking = record { tokens = 0 }; after = replicate 64 0; writers = replicate 32 0 }
 
 -- a list of positions, and what is kept with it
 unfoldable pub answer : ℕ → List Step → List Step → ℕ → List ℕ → Judged
@@ -50,7 +50,7 @@ answer from new l kept o =
       dropped = length l - count 64 kept;
       len = length o;
       order = padded 64 (map suc o);
-      marking = Option·getD (fireAll new from (stepsOn l o)) 0;
+      marking = record { tokens = Option·getD (fireAll new from (stepsOn l o)) 0 };
       after = map (afterOf l kept) (inTurn 0 64);
       writers = map (writerOf new l) (inTurn 0 32);
     }

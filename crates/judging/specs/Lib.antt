@@ -1,4 +1,6 @@
 -- The operation judge.
 pub mod Judge
 pub mod Placing
-pub mod Told
+pub mod Columns
+pub mod Passing
+pub mod Answers

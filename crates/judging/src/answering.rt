@@ -1,87 +1,68 @@
-// What the listing shows of an order.
+// What the listing shows of a list of occurrences.
 use crate::Judged;
-use slice::Cut;
+use crate::Placed;
+use route::Marking;
+use route::flat;
 ghost use mathlib.Core.Path.{_≡_};
 ghost use mathlib.Core.Bool.{cond};
 ghost use mathlib.Core.List.{List, map};
-ghost use mathlib.Core.Option.{Option·getD};
 ghost use Prim.Native.Nat.{ℕ, suc, _≤_, _<_};
-ghost use lib.Bits.{bitAnd};
 ghost use lib.ListN.{length, getD};
 ghost use Rattle.mask.specs.Mask.{has, count};
 ghost use Rattle.route.specs.declared.Step.{Step};
+ghost use Rattle.route.specs.Flat.{stepsIn};
 ghost use Rattle.slice.specs.Slice.{variables};
 ghost use Rattle.slice.specs.Order.{inTurn};
 ghost use Rattle.slice.specs.Table.{table};
-ghost use Rattle.slice.specs.Uses.{writesOf, CutOf};
-ghost use Rattle.matching.specs.Straight.{fireAll, stepsOn};
-ghost use Rattle.judging.specs.Judge.{padded, afterOf, writerOf, judgeStopped, answer};
+ghost use Rattle.judging.specs.Judge.{padded, afterOf, writerOf, judgeStopped};
+ghost use Rattle.judging.specs.Answers.{Shows};
 
-// The row of occurrence i, if that is kept, with the kept alone.
-fn after_row(row: u64, kept: u64, i: usize) -> u64
-    requires { ⌜ i < 64 ⌝ }
-    ensures { λ r. ⌜ r ≡ cond (has kept i) (bitAnd row kept) 0 ⌝ }
-{
-    if mask::holds64(kept, i) {
-        return row & kept;
-    }
-    0
-}
-
-pub fn after_rows(rows: [u64; 64], kept: u64) -> [u64; 64]
-    ensures { λ r. ⌜ ((l : List Step) → rows ≡ table l → r ≡ map (afterOf l kept) (inTurn 0 64)) ⌝ }
+// The rows of the kept, with the kept alone.
+pub fn after_rows(rows: &[u64; 64], kept: u64) -> [u64; 64]
+    ensures { λ r. ⌜ ((l : List Step) → now (rows .entry) ≡ table l → r ≡ map (afterOf l kept) (inTurn 0 64)) ⌝ }
 {
     let mut after = [0u64; 64];
-    let mut i = 0;
-    while i < 64 {
-        after[i] = after_row(rows[i], kept, i);
-        i += 1;
+    let mut left = kept;
+    while left != 0 {
+        let i = u64::trailing_zeros(left) as usize;
+        left = left & (left - 1);
+        after[i] = rows[i] & kept;
     }
     after
 }
 
-// The number where v is in the mask, and else what was there.
-fn writer(hit: u32, v: usize, number: u8, old: u8) -> u8
-    requires { ⌜ v < 32 ⌝ }
-    ensures { λ r. ⌜ r ≡ cond (has hit v) number old ⌝ }
-{
-    if mask::holds32(hit, v) {
-        return number;
-    }
-    old
-}
-
 // The number for each variable of the mask.
-fn mark_writers(old: [u8; 32], hit: u32, number: u8) -> [u8; 32]
-    ensures { λ r. ⌜ ((v : ℕ) → v < 32 → getD r v 0 ≡ cond (has hit v) number (getD old v 0)) ⌝ }
+fn mark_writers(writers: &mut [u8; 32], hit: u32, number: u8)
+    requires { ⌜ length (now writers) ≡ 32 ⌝ }
+    ensures { λ _. ⌜ length (now (writers .exit)) ≡ 32 ⌝ }
+    ensures { λ _. ⌜ ((v : ℕ) → v < 32 → getD (now (writers .exit)) v 0 ≡ cond (has hit v) number (getD (now (writers .entry)) v 0)) ⌝ }
 {
-    let mut writers = old;
-    let mut v = 0;
-    while v < 32 {
-        writers[v] = writer(hit, v, number, old[v]);
-        v += 1;
+    let mut left = hit;
+    while left != 0 {
+        let v = u32::trailing_zeros(left) as usize;
+        left = left & (left - 1);
+        writers[v] = number;
     }
-    writers
 }
 
-// The last writer of each of the variables: from the last occurrence to the first, each variable's first.
-pub fn last_writers(writes: &[u32], vars: u32) -> [u8; 32]
-    requires { ⌜ length (now writes) ≤ 64 ⌝ }
-    ensures { λ r. ⌜ ((new l : List Step) → vars ≡ variables new → now (writes .entry) ≡ writesOf l → r ≡ map (writerOf new l) (inTurn 0 32)) ⌝ }
+// The last writer of each of the variables: from the last occurrence to the first, over the variables that no later one writes.
+pub fn last_writers(occurrences: &[u64], vars: u32) -> [u8; 32]
+    requires { ⌜ length (stepsIn (now occurrences)) ≤ 64 ⌝ }
+    ensures { λ r. ⌜ ((new : List Step) → vars ≡ variables new → r ≡ map (writerOf new (stepsIn (now (occurrences .entry)))) (inTurn 0 32)) ⌝ }
 {
     let mut writers = [0u8; 32];
     let mut left = vars;
-    let mut i = writes.len();
+    let mut i = flat::count(occurrences);
     while 0 < i {
+        if left == 0 {
+            return writers;
+        }
         let number = i as u8;
         i -= 1;
-        let hit = writes[i] & left;
-        if hit == 0 {
-            continue;
-        }
+        let s = flat::step_at(occurrences, i);
+        let hit = s.writes & left;
         left = mask::without32(left, hit);
-        let more = mark_writers(writers, hit, number);
-        writers = more;
+        mark_writers(&mut writers, hit, number);
     }
     writers
 }
@@ -100,24 +81,25 @@ pub fn straight_order(len: usize) -> [u8; 64]
     order
 }
 
-// All that is shown of an order of `len` occurrence numbers that ends on a marking.
-pub fn answered(cut: Cut, vars: u32, kept: u64, len: usize, order: [u8; 64], marking: u64) -> Judged
-    requires { ⌜ (cut .uses .len ≤ 64) × (len ≤ 64) ⌝ }
-    requires { ⌜ count 64 kept ≤ cut .uses .len ⌝ }
-    ensures { λ r. ⌜ ((from : ℕ) (new l : List Step) (o : List ℕ) → CutOf l (variables new) cut → vars ≡ variables new → len ≡ length o → order ≡ padded 64 (map suc o) → marking ≡ Option·getD (fireAll new from (stepsOn l o)) 0 → r ≡ answer from new l kept o) ⌝ }
+// All that is shown of a list of occurrences.
+pub fn answered(occurrences: &[u64], rows: &[u64; 64], vars: u32, kept: u64, list: Placed) -> Judged
+    requires { ⌜ (length (stepsIn (now occurrences)) ≤ 64) × (list .len ≤ 64) ⌝ }
+    requires { ⌜ count 64 kept ≤ length (stepsIn (now occurrences)) ⌝ }
+    ensures { λ r. ⌜ Shows (now (rows .entry)) vars kept list (stepsIn (now (occurrences .entry))) r ⌝ }
 {
-    let uses = cut.uses;
-    let rows = cut.table;
-    let done = uses.len;
-    let writes = uses.writes;
+    let order = list.order;
+    let marking = list.marking;
+    let len = list.len as u32;
     let after = after_rows(rows, kept);
-    let writers = last_writers(&writes[..done], vars);
+    let writers = last_writers(occurrences, vars);
+    let done = flat::count(occurrences) as u32;
+    let dropped = done - mask::count64(kept);
     Judged {
         number: 0,
         second: 0,
         kept,
-        dropped: done as u32 - mask::count64(kept),
-        len: len as u32,
+        dropped,
+        len,
         order,
         marking,
         after,
@@ -135,7 +117,7 @@ pub fn stop(number: u32, second: u64) -> Judged
         dropped: 0,
         len: 0,
         order: [0u8; 64],
-        marking: 0,
+        marking: Marking { tokens: 0 },
         after: [0u64; 64],
         writers: [0u8; 32],
     }

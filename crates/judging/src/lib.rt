@@ -1,4 +1,6 @@
 // Judge: the straight list, or the first fit list of the kept, and what the listing shows of it.
+use route::Marking;
+
 pub mod answering;
 pub mod candidates;
 pub mod judging;
@@ -11,23 +13,24 @@ pub struct Judged {
     pub dropped: u32,
     pub len: u32,
     pub order: [u8; 64],
-    pub marking: u64,
+    pub marking: Marking,
     pub after: [u64; 64],
     pub writers: [u8; 32],
 }
 
-// The positions of at most 16 occurrences, rising; entries past `len` are 0.
-pub struct Positions {
-    pub len: usize,
-    pub at: [u8; 16],
-}
-
-// The candidates of the search: at k the position of candidate k, the places of its step in the new route, and the candidates that it
-// comes after.
-pub struct Picked {
+// The candidates of the search, at most 16: at k the position of candidate k, the places of its step in the new route, and the candidates
+// that it comes after.
+pub struct Columns {
     pub len: usize,
     pub at: [u8; 16],
     pub ins: [u64; 16],
     pub outs: [u64; 16],
     pub before: [u32; 16],
+}
+
+// A list of occurrences: how many, their numbers, and the marking at its end.
+pub struct Placed {
+    pub len: usize,
+    pub order: [u8; 64],
+    pub marking: Marking,
 }

@@ -1,19 +1,19 @@
 -- The laws on bit masks, for any width. Each operation is known by its members (`has-…`), and a mask is known by its members (`has-ext`),
 -- so that every further law is a table of truth values.
 -- Assumes nothing.
-use mathlib.Core.Path.{_≡_, refl, sym, ap, ap₂, _∙_, subst}
-use mathlib.Core.Logic.{_⊎_, inl, inr, ⊎-elim, _≢_}
+use mathlib.Core.Path.{_≡_, refl, sym, ap, ap₂, _∙_}
+use mathlib.Core.Logic.{_⊎_, inl, inr, ⊎-elim}
 use mathlib.Core.Bool.{Bool, true, false, not, cond, _&&_, _||_, xor, and-true, and-false, or-false}
-use mathlib.Core.List.{List, [], _∷_}
+use mathlib.Core.List.{List, _∷_}
 use Prim.Native.Nat.{ℕ, zero, suc, _+_, _-_, _*_, _^_, _/_, _%_, _≤_, _<_}
 use native.Mathlib.Nat.{mod-lt, pow-suc, zero-lt-suc, one-mul}
 use native.Mathlib.Omega.{arith}
 use native.Mathlib.Numerals.{add-one}
-use lib.Dec.{eqb, ltb, leb, eqb·zero-suc, eqb·suc-zero, eqb·suc-suc, leb·suc-suc, lit<}
+use lib.Dec.{eqb, ltb, eqb·zero-suc, eqb·suc-zero, eqb·suc-suc, leb·suc-suc, lit<}
 use lib.ListN.{length}
 use lib.Arith.{bin-ind}
 use lib.Pow.{shr-shr, shl-exact, pow-pos}
-use lib.Bits.{bitAnd, bitOr, bitXor, and-shr, or-shr, xor-shr, and-mod, or-mod, xor-mod, and-comm, or-zero-r}
+use lib.Bits.{bitAnd, bitOr, bitXor, and-shr, or-shr, xor-shr, and-mod, or-mod, xor-mod, or-zero-r}
 use lib.Count.{ones, ones-step}
 use borrow.Author.Tests.{eqb-true, eqb-false, eq-eqb, ne-eqb, lt-ltb, le-ltb, not-true, not-false, ltb-true, ltb-false}
 use Rattle.mask.proofs.Truth.{both}
@@ -174,6 +174,23 @@ some-meets a b v ha hb = go (meets a b) refl
     go : (t : Bool) → meets a b ≡ t → t ≡ true
     go true e = refl
     go false e = let z : (has a v && has b v) ≡ false = meets-none a b e v in sym z ∙ ap₂ (λ (x y : Bool). x && y) ha hb
+
+pub meets-or : (a b c : ℕ) → meets a (bitOr b c) ≡ (meets a b || meets a c)
+meets-or a b c = go (meets a b) refl
+  where
+    none : (x : Bool) (v : ℕ) → meets a b ≡ false → (has a v && (has b v || x)) ≡ (has a v && x)
+    none x v e = table (has a v) (has b v) x (meets-none a b e v)
+      where
+        table : (p q x : Bool) → (p && q) ≡ false → (p && (q || x)) ≡ (p && x)
+        table true true x e = cc
+        table true false x e = refl
+        table false q x e = refl
+
+    go : (t : Bool) → meets a b ≡ t → meets a (bitOr b c) ≡ (t || meets a c)
+    go true e = let (v, ha, hb) = meets-some a b e in some-meets a (bitOr b c) v ha (has-or b c v ∙ ap (λ (t : Bool). t || has c v) hb)
+    go false e =
+        ap (λ (x : ℕ). not (eqb x 0))
+        (has-ext (bitAnd a (bitOr b c)) (bitAnd a c) (λ v. has-and a (bitOr b c) v ∙ ap (λ (t : Bool). has a v && t) (has-or b c v) ∙ none (has c v) v e ∙ sym (has-and a c v)))
 
 -- ---- laws of the operations, as tables
 

@@ -3,5 +3,7 @@ pub mod Laws
 pub mod Truth
 pub mod Count
 pub mod Members
+pub mod Cut
 pub mod Lowest
-pub mod Skips
+pub mod FromLowest
+pub mod LowestFirst

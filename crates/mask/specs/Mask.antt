@@ -1,6 +1,6 @@
 -- A bit mask is a number, and stands for the set of its bits. No definition here speaks of a width.
 use Prim.Native.Nat.{ℕ, zero, suc, _-_, _^_, _/_, _%_}
-use mathlib.Core.Bool.{Bool, true, false, not, cond}
+use mathlib.Core.Bool.{Bool, not, cond}
 use mathlib.Core.List.{List, [], _∷_}
 use lib.Dec.{eqb}
 use lib.ListN.{length}

@@ -10,12 +10,6 @@ pub fn within64(a: u64, b: u64) -> bool
     a & b == a
 }
 
-pub fn within32(a: u32, b: u32) -> bool
-    ensures { λ r. ⌜ r ≡ within a b ⌝ }
-{
-    a & b == a
-}
-
 pub fn meets64(a: u64, b: u64) -> bool
     ensures { λ r. ⌜ r ≡ meets a b ⌝ }
 {

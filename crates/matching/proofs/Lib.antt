@@ -1,10 +1,12 @@
 -- That the code gives what the specs say.
-pub mod Cases
+pub mod AllOf
 pub mod Choice
+pub mod Each
 pub mod Either
-pub mod KeptLines
-pub mod Occurrence
-pub mod Passed
-pub mod Places
-pub mod Reached
-pub mod Replay
+pub mod KeptLimit
+pub mod KeptRows
+pub mod KeptWrong
+pub mod Matched
+pub mod Preparation
+pub mod SameMask
+pub mod StraightEnd

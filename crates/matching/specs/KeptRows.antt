@@ -1,14 +1,16 @@
--- Rows 10, 11 and 12: the kept occurrences, if the job isn't straight, and then in turn.
-use mathlib.Core.Bool.{Bool, true, false, _||_}
+-- Rows 10, 11 and 12: how many are kept, if the job isn't straight, and then the kept in turn.
+use mathlib.Core.Bool.{cond, _||_}
 use mathlib.Core.List.{List, [], _∷_}
 use Prim.Native.Nat.{ℕ, _+_}
-use lib.Dec.{leb}
+use lib.Dec.{eqb, leb}
 use lib.ListN.{getD}
 use Rattle.mask.specs.Mask.{members, count}
 use Rattle.route.specs.Steps.{blank, lookup}
-use Rattle.refusal.specs.Rows.{unless, first}
+use Rattle.refusal.specs.Rows.{refuse, unless, first}
 use Rattle.route.specs.declared.Step.{Step}
 use Rattle.refusal.specs.declared.Outcome.{Outcome}
+use Rattle.job.specs.Job.{Job, jobLine, newStart}
+use Rattle.job.specs.Run.{ran, performed}
 use Rattle.search.specs.Search.{isSome}
 use Rattle.matching.specs.Straight.{sameStep, runsStraight}
 use Rattle.matching.specs.Fit.{keptOf}
@@ -28,3 +30,10 @@ keptRows line from new l =
     first
     (unless (runsStraight from new l || leb (count 64 (keptOf new l)) 16) 10 line
     ∷ keptLines new l (line + 1) (members 64 (keptOf new l)))
+
+-- the rows to 12
+unfoldable pub rowsTo12 : Job → Outcome
+rowsTo12 j =
+    cond (eqb (ran j .number) 0)
+    (keptRows (jobLine j) (newStart j) (j .new) (performed (j .old) (j .done)))
+    (refuse (ran j .number) (ran j .second))

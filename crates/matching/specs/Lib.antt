@@ -1,6 +1,6 @@
 -- How the new route matches a job: straight and fit orders, rows 10 to 12.
-pub mod Case
 pub mod Fit
 pub mod KeptRows
-pub mod Prepared
+pub mod Matched
+pub mod Matches
 pub mod Straight

@@ -1,32 +1,25 @@
 // How the new route matches a job's occurrences: straight replay, rows 10 to 12, and what try and judge start from.
 use refusal::Outcome;
-use slice::Cut;
+use route::Marking;
 
-pub mod limits;
-pub mod meeting;
-pub mod preparing;
-pub mod replaying;
-
-// How the new route meets each occurrence: whether it has the step, whether that reads and writes the same, and the step's places.
-pub struct Met {
-    pub known: u64,
-    pub same: u64,
-    pub ins: [u64; 64],
-    pub outs: [u64; 64],
-}
+pub mod matches;
+mod rows;
+mod same;
+mod straight;
 
 // Where firing a list in turn ends.
-pub enum Fires {
-    To(u64),
+pub enum End {
+    At(Marking),
     Stuck,
 }
 
-// A job after the rows to 12: their outcome and, where no row to 9 refuses, the occurrences, how the new route meets them, its start, and
-// whether they run straight.
-pub struct Case {
+// A job whose lines pass, after the rows to 12: their outcome, the line of `(job)` and, where no row to 9 refuses, the new route's start,
+// where the straight list ends, the kept occurrences, and the new route's variables.
+pub struct Prepared {
     pub outcome: Outcome,
-    pub cut: Cut,
-    pub met: Met,
-    pub start: u64,
-    pub straight: Fires,
+    pub line: u64,
+    pub start: Marking,
+    pub straight: End,
+    pub kept: u64,
+    pub vars: u32,
 }

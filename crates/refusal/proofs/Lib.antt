@@ -1,3 +1,2 @@
 -- Laws on rows.
 pub mod Rows
-pub mod Passing

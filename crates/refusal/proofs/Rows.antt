@@ -1,9 +1,11 @@
--- Rows in turn: one that passes is left out, and one that refuses is the answer.
+-- Rows in turn: one that passes is left out, and one that refuses is the answer. A refusal has its own number, which is not 0, so an
+-- answer 0 says that every row passed.
 use mathlib.Core.Path.{_≡_, refl, sym, ap, _∙_}
 use mathlib.Core.Bool.{Bool, true, false, cond}
 use mathlib.Core.List.{List, [], _∷_, _++_}
-use Prim.Native.Nat.{ℕ, zero, suc}
+use Prim.Native.Nat.{ℕ}
 use lib.Dec.{eqb}
+use borrow.Author.Tests.{eqb-true, eqb-false, eq-eqb}
 use Rattle.refusal.specs.Rows.{pass, refuse, unless, first}
 use Rattle.refusal.specs.declared.Outcome.{Outcome}
 
@@ -57,10 +59,13 @@ head-passed o l e = go (eqb (o .number) 0) refl e
     go true p q = (refl, q)
     go false p q = (sym p ∙ q, cc)
 
-pub row-passed : (t : Bool) (n k : ℕ) (l : List Outcome) → eqb n 0 ≡ false → eqb (first (unless t n k ∷ l) .number) 0 ≡ true → (t ≡ true) × (eqb (first l .number) 0 ≡ true)
+pub unless-elim : (t : Bool) (n k : ℕ) → eqb n 0 ≡ false → eqb (unless t n k .number) 0 ≡ true → t ≡ true
 unfolding unless
-row-passed true n k l z e = (refl, head-passed pass l e .1)
-row-passed false n k l z e = (sym z ∙ head-passed (refuse n k) l e .0, head-passed (refuse n k) l e .1)
+unless-elim true n k z e = refl
+unless-elim false n k z e = sym z ∙ e
+
+pub row-passed : (t : Bool) (n k : ℕ) (l : List Outcome) → eqb n 0 ≡ false → eqb (first (unless t n k ∷ l) .number) 0 ≡ true → (t ≡ true) × (eqb (first l .number) 0 ≡ true)
+row-passed t n k l z e = let (own, rest) = head-passed (unless t n k) l e in (unless-elim t n k z own, rest)
 
 pub rows-passed : (a b : List Outcome) → eqb (first (a ++ b) .number) 0 ≡ true → (eqb (first a .number) 0 ≡ true) × (eqb (first b .number) 0 ≡ true)
 rows-passed a b e = go (eqb (first a .number) 0) refl
@@ -85,3 +90,37 @@ first-alone l = go (eqb (first l .number) 0) refl
     go : (t : Bool) → eqb (first l .number) 0 ≡ t → first (first l ∷ []) ≡ first l
     go true p = head-passes (first l) [] p ∙ rows-end ∙ sym (first-clean l p)
     go false p = head-refuses (first l) [] p
+
+-- an answer a unless n refuses, with the answer b
+pub cond-zero : {R : Type 0} (n : ℕ) (a b : R) → n ≡ 0 → cond (eqb n 0) a b ≡ a
+cond-zero n a b e = rw (eq-eqb n 0 e)
+
+pub cond-zero-elim : {R : Type 0} (number : R → ℕ) (n : ℕ) (a b : R) → number b ≡ n → number (cond (eqb n 0) a b) ≡ 0 → (n ≡ 0) × (cond (eqb n 0) a b ≡ a)
+cond-zero-elim {R} number n a b own e = go (eqb n 0) refl e
+  where
+    go : (t : Bool) → eqb n 0 ≡ t → number (cond t a b) ≡ 0 → (n ≡ 0) × (cond t a b ≡ a)
+    go true h e = (eqb-true n 0 h, refl)
+    go false h e = absurd (eqb-false n 0 h (sym own ∙ e))
+
+-- what holds of 0 and of each row's number holds of the answer's
+pub unless-number : (P : ℕ → Type 0) (t : Bool) (n k : ℕ) → P 0 → P n → P (unless t n k .number)
+unfolding unless
+unless-number P true n k z p = z
+unless-number P false n k z p = p
+
+pub first-number : (P : ℕ → Type 0) (o : Outcome) (l : List Outcome) → P (o .number) → P (first l .number) → P (first (o ∷ l) .number)
+unfolding first
+first-number P o l p q = go (eqb (o .number) 0)
+  where
+    go : (t : Bool) → P (cond t (first l) o .number)
+    go true = q
+    go false = p
+
+pub append-number : (P : ℕ → Type 0) (a b : List Outcome) → P (first a .number) → P (first b .number) → P (first (a ++ b) .number)
+unfolding first
+append-number P [] b p q = q
+append-number P (o ∷ a) b p q = go (eqb (o .number) 0) p (λ p. append-number P a b p q)
+  where
+    go : (t : Bool) → P (cond t (first a) o .number) → (P (first a .number) → P (first (a ++ b) .number)) → P (cond t (first (a ++ b)) o .number)
+    go true p ih = ih p
+    go false p ih = p

@@ -2,7 +2,8 @@
 pub mod Full
 pub mod StepList
 pub mod FlatSteps
-pub mod Lookup
-pub mod Column
-pub mod Hinted
+pub mod LaidSteps
+pub mod DigitHints
 pub mod Toggle
+pub mod NetRows
+pub mod ByName

@@ -1,10 +1,10 @@
--- A route is a count of places and a list of steps. Definitions speak of these, so that a route by value and a lent list of records
--- share them.
+-- A route is a count of places and a list of steps. Definitions speak of these, so that a route by value and a lent
+-- list of records share them.
 use mathlib.Core.Path.{_≡_}
-use mathlib.Core.Bool.{Bool, true, false, cond}
+use mathlib.Core.Bool.{cond}
 use mathlib.Core.List.{List, [], _∷_, _++_, map}
 use mathlib.Core.Option.{Option, none, some}
-use Prim.Native.Nat.{ℕ, zero, suc, _-_, _%_, _≤_, _<_}
+use Prim.Native.Nat.{ℕ, suc, _-_, _%_, _≤_, _<_}
 use lib.Dec.{eqb}
 use lib.ListN.{length, getD, take, replicate}
 use lib.Bits.{bitOr}
@@ -21,7 +21,8 @@ blank = record { name = 0; ins = 0; outs = 0; reads = 0; writes = 0 }
 abbrev pub noRoute : Route
 noRoute = record { places = 0; len = 0; steps = replicate 64 blank }
 
--- the steps of a route by value: as many as its length says. A length over 64 counts, though no record is stored past the 64th
+-- the steps of a route by value: as many as its length says. A length over 64 counts, though no record is stored past
+-- the 64th
 unfoldable pub stepsOf : Route → List Step
 stepsOf r = take (r .len) (r .steps) ++ replicate (r .len - 64) blank
 
@@ -43,10 +44,13 @@ unfoldable pub position : ℕ → List ℕ → Found
 position n [] = Nothing
 position n (x ∷ l) = cond (eqb x n) (At 0) (further (position n l))
 
--- hints for looking up among names: that of a name's last digit in base 256 is no further on than the name
-pub record Hints (column hint : List ℕ) : Type 0 where
-  pub low : (j : ℕ) → j < length column → getD hint (getD column j 0 % 256) 0 ≤ j
+-- hints for looking up among names: that of a name's last digit in base 256 is at least 1, and at most one above the
+-- name's place; no hint is above the count of names
+pub record Hinted (column hint : List ℕ) : Type 0 where
   pub room : length hint ≡ 256
+  pub held : (d : ℕ) → getD hint d 0 ≤ length column
+  pub some : (j : ℕ) → j < length column → 1 ≤ getD hint (getD column j 0 % 256) 0
+  pub low : (j : ℕ) → j < length column → getD hint (getD column j 0 % 256) 0 ≤ suc j
 
 -- the first step of that name
 unfoldable pub lookup : ℕ → List Step → Option Step

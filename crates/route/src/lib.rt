@@ -3,7 +3,9 @@ use refusal::Outcome;
 
 pub mod firing;
 pub mod flat;
-pub mod net;
+pub mod laying;
+pub mod lookup;
+pub mod opening;
 pub mod steps;
 
 // Places and variables are bit masks: place p at bit p.

@@ -2,7 +2,7 @@
 -- kept reader of that variable or, at the end, to the new route. Complete: what the new route or a kept occurrence reads stays live back to
 -- its last writer.
 use mathlib.Core.Path.{_≡_}
-use mathlib.Core.Logic.{⊎-elim}
+use mathlib.Core.Logic.{_↔_, ⊎-elim}
 use mathlib.Core.Bool.{true, false}
 use mathlib.Core.List.{List}
 use Prim.Native.Nat.{ℕ, zero, suc, _+_, _-_, _≤_, _<_}
@@ -49,3 +49,6 @@ module _ (l : List Step) (vars : ℕ) where
   pub kept-complete : (i : ℕ) → Kept l vars i → has (keptMask l vars) i ≡ true
   kept-complete i (final v h p) = source-kept (length l) v i (rw (live-end l vars (length l) (omega arith)) h) p
   kept-complete i (needed {i = k} r p) = source-kept k (p .variable) i (live-read l vars k (p .variable) (kept-complete k r) (p .reader)) (p .source)
+
+pub kept-iff : (l : List Step) (vars i : ℕ) → (has (keptMask l vars) i ≡ true) ↔ Kept l vars i
+kept-iff l vars i = (kept-sound l vars i, kept-complete l vars i)

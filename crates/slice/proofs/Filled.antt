@@ -2,21 +2,22 @@
 -- 0 it is the whole function.
 use mathlib.Core.Path.{_≡_, refl, sym, ap, _∙_}
 use mathlib.Core.Bool.{Bool, true, false, cond}
-use mathlib.Core.List.{List, [], _∷_, map}
+use mathlib.Core.List.{List, map}
 use Prim.Native.Nat.{ℕ, zero, suc, _+_, _≤_, _<_}
 use native.Mathlib.Omega.{arith}
-use native.Mathlib.Nat.{not-suc-le-zero}
 use lib.Dec.{eqb, ltb}
 use lib.ListN.{length, getD, set, replicate, length-map}
 use lib.Seq.{getD-set-same, getD-set-other, ext-getD}
 use borrow.Author.Tests.{lt-ltb, le-ltb, ltb-true, ltb-false, eqb-true, eqb-false}
 use Rattle.mask.proofs.Truth.{split}
 use Rattle.slice.specs.Order.{inTurn}
+use Rattle.slice.proofs.InTurn.{length-inTurn, getD-map-inTurn}
+pub use Rattle.slice.proofs.InTurn.{getD-map-inTurn as turn-at}
 
 abbrev pub Filled : (ℕ → ℕ) → ℕ → List ℕ → Type 0
 Filled f i a = (k : ℕ) → getD a k 0 ≡ cond (ltb k i) (f k) 0
 
-zeros-at : (n k : ℕ) → getD {A = ℕ} (replicate n 0) k 0 ≡ 0
+pub zeros-at : (n k : ℕ) → getD {A = ℕ} (replicate n 0) k 0 ≡ 0
 zeros-at zero k = refl
 zeros-at (suc n) zero = refl
 zeros-at (suc n) (suc k) = zeros-at n k
@@ -37,20 +38,8 @@ filled-more f i v a h room e k = go (eqb k i) refl
     go true p = there (eqb-true k i p)
     go false p = getD-set-other a i k v 0 (eqb-false k i p) ∙ h k ∙ ap (λ (t : Bool). cond t (f k) 0) (same-test (eqb-false k i p))
 
--- the function at each number in turn
-pub turn-at : (f : ℕ → ℕ) (i n k : ℕ) → k < n → getD (map f (inTurn i n)) k 0 ≡ f (i + k)
-unfolding inTurn
-turn-at f i zero k h = absurd (not-suc-le-zero h)
-turn-at f i (suc n) zero h = ap f (omega arith)
-turn-at f i (suc n) (suc k) h = turn-at f (suc i) n k (omega arith) ∙ ap f (omega arith)
-
-length-turn : (i n : ℕ) → length (inTurn i n) ≡ n
-unfolding inTurn
-length-turn i zero = refl
-length-turn i (suc n) = ap suc (length-turn (suc i) n)
-
 pub filled-all : (f : ℕ → ℕ) (i n : ℕ) (a : List ℕ) → length a ≡ n → Filled f i a → ((k : ℕ) → i ≤ k → f k ≡ 0) → a ≡ map f (inTurn 0 n)
-filled-all f i n a len h rest = ext-getD 0 a (map f (inTurn 0 n)) (len ∙ sym (length-map (inTurn 0 n) f ∙ length-turn 0 n)) (λ k b. h k ∙ here k ∙ sym (turn-at f 0 n k (omega arith) ∙ ap f (omega arith)))
+filled-all f i n a len h rest = ext-getD 0 a (map f (inTurn 0 n)) (len ∙ sym (length-map (inTurn 0 n) f ∙ length-inTurn 0 n)) (λ k b. h k ∙ here k ∙ sym (getD-map-inTurn f 0 n k (omega arith) ∙ ap f (omega arith)))
   where
     here : (k : ℕ) → cond (ltb k i) (f k) 0 ≡ f k
     here k = split (λ (t : Bool). cond t (f k) 0 ≡ f k) (ltb k i) (λ u. refl) (λ u. sym (rest k (ltb-false k i u)))

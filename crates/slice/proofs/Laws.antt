@@ -10,10 +10,9 @@ use Rattle.mask.specs.Mask.{has, meets}
 use Rattle.mask.proofs.Laws.{has-collect, collect-none}
 use Rattle.route.specs.Steps.{blank}
 use Rattle.route.specs.declared.Step.{Step}
-use Rattle.slice.specs.Slice.{Needs, needed, keptMask}
+use Rattle.slice.specs.Slice.{keptMask}
 use Rattle.slice.specs.Precedence.{clash, comesAfter, row}
 use Rattle.slice.proofs.Sweep.{liveAt, kept-is, kept-writes, written-below}
-use Rattle.slice.proofs.Closure.{kept-sound, kept-complete}
 
 -- an occurrence that writes nothing is never kept
 pub silent-not-kept : (l : List Step) (vars i : ℕ) → getD l i blank .writes ≡ 0 → has (keptMask l vars) i ≡ false

@@ -2,7 +2,8 @@
 pub mod Sweep
 pub mod Closure
 pub mod Laws
-pub mod Done
-pub mod Bare
+pub mod InTurn
 pub mod Filled
-pub mod Columns
+pub mod ByVariable
+pub mod RowByVariable
+pub mod SliceRows

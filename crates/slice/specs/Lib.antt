@@ -2,5 +2,5 @@
 pub mod Slice
 pub mod Precedence
 pub mod Order
-pub mod Uses
+pub mod ByVariable
 pub mod Table

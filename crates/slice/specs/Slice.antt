@@ -2,18 +2,13 @@
 -- never steps. `l` is the list of the steps done, one for each occurrence; occurrence i + 1 of 01 stands at position i.
 use mathlib.Core.Path.{_≡_}
 use mathlib.Core.Bool.{Bool, true, false, cond}
-use mathlib.Core.List.{List, [], _∷_, map}
-use mathlib.Core.Option.{Option·getD}
-use Prim.Native.Nat.{ℕ, zero, suc, _<_}
+use mathlib.Core.List.{List, [], _∷_}
+use Prim.Native.Nat.{ℕ, suc, _<_}
 use lib.ListN.{length, getD}
 use lib.Bits.{bitOr}
 use Rattle.mask.specs.Mask.{has, bit, without, meets}
-use Rattle.route.specs.Steps.{blank, union, lookup}
+use Rattle.route.specs.Steps.{blank, union}
 use Rattle.route.specs.declared.Step.{Step}
-
--- the steps done: for each done name the old route's step. "An occurrence's reads and writes are those of its step in the old route"
-unfoldable pub performed : List Step → List ℕ → List Step
-performed old done = map (λ (n : ℕ). Option·getD (lookup n old) blank) done
 
 -- the occurrence at i reads v; it writes v. It reads before it writes, so what it writes itself it never needs
 unfoldable pub readsAt : List Step → ℕ → ℕ → Bool

@@ -1,23 +1,11 @@
 // The slice and the precedence table.
-pub mod keeping;
-pub mod precedence;
+ghost use mathlib.Core.Path.{_≡_};
+ghost use Rattle.slice.specs.Table.{slicedStopped};
+
 pub mod slicing;
-pub mod using;
-
-// What each occurrence's step in the old route is called, reads and writes; entries past `len` are 0.
-pub struct Uses {
-    pub len: usize,
-    pub names: [u32; 64],
-    pub reads: [u32; 64],
-    pub writes: [u32; 64],
-}
-
-// The occurrences, which are kept, and the precedence table over all.
-pub struct Cut {
-    pub uses: Uses,
-    pub kept: u64,
-    pub table: [u64; 64],
-}
+pub mod sweeping;
+pub mod tabling;
+pub mod variables;
 
 // Occurrence k is bit k - 1 of a mask and row k - 1 of the table.
 pub struct Sliced {
@@ -25,4 +13,18 @@ pub struct Sliced {
     pub second: u64,
     pub kept: u64,
     pub table: [u64; 64],
+}
+
+impl Sliced {
+    // A refusal: nothing is kept.
+    pub fn stop(number: u32, second: u64) -> Sliced
+        ensures { λ r. ⌜ r ≡ slicedStopped number second ⌝ }
+    {
+        Sliced {
+            number,
+            second,
+            kept: 0,
+            table: [0u64; 64],
+        }
+    }
 }

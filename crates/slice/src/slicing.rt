@@ -1,53 +1,54 @@
 // The operation slice: the rows to 9, then what is kept and the table.
-use crate::Cut;
 use crate::Sliced;
-use crate::keeping::keep;
-use crate::precedence::table_of;
-use crate::using::uses_of;
-use crate::using::variables_of;
+use crate::sweeping::keep;
+use crate::tabling::table_of;
+use crate::variables::variables_of;
+use job::checks::check_lines;
+use job::running::begin;
 use route::Route;
+use route::laying::lay;
 ghost use mathlib.Core.Path.{_≡_};
-ghost use Prim.Native.Nat.{_≤_};
-ghost use lib.ListN.{length};
-ghost use Rattle.route.specs.Steps.{stepsOf};
-ghost use Rattle.job.specs.Job.{jobOf};
-ghost use Rattle.slice.specs.Slice.{performed, variables};
+ghost use Rattle.job.specs.Job.{jobOf, flatJob};
 ghost use Rattle.slice.specs.Table.{sliced};
-ghost use Rattle.slice.specs.Uses.{CutOf};
 
-// The occurrences of a job that no row to 9 refuses, what is kept of them, and the table.
-pub fn cut(old: Route, new: Route, done: &[u32]) -> Cut
-    requires { ⌜ ((old .len ≤ 64) × (new .len ≤ 64)) × (length (now done) ≤ 64) ⌝ }
-    ensures { λ r. ⌜ CutOf (performed (stepsOf old) (now (done .entry))) (variables (stepsOf new)) r ⌝ }
+// The rows to 9 over lists of steps, then what is kept and the table.
+pub fn slice_lists(
+    old_places: u64,
+    old: &[u64],
+    new_places: u64,
+    new: &[u64],
+    done: &[u32],
+) -> Sliced
+    ensures { λ r. ⌜ r ≡ sliced (flatJob «old_places» (now (old .entry)) «new_places» (now (new .entry)) (now (done .entry))) ⌝ }
 {
-    let uses = uses_of(old, done);
-    let vars = variables_of(new);
-    let len = uses.len;
-    let reads = uses.reads;
-    let writes = uses.writes;
-    let kept = keep(&reads[..len], &writes[..len], vars);
-    let table = table_of(&reads[..len], &writes[..len]);
-    Cut { uses, kept, table }
-}
-
-pub fn slice(old: Route, new: Route, done: &[u32]) -> Sliced
-    ensures { λ r. ⌜ r ≡ sliced (jobOf old new (now (done .entry))) ⌝ }
-{
-    let r = job::runs::run(old, new, done);
-    if r.number != 0 {
-        return Sliced {
-            number: r.number,
-            second: r.second,
-            kept: 0,
-            table: [0u64; 64],
-        };
+    let o = check_lines(old_places, old, new_places, new, done);
+    if !o.passed() {
+        return Sliced::stop(o.number, o.second);
     }
-    let c = cut(old, new, done);
-    let table = c.table;
+    let mut occurrences = [0u64; 256];
+    let b = begin(old_places, old, new_places, new, done, &mut occurrences);
+    let p = b.outcome;
+    if !p.passed() {
+        return Sliced::stop(p.number, p.second);
+    }
+    let end = 4 * done.len();
+    let kept = keep(&occurrences[..end], variables_of(new));
+    let table = table_of(&occurrences[..end]);
     Sliced {
         number: 0,
         second: 0,
-        kept: c.kept,
+        kept,
         table,
     }
+}
+
+// The operation slice, on records by value.
+pub fn slice(old: Route, new: Route, done: &[u32]) -> Sliced
+    ensures { λ r. ⌜ r ≡ sliced (jobOf old new (now (done .entry))) ⌝ }
+{
+    let mut a = [0u64; 260];
+    let mut b = [0u64; 260];
+    let n = lay(old, &mut a);
+    let m = lay(new, &mut b);
+    slice_lists(old.places, &a[..n], new.places, &b[..m], done)
 }

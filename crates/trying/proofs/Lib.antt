@@ -1,4 +1,5 @@
 -- That the code gives what the specs say.
+pub mod AfterRow12
 pub mod Entry
 pub mod InTurn
 pub mod Row16

@@ -1,114 +1,163 @@
 -- The operation try, row by row: which part of the definition an answer is.
-use mathlib.Core.Path.{_≡_, refl, sym, ap, _∙_}
-use mathlib.Core.Bool.{Bool, true, false, cond, _&&_}
+use mathlib.Core.Path.{_≡_, refl, sym, ap, ap₂, _∙_}
+use mathlib.Core.Bool.{Bool, true, false, not, cond, _&&_}
 use mathlib.Core.List.{List, map}
 use mathlib.Core.Option.{Option·getD}
-use Prim.Native.Nat.{ℕ, suc, _≤_}
+use Prim.Native.Nat.{ℕ, suc}
 use lib.Dec.{eqb}
-use lib.ListN.{length}
-use Rattle.mask.specs.Mask.{has}
-use Rattle.refusal.specs.Rows.{refuse}
+use lib.ListN.{length, take}
+use borrow.Author.Tests.{eqb-true, not-true, not-false}
+use Rattle.refusal.specs.Rows.{refuse, first}
+use Rattle.route.specs.Steps.{stepsOf}
+use Rattle.route.specs.Flat.{Laid}
 use Rattle.route.specs.declared.Step.{Step}
+use Rattle.route.specs.declared.Route.{Route}
+use Rattle.route.specs.declared.Marking.{Marking}
 use Rattle.refusal.specs.declared.Outcome.{Outcome}
-use Rattle.job.specs.Job.{Job, jobLine, newStart}
-use Rattle.job.specs.Run.{ran}
+use Rattle.job.specs.Job.{Job, jobOf, flatJob, jobLine, newStart}
+use Rattle.job.specs.Lines.{lineRows, LinesPass}
+use Rattle.job.specs.Run.{ran, performed}
+use Rattle.job.specs.declared.Ran.{Ran}
+use Rattle.job.proofs.LongLists.{Refused, ran-alike, ran-off, same-short, laid-short}
+use Rattle.job.proofs.RunLine.{ran-refused, checked-lines}
 use Rattle.slice.specs.Order.{inTurn}
+use Rattle.slice.specs.Table.{table}
 use Rattle.matching.specs.Straight.{fireAll, runsStraight}
 use Rattle.matching.specs.Fit.{keptOf}
-use Rattle.trying.specs.Try.{tryStopped, tryAccepted, sameList, listRow, tryFrom, tryList, tryRows, tried}
-use Rattle.matching.specs.Case.{straightOf, rowsTo12}
-use Rattle.matching.specs.Prepared.{CaseAt}
-use Rattle.trying.specs.Ready.{Ready, byRows}
-use Rattle.matching.specs.declared.Case.{Case}
+use Rattle.matching.specs.KeptRows.{keptRows, rowsTo12}
+use Rattle.matching.specs.Matched.{straightEnd}
+use Rattle.matching.specs.declared.Prepared.{Prepared}
+use Rattle.matching.specs.declared.End.{End}
+use Rattle.matching.specs.declared.End.the-variants.{At, Stuck}
+use Rattle.trying.specs.Try.{tryStopped, sameList, listRow, tryFrom, tryList, tryRows, tried}
+use Rattle.trying.specs.Replayable.{Replayable, TryReady, byRows}
 use Rattle.trying.specs.declared.Tried.{Tried}
-use Rattle.matching.specs.declared.Fires.{Fires}
-use Rattle.matching.specs.declared.Fires.the-variants.{To, Stuck}
-use Rattle.matching.proofs.KeptLines.{rows-same}
-use Rattle.matching.proofs.Cases.{doneSteps, jobRows}
 use Rattle.trying.proofs.Row17.{positions}
+use Rattle.trying.proofs.Entry.{Answers}
 
 -- ---- rows 16 to 18
 
-module _ (new l : List Step) (kept m : ℕ) (o : List ℕ) (w : Outcome) (kept-is : kept ≡ keptOf new l) (is : w ≡ listRow kept 0 1 o) where
-  row-is : w ≡ listRow (keptOf new l) 0 1 o
-  row-is = is ∙ ap (λ (k : ℕ). listRow k 0 1 o) kept-is
+module _ (kept : ℕ) (o : List ℕ) (w : Outcome) (is : w ≡ listRow kept 0 1 o) (t : Bool) (test : t ≡ eqb (w .number) 0) where
+  pub list-passes : not t ≡ false → listRow kept 0 1 o .number ≡ 0
+  list-passes on = ap (λ (x : Outcome). x .number) (sym is) ∙ eqb-true (w .number) 0 (sym test ∙ not-false t on)
 
-  picked : (t : Bool) → eqb (w .number) 0 ≡ t → cond t (tryFrom new l m 1 (positions o)) (tryStopped (w .number) (w .second)) ≡ byRows new l m o
-  unfolding byRows
-  picked t e =
-      ap (λ (b : Bool). cond b (tryFrom new l m 1 (positions o)) (tryStopped (w .number) (w .second))) (sym e)
-      ∙ ap (λ (x : Outcome). cond (eqb (x .number) 0) (tryFrom new l m 1 (positions o)) (tryStopped (x .number) (x .second))) row-is
+  module _ (l matches : List Step) (m : ℕ) (r : Tried) where
+    picked : (new : List Step) → kept ≡ keptOf new l → (b : Bool) → t ≡ b → cond b (tryFrom new l m 1 (positions o)) (tryStopped (w .number) (w .second)) ≡ byRows new l m o
+    unfolding byRows
+    picked new kept-is b e =
+        ap (λ (x : Bool). cond x (tryFrom new l m 1 (positions o)) (tryStopped (w .number) (w .second))) (sym e ∙ test)
+        ∙ ap (λ (x : Outcome). cond (eqb (x .number) 0) (tryFrom new l m 1 (positions o)) (tryStopped (x .number) (x .second))) (is ∙ ap (λ (n : ℕ). listRow n 0 1 o) kept-is)
 
-  pub rows-refused : eqb (w .number) 0 ≡ false → tryStopped (w .number) (w .second) ≡ byRows new l m o
-  rows-refused e = picked false e
+    pub rows-refused : not t ≡ true → r ≡ tryStopped (w .number) (w .second) → (new : List Step) → Replayable new l kept matches → r ≡ byRows new l m o
+    rows-refused off e new ready = e ∙ picked new (ready .kept-is) false (not-true t off)
 
-  pub rows-tried : eqb (w .number) 0 ≡ true → tryFrom new l m 1 (positions o) ≡ byRows new l m o
-  rows-tried e = picked true e
+    pub rows-tried : (rows : List ℕ) → not t ≡ false → rows ≡ table l → Answers o kept rows matches m r → (new : List Step) → Replayable new l kept matches → r ≡ byRows new l m o
+    rows-tried rows on rows-are answers new ready = answers new l ready rows-are ∙ picked new (ready .kept-is) true (not-false t on)
 
 -- ---- the straight list first
 
-module _ (from : ℕ) (new l : List Step) (o : List ℕ) (f : Fires) (is : f ≡ cond (sameList o (map suc (inTurn 0 (length l)))) (straightOf from new l) Stuck) where
-  abbrev end : ℕ
-  end = Option·getD (fireAll new from l) 0
+module _ (l : List Step) (p : Prepared) (matches : List Step) (o : List ℕ) (n : ℕ) (count : n ≡ length l) (f : End) (is : f ≡ cond (sameList o (map suc (inTurn 0 n))) (p .straight) Stuck) where
+  abbrev accepted : Marking → Tried
+  accepted m = record { number = 0; second = 0; marking = m }
 
-  abbrev rows : Tried
-  rows = byRows new l from o
+  module _ (from : ℕ) (new : List Step) (ready : TryReady from new l p matches) where
+    abbrev end : Marking
+    end = record { tokens = Option·getD (fireAll new from l) 0 }
 
-  pub list-straight : (m : ℕ) → f ≡ To m → tryAccepted m ≡ tryList from new l o
-  unfolding straightOf tryList byRows
-  list-straight m e = go (runsStraight from new l) (sameList o (map suc (inTurn 0 (length l)))) (sym is ∙ e)
-    where
-      go : (s t : Bool) → cond t (cond s (To end) Stuck) Stuck ≡ To m → tryAccepted m ≡ cond (s && t) (tryAccepted end) rows
-      go true true p = let same : end ≡ m = cc in ap tryAccepted (sym same)
-      go true false p = cc
-      go false true p = cc
-      go false false p = cc
+    abbrev rows : Tried
+    rows = byRows new l from o
 
-  pub list-rows : f ≡ Stuck → rows ≡ tryList from new l o
-  unfolding straightOf tryList byRows
-  list-rows e = go (runsStraight from new l) (sameList o (map suc (inTurn 0 (length l)))) (sym is ∙ e)
-    where
-      go : (s t : Bool) → cond t (cond s (To end) Stuck) Stuck ≡ Stuck → rows ≡ cond (s && t) (tryAccepted end) rows
-      go true true p = cc
-      go true false p = refl
-      go false true p = refl
-      go false false p = refl
+    -- by whether the new route runs straight, and whether the order is 1, 2, ..
+    end-is : f ≡ cond (sameList o (map suc (inTurn 0 (length l)))) (cond (runsStraight from new l) (At end) Stuck) Stuck
+    unfolding straightEnd
+    end-is = is ∙ ap₂ (λ (k : ℕ) (e : End). cond (sameList o (map suc (inTurn 0 k))) e Stuck) count (ready .straight-is)
 
--- ---- after the rows to 12
+    at-end : (m : Marking) → f ≡ At m → accepted m ≡ tryList from new l o
+    unfolding tryList byRows
+    at-end m e = go (runsStraight from new l) (sameList o (map suc (inTurn 0 (length l)))) (sym end-is ∙ e)
+      where
+        go : (s t : Bool) → cond t (cond s (At end) Stuck) Stuck ≡ At m → accepted m ≡ cond (s && t) (accepted end) rows
+        go true true q = let same : end ≡ m = cc in ap accepted (sym same)
+        go true false q = cc
+        go false true q = cc
+        go false false q = cc
 
-pub case-ready : (line from : ℕ) (new l : List Step) (c : Case) → length l ≤ 64 → CaseAt line from new l c → eqb (c .outcome .number) 0 ≡ true → Ready new l (c .cut .kept) (c .cut .table) (c .met)
-unfolding keptOf
-case-ready line from new l c short a passes =
-    record {
-      kept-is = a .cut-is .kept-is;
-      table-is = a .cut-is .table-is;
-      met-is = a .met-is;
-      all-same = λ i h. rows-same line from new l short (ap (λ (o : Outcome). eqb (o .number) 0) (sym (a .outcome-is)) ∙ passes) i (ap (λ (n : ℕ). has n i) (sym (a .cut-is .kept-is)) ∙ h);
-    }
+    at-rows : f ≡ Stuck → rows ≡ tryList from new l o
+    unfolding tryList byRows
+    at-rows e = go (runsStraight from new l) (sameList o (map suc (inTurn 0 (length l)))) (sym end-is ∙ e)
+      where
+        go : (s t : Bool) → cond t (cond s (At end) Stuck) Stuck ≡ Stuck → rows ≡ cond (s && t) (accepted end) rows
+        go true true q = cc
+        go true false q = refl
+        go false true q = refl
+        go false false q = refl
+
+  pub list-straight : (m : Marking) → f ≡ At m → (from : ℕ) (new : List Step) → TryReady from new l p matches → accepted m ≡ tryList from new l o
+  list-straight m e from new ready = at-end from new ready m e
+
+  pub list-rows : (r : Tried) → f ≡ Stuck → ((new : List Step) → Replayable new l (p .kept) matches → r ≡ byRows new l (p .start .tokens) o) → (from : ℕ) (new : List Step) → TryReady from new l p matches → r ≡ tryList from new l o
+  list-rows r e by from new ready = by new (ready .kept-are) ∙ ap (λ (m : ℕ). byRows new l m o) (ready .start-is) ∙ at-rows from new ready e
 
 -- ---- the operation
 
-module _ (j : Job) (o : List ℕ) (w : Outcome) (is : w ≡ rowsTo12 j) where
+module _ (j : Job) (o : List ℕ) where
   abbrev list : Tried
-  list = tryList (newStart j) (j .new) (doneSteps j) o
+  list = tryList (newStart j) (j .new) (performed (j .old) (j .done)) o
+
+  abbrev keptOutcome : Outcome
+  keptOutcome = keptRows (jobLine j) (newStart j) (j .new) (performed (j .old) (j .done))
 
   -- try by the outcome of the rows to 12
   by-outcome : tried j o ≡ cond (eqb (rowsTo12 j .number) 0) list (tryStopped (rowsTo12 j .number) (rowsTo12 j .second))
   unfolding tried tryRows rowsTo12
   by-outcome = go (eqb (ran j .number) 0) refl
     where
-      go : (t : Bool) → eqb (ran j .number) 0 ≡ t → cond t (tryRows (jobLine j) (newStart j) (j .new) (doneSteps j) o) (tryStopped (ran j .number) (ran j .second)) ≡ cond (eqb (cond t (jobRows j) (refuse (ran j .number) (ran j .second)) .number) 0) list (tryStopped (cond t (jobRows j) (refuse (ran j .number) (ran j .second)) .number) (cond t (jobRows j) (refuse (ran j .number) (ran j .second)) .second))
+      rowsBy : Bool → Outcome
+      rowsBy t = cond t keptOutcome (refuse (ran j .number) (ran j .second))
+
+      go : (t : Bool) → eqb (ran j .number) 0 ≡ t → cond t (tryRows (jobLine j) (newStart j) (j .new) (performed (j .old) (j .done)) o) (tryStopped (ran j .number) (ran j .second)) ≡ cond (eqb (rowsBy t .number) 0) list (tryStopped (rowsBy t .number) (rowsBy t .second))
       go true e = refl
       go false e = ap (λ (b : Bool). cond b list (tryStopped (ran j .number) (ran j .second))) (sym e)
 
-  by-row : (t : Bool) → eqb (w .number) 0 ≡ t → cond t list (tryStopped (w .number) (w .second)) ≡ tried j o
-  by-row t e =
-      ap (λ (b : Bool). cond b list (tryStopped (w .number) (w .second))) (sym e)
-      ∙ ap (λ (x : Outcome). cond (eqb (x .number) 0) list (tryStopped (x .number) (x .second))) is
-      ∙ sym by-outcome
+  module _ (w : Outcome) (t : Bool) (test : t ≡ eqb (w .number) 0) where
+    by-row : w ≡ rowsTo12 j → (b : Bool) → t ≡ b → cond b list (tryStopped (w .number) (w .second)) ≡ tried j o
+    by-row is b e =
+        ap (λ (x : Bool). cond x list (tryStopped (w .number) (w .second))) (sym e ∙ test)
+        ∙ ap (λ (x : Outcome). cond (eqb (x .number) 0) list (tryStopped (x .number) (x .second))) is
+        ∙ sym by-outcome
 
-  pub tried-refused : eqb (w .number) 0 ≡ false → tryStopped (w .number) (w .second) ≡ tried j o
-  tried-refused e = by-row false e
+    pub tried-refused : (r : Tried) → w ≡ rowsTo12 j → not t ≡ true → r ≡ tryStopped (w .number) (w .second) → r ≡ tried j o
+    tried-refused r is off e = e ∙ by-row is false (not-true t off)
 
-  pub tried-list : eqb (w .number) 0 ≡ true → list ≡ tried j o
-  tried-list e = by-row true e
+    pub tried-list : (r : Tried) → w ≡ rowsTo12 j → not t ≡ false → r ≡ list → r ≡ tried j o
+    tried-list r is on e = e ∙ by-row is true (not-false t on)
+
+    -- a line that is refused
+    pub tried-line : (r : Tried) → w ≡ first (lineRows j) → not t ≡ true → r ≡ tryStopped (w .number) (w .second) → r ≡ tried j o
+    unfolding tried
+    tried-line r is off e =
+        let not-zero : eqb (w .number) 0 ≡ false = sym test ∙ not-true t off in
+        let stop = ran-refused j w (checked-lines j w is not-zero) not-zero in
+        e
+        ∙ ap (λ (x : Ran). tryStopped (x .number) (x .second)) stop
+        ∙ ap (λ (b : Bool). cond b (tryRows (jobLine j) (newStart j) (j .new) (performed (j .old) (j .done)) o) (tryStopped (ran j .number) (ran j .second))) (sym (ap (λ (x : Ran). eqb (x .number) 0) (sym stop) ∙ not-zero))
+
+    pub lines-pass : w ≡ first (lineRows j) → not t ≡ false → LinesPass j
+    lines-pass is on = ap (λ (x : Outcome). x .number) (sym is) ∙ eqb-true (w .number) 0 (sym test ∙ not-false t on)
+
+-- ---- both routes laid as numbers: what a list has past its 65th step changes nothing
+
+tried-alike : (o : List ℕ) (j k : Job) → Refused j k → tried j o ≡ tried k o
+unfolding tried
+tried-alike o j k r = rw (ran-alike j k r, ran-off j k r)
+
+pub tried-laid :
+    (old new : Route) (done o : List ℕ) (n : ℕ) (a : List ℕ) (m : ℕ) (b : List ℕ) (r : Tried)
+    → Laid (stepsOf old) n a
+    → Laid (stepsOf new) m b
+    → r ≡ tried (flatJob (old .places) (take n a) (new .places) (take m b) done) o
+    → r ≡ tried (jobOf old new done) o
+tried-laid old new done o n a m b r p q e =
+    e
+    ∙ ap (λ (j : Job). tried j o) (laid-short old new done n a m b p q)
+    ∙ sym (same-short (jobOf old new done) (λ (j : Job). tried j o) (tried-alike o))

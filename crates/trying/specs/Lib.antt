@@ -1,3 +1,3 @@
 -- The operation try.
-pub mod Ready
 pub mod Try
+pub mod Replayable

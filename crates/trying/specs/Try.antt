@@ -13,8 +13,7 @@ use Rattle.refusal.specs.Rows.{pass, refuse}
 use Rattle.route.specs.declared.Step.{Step}
 use Rattle.refusal.specs.declared.Outcome.{Outcome}
 use Rattle.job.specs.Job.{Job, jobLine, newStart}
-use Rattle.job.specs.Run.{ran}
-use Rattle.slice.specs.Slice.{performed}
+use Rattle.job.specs.Run.{ran, performed}
 use Rattle.slice.specs.Precedence.{comesAfter}
 use Rattle.slice.specs.Order.{inTurn, noneOf}
 use Rattle.matching.specs.Straight.{fireAll, runsStraight}
@@ -22,11 +21,13 @@ use Rattle.matching.specs.Fit.{keptOf}
 use Rattle.matching.specs.KeptRows.{keptRows}
 use Rattle.trying.specs.declared.Tried.{Tried}
 
+-- a refusal: its number and second number, no marking
 abbrev pub tryStopped : ℕ → ℕ → Tried
-tryStopped n k = record { number = n; second = k; marking = 0 }
+tryStopped n k = record { number = n; second = k; marking = record { tokens = 0 } }
 
+-- "Accepted": 0, 0 and the marking at the end
 abbrev pub tryAccepted : ℕ → Tried
-tryAccepted m = record { number = 0; second = 0; marking = m }
+tryAccepted m = record { number = 0; second = 0; marking = record { tokens = m } }
 
 -- two lists of numbers are equal
 unfoldable pub sameList : List ℕ → List ℕ → Bool

@@ -1,28 +1,20 @@
 // Rows 16, 17 and 18: the entries of an order.
 use crate::Tried;
-use matching::Fires;
-use matching::Met;
-use matching::replaying::fire_places;
 use refusal::Outcome;
+use route::Marking;
+use route::flat;
+use slice::tabling::table_of;
 ghost use mathlib.Core.Path.{_≡_};
-ghost use mathlib.Core.Bool.{not, _&&_};
+ghost use mathlib.Core.Bool.{true, not, _&&_};
 ghost use mathlib.Core.List.{List, map};
-ghost use Prim.Native.Nat.{ℕ, _-_};
+ghost use Prim.Native.Nat.{ℕ, _-_, _≤_, _<_};
+ghost use lib.ListN.{length};
 ghost use Rattle.mask.specs.Mask.{has};
+ghost use Rattle.route.specs.Flat.{stepsIn};
 ghost use Rattle.route.specs.declared.Step.{Step};
-ghost use Rattle.trying.specs.Try.{tryStopped, isKept, listRow, tryFrom};
-ghost use Rattle.trying.specs.Ready.{Ready, byRows};
-
-// A row that refuses, as the answer.
-pub fn stop(o: Outcome) -> Tried
-    ensures { λ r. ⌜ r ≡ tryStopped (o .number) (o .second) ⌝ }
-{
-    Tried {
-        number: o.number,
-        second: o.second,
-        marking: 0,
-    }
-}
+ghost use Rattle.slice.specs.Table.{table};
+ghost use Rattle.trying.specs.Try.{isKept, listRow, tryFrom};
+ghost use Rattle.trying.specs.Replayable.{Replayable, byRows};
 
 // Occurrence number b is kept, and is not seen yet.
 fn fresh(kept: u64, seen: u64, b: usize) -> bool
@@ -57,10 +49,11 @@ fn check_list(order: &[u8], kept: u64) -> Outcome
     Outcome::pass()
 }
 
-// Rows 17 and 18 for each entry. The entries still to come are the kept ones that are not placed.
-fn fire_list(order: &[u8], kept: u64, table: [u64; 64], met: Met, from: u64) -> Tried
+// Rows 17 and 18 for each entry, by the precedence table. The entries still to come are the kept ones that are not placed.
+fn fire_list(order: &[u8], kept: u64, rows: [u64; 64], matches: &[u64], from: Marking) -> Tried
     requires { ⌜ listRow kept 0 1 (now order) .number ≡ 0 ⌝ }
-    ensures { λ r. ⌜ ((new l : List Step) → Ready new l kept table met → r ≡ tryFrom new l from 1 (map (λ (b : ℕ). b - 1) (now (order .entry)))) ⌝ }
+    requires { ⌜ ((i : ℕ) → has kept i ≡ true → i < length (stepsIn (now matches))) ⌝ }
+    ensures { λ r. ⌜ ((new l : List Step) → Replayable new l kept (stepsIn (now (matches .entry))) → rows ≡ table l → r ≡ tryFrom new l (from .tokens) 1 (map (λ (b : ℕ). b - 1) (now (order .entry)))) ⌝ }
 {
     let mut placed = 0u64;
     let mut m = from;
@@ -68,21 +61,14 @@ fn fire_list(order: &[u8], kept: u64, table: [u64; 64], met: Met, from: u64) -> 
     while i < order.len() {
         let k = order[i] as usize - 1;
         i += 1;
-        if !mask::within64(table[k] & kept, placed) {
-            return Tried {
-                number: 17,
-                second: i as u64,
-                marking: 0,
-            };
+        if !mask::within64(rows[k] & kept, placed) {
+            return Tried::stop(17, i as u64);
         }
-        let Fires::To(next) = fire_places(met.ins[k], met.outs[k], m) else {
-            return Tried {
-                number: 18,
-                second: i as u64,
-                marking: 0,
-            };
-        };
-        m = next;
+        let s = flat::step_at(matches, k);
+        if !m.enables(s) {
+            return Tried::stop(18, i as u64);
+        }
+        m = m.next(s);
         placed |= mask::bit64(k);
     }
     Tried {
@@ -93,12 +79,20 @@ fn fire_list(order: &[u8], kept: u64, table: [u64; 64], met: Met, from: u64) -> 
 }
 
 // Row 16, and then 17 and 18.
-pub fn by_rows(order: &[u8], kept: u64, table: [u64; 64], met: Met, from: u64) -> Tried
-    ensures { λ r. ⌜ ((new l : List Step) → Ready new l kept table met → r ≡ byRows new l from (now (order .entry))) ⌝ }
+pub fn by_rows(
+    order: &[u8],
+    kept: u64,
+    occurrences: &[u64],
+    matches: &[u64],
+    from: Marking,
+) -> Tried
+    requires { ⌜ length (stepsIn (now occurrences)) ≤ 64 ⌝ }
+    requires { ⌜ ((i : ℕ) → has kept i ≡ true → i < length (stepsIn (now matches))) ⌝ }
+    ensures { λ r. ⌜ ((new : List Step) → Replayable new (stepsIn (now (occurrences .entry))) kept (stepsIn (now (matches .entry))) → r ≡ byRows new (stepsIn (now (occurrences .entry))) (from .tokens) (now (order .entry))) ⌝ }
 {
     let o = check_list(order, kept);
     if !o.passed() {
-        return stop(o);
+        return Tried::stop(o.number, o.second);
     }
-    fire_list(order, kept, table, met, from)
+    fire_list(order, kept, table_of(occurrences), matches, from)
 }

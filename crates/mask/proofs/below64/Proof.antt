@@ -1,5 +1,5 @@
 -- `mask::below64`: below 64 the shifted 1 stays whole, and at 64 the mask is written out.
-use mathlib.Core.Path.{_≡_, refl, ap}
+use mathlib.Core.Path.{_≡_, ap}
 use Prim.Native.Nat.{ℕ, _-_, _^_}
 use native.Mathlib.Omega.{arith}
 use borrow.Author.Needs.{needs}

@@ -11,7 +11,8 @@ use Rattle.job.proofs.lines.check_done.Statement.{statement}
 use Rattle.job.proofs.lines.check_done.Tie as tie
 
 abbrev Inv-loop : tie.InvT-loop
-Inv-loop done line i₀ i = (i ≤ length done) × ((i ≤ 64) × (first (doneRows (line + i) i (drop i done)) ≡ first (doneRows line 0 done)))
+Inv-loop done line i₀ i =
+    (i ≤ length done) × ((i ≤ 64) × (first (doneRows (line + i) i (drop i done)) ≡ first (doneRows line 0 done)))
 
 abbrev μ-loop : tie.MeasureT-loop
 μ-loop done line i₀ i = length done - i
@@ -65,4 +66,23 @@ returns-3 : tie.Need-returns-3 Inv-loop μ-loop
 returns-3 c = search (needs, done-end)
 
 pub check-done-spec : {M : Type 1} → statement M
-check-done-spec = tie.close (tie.spec Inv-loop μ-loop loop-holds add-refuse refuse-requires returns mul-name-fits shared-slice-read-name-fits name-fits-requires add-refuse-2 refuse-requires-2 returns-2 add-i loop-less loop-again pass-requires returns-3)
+check-done-spec =
+    tie.close
+    (tie.spec
+    Inv-loop
+    μ-loop
+    loop-holds
+    add-refuse
+    refuse-requires
+    returns
+    mul-name-fits
+    shared-slice-read-name-fits
+    name-fits-requires
+    add-refuse-2
+    refuse-requires-2
+    returns-2
+    add-i
+    loop-less
+    loop-again
+    pass-requires
+    returns-3)

@@ -1,6 +1,6 @@
 -- `job::lines::lists_fit`: the four lists in turn.
-use mathlib.Core.Path.{_≡_, refl, sym, ap, _∙_}
-use mathlib.Core.Bool.{Bool, true, false, not, _&&_}
+use mathlib.Core.Path.{_≡_, sym, _∙_}
+use mathlib.Core.Bool.{Bool, true, false, not}
 use borrow.Author.Needs.{needs}
 use borrow.Author.Tests.{not-true, not-false}
 use Rattle.mask.proofs.Truth.{and-yes, and-no}
@@ -13,7 +13,8 @@ no-ins : (s : Step) (i : Bool) → i ≡ placeList (s .ins) → not i ≡ true �
 unfolding listsFit
 no-ins s i p h = sym (not-true i h) ∙ and-no _ p (not-true i h)
 
-module _ (s : Step) (i o : Bool) (ins : i ≡ placeList (s .ins)) (some-in : not i ≡ false) (outs : o ≡ placeList (s .outs)) where
+module _ (s : Step) (i o : Bool) (ins : i ≡ placeList (s .ins)) (some-in : not i ≡ false)
+    (outs : o ≡ placeList (s .outs)) where
   no-outs : not o ≡ true → false ≡ listsFit s
   unfolding listsFit
   no-outs h = sym (not-true o h) ∙ and-yes ins (not-false i some-in) (and-no _ outs (not-true o h))
@@ -22,9 +23,11 @@ module _ (s : Step) (i o : Bool) (ins : i ≡ placeList (s .ins)) (some-in : not
   unfolding listsFit
   no-reads r h reads none = and-yes ins (not-false i some-in) (and-yes outs (not-false o h) (and-no _ reads none))
 
-  all : (r w : Bool) → not o ≡ false → r ≡ variableList (s .reads) → r ≡ true → w ≡ variableList (s .writes) → w ≡ listsFit s
+  all : (r w : Bool) → not o ≡ false → r ≡ variableList (s .reads) → r ≡ true → w ≡ variableList (s .writes)
+      → w ≡ listsFit s
   unfolding listsFit
-  all r w h reads some writes = and-yes ins (not-false i some-in) (and-yes outs (not-false o h) (and-yes reads some writes))
+  all r w h reads some writes =
+      and-yes ins (not-false i some-in) (and-yes outs (not-false o h) (and-yes reads some writes))
 
 place-list-requires : tie.Need-place-list-requires
 place-list-requires c κs = search needs
@@ -51,4 +54,14 @@ returns-4 : tie.Need-returns-4
 returns-4 c = search (needs, no-reads)
 
 pub lists-fit-spec : {M : Type 1} → statement M
-lists-fit-spec = tie.close (tie.spec place-list-requires returns place-list-requires-2 returns-2 variable-list-requires variable-list-requires-2 returns-3 returns-4)
+lists-fit-spec =
+    tie.close
+    (tie.spec
+    place-list-requires
+    returns
+    place-list-requires-2
+    returns-2
+    variable-list-requires
+    variable-list-requires-2
+    returns-3
+    returns-4)

@@ -1,5 +1,5 @@
 -- `job::lines::name_fits`: the two bounds in turn.
-use mathlib.Core.Path.{_≡_, refl}
+use mathlib.Core.Path.{refl}
 use borrow.Author.Tests.{le-leb, lt-leb}
 use Rattle.mask.proofs.Truth.{and-yes, and-no}
 use Rattle.job.specs.Lines.{nameFits}

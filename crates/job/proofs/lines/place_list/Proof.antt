@@ -1,5 +1,5 @@
 -- `job::lines::place_list`: not empty, and the count.
-use mathlib.Core.Path.{_≡_, refl, ap}
+use mathlib.Core.Path.{refl, ap}
 use mathlib.Core.Bool.{not}
 use Prim.Native.Nat.{ℕ}
 use lib.Dec.{leb}

@@ -1,5 +1,5 @@
 -- `job::lines::step_fits`: the name, then the places.
-use mathlib.Core.Path.{_≡_, ap, _∙_}
+use mathlib.Core.Path.{ap, _∙_}
 use Prim.Native.Nat.{ℕ}
 use lib.Bits.{bitOr}
 use borrow.Author.Needs.{needs}

@@ -1,36 +1,60 @@
--- `job::runs::run`: the lines, and where they pass the rest.
+-- `job::runs::run`: both routes laid as numbers; what a list has past its 65th step changes nothing.
 use mathlib.Core.Path.{sym, ap, _∙_}
-use borrow.Author.Needs.{needs}
-use borrow.Author.Tests.{not-true, not-false, eqb-true}
-use Rattle.refusal.specs.declared.Outcome.{Outcome}
+use lib.Seq.{length-take-le}
 use Rattle.job.specs.Job.{jobOf}
-use Rattle.job.proofs.RunLine.{ran-refused, checked-lines}
+use Rattle.job.specs.Run.{ran}
+use Rattle.job.proofs.LongLists.{ran-short, laid-short}
+use borrow.Author.Needs.{needs}
 use Rattle.job.proofs.runs.run.Statement.{statement}
 use Rattle.job.proofs.runs.run.Tie as tie
 
-check-lines-requires : tie.Need-check-lines-requires
-check-lines-requires c κs = search needs
+slice-aggregate-lay : tie.Need-slice-aggregate-lay
+slice-aggregate-lay c = search needs
 
-passed-requires : tie.Need-passed-requires
-passed-requires c κs = search needs
+lay-requires : tie.Need-lay-requires
+lay-requires c κs = search needs
 
-stop-requires : tie.Need-stop-requires
-stop-requires c κs = search needs
+slice-aggregate-lay-2 : tie.Need-slice-aggregate-lay-2
+slice-aggregate-lay-2 c = search needs
+
+lay-requires-2 : tie.Need-lay-requires-2
+lay-requires-2 c κs = search needs
+
+array-share-prefix-a : tie.Need-array-share-prefix-a
+array-share-prefix-a c = search needs
+
+slice-aggregate-run-lists : tie.Need-slice-aggregate-run-lists
+slice-aggregate-run-lists c = sym (length-take-le _ _ (array-share-prefix-a (c .before)))
+
+array-share-prefix-b : tie.Need-array-share-prefix-b
+array-share-prefix-b c = search needs
+
+slice-aggregate-run-lists-2 : tie.Need-slice-aggregate-run-lists-2
+slice-aggregate-run-lists-2 c = sym (length-take-le _ _ (array-share-prefix-b (c .before)))
+
+run-lists-requires : tie.Need-run-lists-requires
+run-lists-requires c κs = search needs
 
 returns : tie.Need-returns
 returns c =
-    let a = c .before .before .before .before .before .args in
-    let j = jobOf (a .old) (a .new) (a .done .now) in
-    let e = sym (c .before .before .passed .ensures) ∙ not-true _ (c .before .if1 .taken) in
-    c .stop .ensures ∙ ran-refused j _ (checked-lines j _ (c .before .before .before .check-lines .ensures) e) e
-
-run-checked-requires : tie.Need-run-checked-requires
-run-checked-requires c κs =
-    ap (λ (o : Outcome). o .number) (sym (c .before .before .check-lines .ensures))
-    ∙ eqb-true _ 0 (sym (c .before .passed .ensures) ∙ not-false _ (c .if1 .left))
-
-returns-2 : tie.Need-returns-2
-returns-2 c = search needs
+    let second = c .before .before .before .before in
+    let first = second .before .before .before in
+    let a = first .before .before .before .args in
+    c .run-lists .ensures
+    ∙ ap ran (laid-short (a .old) (a .new) (a .done .now) _ _ _ _ (first .lay .ensures) (second .lay2 .ensures))
+    ∙ sym (ran-short (jobOf (a .old) (a .new) (a .done .now)))
 
 pub run-spec : {M : Type 1} → statement M
-run-spec = tie.close (tie.spec check-lines-requires passed-requires stop-requires returns run-checked-requires returns-2)
+run-spec =
+    tie.close
+    (tie.spec
+    slice-aggregate-lay
+    lay-requires
+    slice-aggregate-lay-2
+    lay-requires-2
+    array-share-prefix-a
+    slice-aggregate-run-lists
+    array-share-prefix-b
+    slice-aggregate-run-lists-2
+    run-lists-requires
+    returns)

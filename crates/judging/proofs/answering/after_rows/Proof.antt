@@ -1,70 +1,54 @@
--- `crate::answering::after_rows`: the rows so far are filled, each from the table's row.
-use mathlib.Core.Path.{_≡_, refl, ap, _∙_}
-use mathlib.Core.Bool.{cond}
-use mathlib.Core.List.{List}
-use Prim.Native.Nat.{ℕ, _-_, _≤_, _<_}
+-- `crate::answering::after_rows`: once the kept left are filled too, all are.
 use native.Mathlib.Omega.{arith}
 use borrow.Author.Needs.{needs}
-use lib.Bits.{bitAnd}
-use lib.ListN.{length, getD}
-use Rattle.mask.specs.Mask.{has}
-use Rattle.route.specs.declared.Step.{Step}
-use Rattle.slice.specs.Precedence.{row}
-use Rattle.slice.specs.Table.{table}
-use Rattle.slice.proofs.Filled.{turn-at}
-use Rattle.judging.specs.Judge.{afterOf}
-use Rattle.judging.proofs.Front.{Front, front-more, front-all}
+use Prim.Native.Nat.{_<_}
+use lib.Count.{trailingZeros, trailing-le}
+use Rattle.mask.proofs.FromLowest.{lowest-lt, rest-less}
+use Rattle.judging.proofs.AfterRows.{Rows, rows-init, rows-step, rows-done}
 use Rattle.judging.proofs.answering.after_rows.Statement.{statement}
 use Rattle.judging.proofs.answering.after_rows.Tie as tie
 
-abbrev shown : ℕ → List ℕ → ℕ → ℕ
-shown kept rows i = cond (has kept i) (bitAnd (getD rows i 0) kept) 0
-
-shown-is : (kept : ℕ) (rows : List ℕ) (l : List Step) → rows ≡ table l → (i : ℕ) → i < 64 → shown kept rows i ≡ afterOf l kept i
-unfolding afterOf table
-shown-is kept rows l is i h = ap (λ (r : ℕ). cond (has kept i) (bitAnd r kept) 0) (ap (λ (a : List ℕ). getD a i 0) is ∙ turn-at (row l) 0 64 i h ∙ ap (row l) (omega arith))
-
 abbrev Inv-loop : tie.InvT-loop
-Inv-loop kept rows after₀ i₀ after i = (i ≤ 64) × ((length after ≡ 64) × Front (shown kept rows) i after)
+Inv-loop rows kept after₀ left₀ after left = Rows rows kept after left
 
 abbrev μ-loop : tie.MeasureT-loop
-μ-loop kept rows after₀ i₀ after i = 64 - i
+μ-loop rows kept after₀ left₀ after left = left
+
+low : (c : tie.In-loop Inv-loop μ-loop) → trailingZeros 64 (c .before .loop .left) < 64
+low c = lowest-lt 64 (c .before .loop .left) (c .loop-test .taken) (c .before .loop .inv .narrow)
 
 loop-holds : tie.Need-loop-holds Inv-loop μ-loop
-loop-holds c = (search needs, (refl, λ k h. absurd (omega arith)))
+loop-holds c = rows-init _ _ (search needs)
 
-mul-after-row : tie.Need-mul-after-row Inv-loop μ-loop
-mul-after-row c = search needs
+cast-i : tie.Need-cast-i Inv-loop μ-loop
+cast-i c = omega (arith, trailing-le 64 (c .before .loop .left))
 
-array-read-after-row : tie.Need-array-read-after-row Inv-loop μ-loop
-array-read-after-row c = search needs
-
-after-row-requires : tie.Need-after-row-requires Inv-loop μ-loop
-after-row-requires c κs = search needs
+sub-left : tie.Need-sub-left Inv-loop μ-loop
+sub-left c = search needs
 
 mul-after : tie.Need-mul-after Inv-loop μ-loop
-mul-after c = search needs
+mul-after c = record { fits = omega (arith, low c) }
+
+element-copy-out-after : tie.Need-element-copy-out-after Inv-loop μ-loop
+element-copy-out-after c = low c
+
+mul-after-2 : tie.Need-mul-after-2 Inv-loop μ-loop
+mul-after-2 c = record { fits = omega (arith, low (c .before)) }
 
 array-write-after : tie.Need-array-write-after Inv-loop μ-loop
-array-write-after c = search needs
-
-add-i : tie.Need-add-i Inv-loop μ-loop
-add-i c = search needs
+array-write-after c = omega (arith, low (c .before), c .before .before .loop .inv .room)
 
 loop-less : tie.Need-loop-less Inv-loop μ-loop
-loop-less c = search needs
+loop-less c = let l = c .before .before .loop in rest-less 64 (l .left) (c .before .loop-test .taken) (l .inv .narrow)
 
 loop-again : tie.Need-loop-again Inv-loop μ-loop
-loop-again c =
-    let l = c .before .before in
-    let a = l .before .args in
-    (search needs, (search needs, front-more (shown (a .kept) (a .t1)) (l .loop .i) _ (l .loop .after) (l .loop .inv .1 .1) (omega arith) (c .after-row .ensures)))
+loop-again c = rows-step _ _ _ _ (c .before .before .loop .inv) (c .before .loop-test .taken)
 
 returns : tie.Need-returns Inv-loop μ-loop
-returns c l is =
-    let h = c .before .loop .inv in
-    let a = c .before .before .args in
-    front-all (afterOf l (a .kept)) 64 _ (h .1 .0) (λ k b. h .1 .1 k (omega arith) ∙ shown-is (a .kept) (a .t1) l is k b)
+returns c l is = rows-done _ _ _ _ (c .before .loop .inv) (c .loop-test .left) l is
 
 pub after-rows-spec : {M : Type 1} → statement M
-after-rows-spec = tie.close (tie.spec Inv-loop μ-loop loop-holds mul-after-row array-read-after-row after-row-requires mul-after array-write-after add-i loop-less loop-again returns)
+after-rows-spec =
+    tie.close
+    (tie.spec Inv-loop μ-loop loop-holds cast-i sub-left mul-after element-copy-out-after mul-after-2 array-write-after
+    loop-less loop-again returns)

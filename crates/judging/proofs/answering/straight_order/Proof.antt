@@ -42,7 +42,10 @@ returns : tie.Need-returns Inv-loop μ-loop
 returns c =
     let l = c .before .loop in
     let all : l .i ≡ c .before .before .args .len = omega arith in
-    padded-is 64 _ (l .order) (l .inv .1 .0) (λ k. l .inv .1 .1 k ∙ ap (λ (n : ℕ). cond (ltb k n) (k + 1) 0) all ∙ sym (turn-number _ k))
+    padded-is 64 _ (l .order) (l .inv .1 .0)
+    (λ k. l .inv .1 .1 k ∙ ap (λ (n : ℕ). cond (ltb k n) (k + 1) 0) all ∙ sym (turn-number _ k))
 
 pub straight-order-spec : {M : Type 1} → statement M
-straight-order-spec = tie.close (tie.spec Inv-loop μ-loop loop-holds cast-order add-order array-write-order add-i loop-less loop-again returns)
+straight-order-spec =
+    tie.close
+    (tie.spec Inv-loop μ-loop loop-holds cast-order add-order array-write-order add-i loop-less loop-again returns)

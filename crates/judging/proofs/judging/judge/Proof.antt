@@ -1,52 +1,69 @@
--- `crate::judging::judge`: row 14, then the lines, and where they pass the rest.
+-- `crate::judging::judge`: both routes laid as numbers; what a list has past its 65th step changes nothing.
 use mathlib.Core.Path.{sym, ap, _∙_}
 use borrow.Author.Needs.{needs}
-use borrow.Author.Tests.{not-true, not-false, eqb-true, eqb-false}
-use Rattle.refusal.specs.declared.Outcome.{Outcome}
+use lib.ListN.{length}
+use lib.Seq.{length-take-le}
 use Rattle.job.specs.Job.{Job, jobOf}
-use Rattle.matching.proofs.Cases.{lines-refused}
-use Rattle.judging.proofs.Whole.{judged-short, work-short, judged-refused, work-refused}
+use Rattle.job.proofs.LongLists.{laid-short}
+use Rattle.judging.specs.Judge.{judged, workAfter}
+use Rattle.judging.proofs.LongLists.{judged-short-lists, work-short-lists}
 use Rattle.judging.proofs.judging.judge.Statement.{statement}
 use Rattle.judging.proofs.judging.judge.Tie as tie
 
-abbrev jobAt : tie.Start → Job
-jobAt s = jobOf (s .args .old) (s .args .new) (s .args .done .now)
+slice-aggregate-lay : tie.Need-slice-aggregate-lay
+slice-aggregate-lay c = search needs
 
-stop-requires : tie.Need-stop-requires
-stop-requires c κs = search needs
+lay-requires : tie.Need-lay-requires
+lay-requires c κs = search needs
 
-returns : tie.Need-returns
-returns c =
-    let s = c .before .before .before .before in
-    (c .stop .ensures ∙ judged-short (jobAt s) _ (c .before .if1 .taken), work-short (jobAt s) _ (c .before .if1 .taken))
+slice-aggregate-lay-2 : tie.Need-slice-aggregate-lay-2
+slice-aggregate-lay-2 c = search needs
 
-check-lines-requires : tie.Need-check-lines-requires
-check-lines-requires c κs = search needs
+lay-requires-2 : tie.Need-lay-requires-2
+lay-requires-2 c κs = search needs
 
-passed-requires : tie.Need-passed-requires
-passed-requires c κs = search needs
+array-share-prefix-a : tie.Need-array-share-prefix-a
+array-share-prefix-a c = search needs
 
-stop-requires-2 : tie.Need-stop-requires-2
-stop-requires-2 c κs = search needs
+slice-aggregate-judge-lists : tie.Need-slice-aggregate-judge-lists
+slice-aggregate-judge-lists c = sym (length-take-le _ _ (array-share-prefix-a (c .before)))
 
-returns-2 : tie.Need-returns-2
-returns-2 c =
-    let l = c .before .before .before in
-    let j = jobAt (l .before .before .before .before) in
-    let e = sym (c .before .before .passed .ensures) ∙ not-true _ (c .before .if2 .taken) in
-    let o = lines-refused j _ (l .check-lines .ensures) e in
-    (c .stop2 .ensures ∙ judged-refused j _ o (eqb-false _ 0 e) _ (l .before .if1 .left), work-refused j _ o (eqb-false _ 0 e) _)
+array-share-prefix-b : tie.Need-array-share-prefix-b
+array-share-prefix-b c = search needs
 
-judge-checked-requires : tie.Need-judge-checked-requires
-judge-checked-requires c κs =
-    let l = c .before .before .before in
-    (ap (λ (o : Outcome). o .number) (sym (l .check-lines .ensures)) ∙ eqb-true _ 0 (sym (c .before .before .passed .ensures) ∙ not-false _ (c .before .if2 .left)), l .before .if1 .left)
+slice-aggregate-judge-lists-2 : tie.Need-slice-aggregate-judge-lists-2
+slice-aggregate-judge-lists-2 c = sym (length-take-le _ _ (array-share-prefix-b (c .before)))
+
+judge-lists-requires : tie.Need-judge-lists-requires
+judge-lists-requires c κs = search needs
 
 same-length : tie.Need-same-length
 same-length c = search needs
 
-returns-3 : tie.Need-returns-3
-returns-3 c = search needs
+returns : tie.Need-returns
+returns c =
+    let l = c .before .before in
+    let second = l .before .before .before .before .before in
+    let first = second .before .before .before in
+    let a = first .before .before .before .before .args in
+    let j = jobOf (a .old) (a .new) (a .done .now) in
+    let laid = laid-short (a .old) (a .new) (a .done .now) _ _ _ _ (first .lay .ensures) (second .lay2 .ensures) in (
+      l .judge-lists .ensures .0 ∙ ap (λ (x : Job). judged x (length (a .work .now))) laid ∙ sym (judged-short-lists j (length (a .work .now))),
+      l .judge-lists .ensures .1 ∙ ap (λ (x : Job). workAfter x (a .work .now)) laid ∙ sym (work-short-lists j (a .work .now)),
+    )
 
 pub judge-spec : {M : Type 1} → statement M
-judge-spec = tie.close (tie.spec stop-requires returns check-lines-requires passed-requires stop-requires-2 returns-2 judge-checked-requires same-length returns-3)
+judge-spec =
+    tie.close
+    (tie.spec
+    slice-aggregate-lay
+    lay-requires
+    slice-aggregate-lay-2
+    lay-requires-2
+    array-share-prefix-a
+    slice-aggregate-judge-lists
+    array-share-prefix-b
+    slice-aggregate-judge-lists-2
+    judge-lists-requires
+    same-length
+    returns)

@@ -1,29 +1,78 @@
 -- `crate::judging::judge_kept`: the search over the candidates finds the first fit list of the kept.
-use mathlib.Core.Path.{_∙_}
+use mathlib.Core.Path.{ap, _∙_, subst}
+use mathlib.Core.List.{List}
 use native.Mathlib.Omega.{arith}
 use borrow.Author.Needs.{needs}
-use Rattle.judging.proofs.Lent.{Room}
-use Rattle.judging.proofs.Chosen.{none-fit, order-fit}
-use Rattle.judging.proofs.Judges.{fit-answer, none-answer}
+use Rattle.route.specs.Flat.{stepsIn}
+use Rattle.route.specs.declared.Step.{Step}
+use Rattle.matching.specs.Matched.{matched}
+use Rattle.judging.specs.Columns.{ColumnsOf, positions}
+use Rattle.judging.specs.Passing.{Passing}
+use Rattle.judging.specs.declared.Placed.{Placed}
+use Rattle.judging.proofs.CandidateColumns.{Room}
+use Rattle.judging.proofs.FirstFit.{Found, none-fit, order-fit}
+use Rattle.judging.proofs.JudgeRows.{fit-answer, none-answer, passing-matched, passing-few, passing-limit, passing-same}
 use Rattle.judging.proofs.judging.judge_kept.Statement.{statement}
 use Rattle.judging.proofs.judging.judge_kept.Tie as tie
 
-room : (c : tie.After-pick) → Room (c .pick .result)
-room c = record { few = omega (arith, c .pick .ensures .positions-are .length-is, c .before .before .before .pre .1 .0); ins-room = search needs; outs-room = search needs; before-room = search needs }
+-- the columns of the kept
+module _ (c : tie.After-columns) where
+  abbrev start : tie.Start
+  start = c .before .before .before .before .before .before
 
-pick-requires : tie.Need-pick-requires
-pick-requires c κs = search needs
+  abbrev Job : Type 0
+  Job = Passing (start .args .p) (stepsIn (start .args .occurrences .now)) (stepsIn (start .args .matches .now))
 
-search-kept-requires : tie.Need-search-kept-requires
-search-kept-requires c κs = search needs
+  room : Room (c .columns .result)
+  room =
+      record {
+        few = omega (arith, c .columns .ensures .length-is, passing-limit (start .pre .0) (start .pre .1 .0));
+        ins-room = search needs;
+        outs-room = search needs;
+        before-room = search needs;
+      }
+
+  columns-are :
+      (k : Job)
+      → ColumnsOf (start .args .p .kept) (start .args .t4) (matched (k .new) (stepsIn (start .args .occurrences .now))) (c .columns .result)
+  columns-are k =
+      subst (λ (t : List Step). ColumnsOf (start .args .p .kept) (start .args .t4) t (c .columns .result))
+      (k .matches-are) (c .columns .ensures)
+
+-- an order that the search found
+module _ (c : tie.After-known-told) where
+  abbrev gathered : tie.After-columns
+  gathered = c .before .before .before .before .before .before .before
+
+  fits :
+      (k : Job gathered)
+      → Found (k .new) (stepsIn (start gathered .args .occurrences .now)) (gathered .columns .result) (start gathered .args .p .start .tokens) (c .before .found .given .0 .0)
+  fits k =
+      order-fit (k .new) _ _ _ _ (k .kept-is) (passing-same k) (start gathered .pre .1 .1 .0) (columns-are gathered k)
+      (room gathered) _ _ (c .before .before .before .before .before .search-columns .ensures .0) _
+      (c .before .found .given .1)
+
+columns-requires : tie.Need-columns-requires
+columns-requires c κs =
+    let s = c .before .before .before .before .before in
+    (passing-limit (s .pre .0) (s .pre .1 .0), passing-matched (s .pre .0))
+
+search-columns-requires : tie.Need-search-columns-requires
+search-columns-requires c κs = (room (c .before) .few, start (c .before) .pre .1 .1 .1)
 
 enum-known-found : tie.Need-enum-known-found
 enum-known-found c = search needs
 
-judge-found-requires : tie.Need-judge-found-requires
-judge-found-requires c κs =
-    let t = c .before .before .before .before .before .before .before in
-    (c .before .before .before .before .before .before .before .before .before .before .pre .0, (room t .few, t .pick .ensures .positions-are .low))
+placed-requires : tie.Need-placed-requires
+placed-requires c κs = (room (gathered c) .few, gathered c .columns .ensures .low)
+
+answered-requires : tie.Need-answered-requires
+answered-requires c κs =
+    let t = c .before .before in
+    let k = start (gathered t) .pre .0 in
+    let f = fits t k in
+    let long = ap (λ (x : Placed). x .len) (c .before .placed .ensures (f .order) (f .packed)) in
+    ((k .short, omega (arith, long, f .packed .long, room (gathered t) .few)), passing-few k)
 
 enum-told : tie.Need-enum-told
 enum-told c = search needs
@@ -36,13 +85,14 @@ same-length c = search needs
 
 returns : tie.Need-returns
 returns c =
-    let t = c .before .before .before .before .before .before .before .before in
-    let s = c .before .before .before .before .before .before in (
-      λ new l is.
-          let f = order-fit is (t .pick .ensures) (room t) _ _ (s .search-kept .ensures .0) _ (c .before .before .found .given .1) in
-          c .judge-found .ensures new l (f .order) (is .cut-is) (is .vars-are) (f .items) (f .ends)
-          ∙ fit-answer _ _ new l _ _ (is .cut-is .kept-is) (f .fit),
-      s .search-kept .ensures .1,
+    let t = c .before .before .before in (
+      λ k.
+          let f = fits t k in
+          c .answered .ensures _ (k .new) (positions (gathered t .columns .result) (f .order))
+          (start (gathered t) .pre .1 .1 .0) (k .vars-are)
+          (c .before .before .placed .ensures (f .order) (f .packed) ∙ f .placed-is)
+          ∙ fit-answer _ _ (k .new) _ _ _ (k .kept-is) (f .fit),
+      t .before .before .before .before .before .search-columns .ensures .1,
     )
 
 same-length-2 : tie.Need-same-length-2
@@ -50,11 +100,16 @@ same-length-2 c = search needs
 
 returns-2 : tie.Need-returns-2
 returns-2 c =
-    let t = c .before .before .before .before .before .before .before in
-    let s = c .before .before .before .before .before in (
-      λ new l is. c .stop .ensures ∙ none-answer _ _ new l (none-fit is (t .pick .ensures) (room t) _ _ (s .search-kept .ensures .0) (c .before .enum-told .given .1)),
-      s .search-kept .ensures .1,
+    let s = c .before .before .before .before .before in
+    let g = s .before .before in (
+      λ k.
+          c .stop .ensures
+          ∙ none-answer _ _ (k .new) _ (none-fit (k .new) _ _ _ _ (k .kept-is) (passing-same k) (start g .pre .1 .1 .0) (columns-are g k) (room g) _ _ (s .search-columns .ensures .0) (c .before .enum-told .given .1)),
+      s .search-columns .ensures .1,
     )
 
 pub judge-kept-spec : {M : Type 1} → statement M
-judge-kept-spec = tie.close (tie.spec pick-requires search-kept-requires enum-known-found judge-found-requires enum-told stop-requires same-length returns same-length-2 returns-2)
+judge-kept-spec =
+    tie.close
+    (tie.spec columns-requires search-columns-requires enum-known-found placed-requires answered-requires enum-told
+    stop-requires same-length returns same-length-2 returns-2)

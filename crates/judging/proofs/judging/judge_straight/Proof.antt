@@ -1,33 +1,53 @@
 -- `crate::judging::judge_straight`: all in turn, and all of them kept.
-use mathlib.Core.Path.{sym, ap, _∙_, subst}
-use mathlib.Core.List.{map}
+use mathlib.Core.Path.{_≡_, sym, ap, _∙_, subst}
+use mathlib.Core.List.{List, map}
 use Prim.Native.Nat.{ℕ, suc, _≤_}
+use native.Mathlib.Omega.{arith}
 use borrow.Author.Needs.{needs}
 use lib.ListN.{length}
 use Rattle.mask.specs.Mask.{below, count}
+use Rattle.route.specs.Flat.{stepsIn}
+use Rattle.route.specs.declared.Step.{Step}
 use Rattle.slice.specs.Order.{inTurn}
+use Rattle.slice.proofs.InTurn.{length-inTurn}
 use Rattle.judging.specs.Judge.{padded, answer}
-use Rattle.judging.proofs.Front.{turn-length}
-use Rattle.judging.proofs.Shown.{below-few, straight-marking}
+use Rattle.judging.proofs.JudgeRows.{below-few, straight-list}
 use Rattle.judging.proofs.judging.judge_straight.Statement.{statement}
 use Rattle.judging.proofs.judging.judge_straight.Tie as tie
 
+-- the steps done, and the mask of them all
+module _ (c : tie.After-straight-order) where
+  abbrev done : List Step
+  done = stepsIn (c .before .before .before .before .args .occurrences .now)
+
+  few : length done ≤ 64
+  few = c .before .before .before .before .pre
+
+  kept-is : c .before .below64 .result ≡ below (length done)
+  kept-is = c .before .below64 .ensures ∙ ap (λ (n : ℕ). below n) (c .before .before .count .ensures)
+
+count-requires : tie.Need-count-requires
+count-requires c κs = search needs
+
 below64-requires : tie.Need-below64-requires
-below64-requires c κs = search needs
+below64-requires c κs = omega (arith, c .count .ensures, c .before .before .pre)
 
 straight-order-requires : tie.Need-straight-order-requires
-straight-order-requires c κs = search needs
+straight-order-requires c κs = omega (arith, c .before .count .ensures, c .before .before .before .pre)
 
 answered-requires : tie.Need-answered-requires
 answered-requires c κs =
-    let s = c .before .before .before in
-    ((s .pre, s .pre), subst (λ (m : ℕ). count 64 m ≤ s .args .cut .uses .len) (sym (c .before .below64 .ensures)) (below-few (s .args .cut .uses .len)))
+    let s = c .before in
+    ((few s, omega (arith, few s, s .before .before .count .ensures)), subst (λ (m : ℕ). count 64 m ≤ length (done s)) (sym (kept-is s)) (below-few (length (done s))))
 
 returns : tie.Need-returns
-returns c from new l cut vars m =
-    let n = cut .uses-are .length-is in
-    c .answered .ensures from new l (inTurn 0 (length l)) cut vars (n ∙ sym (turn-length 0 (length l))) (c .before .straight-order .ensures ∙ ap (λ (k : ℕ). padded 64 (map suc (inTurn 0 k))) n) (m ∙ straight-marking from new l)
-    ∙ ap (λ (k : ℕ). answer from new l k (inTurn 0 (length l))) (c .before .before .below64 .ensures ∙ ap (λ (k : ℕ). below k) n)
+returns c from new rows vars m =
+    let s = c .before .before in
+    let n = s .before .before .count .ensures in
+    c .answered .ensures from new (inTurn 0 (length (done s))) rows vars
+    (straight-list from new (done s) _ _ _ (n ∙ sym (length-inTurn 0 (length (done s)))) (s .straight-order .ensures ∙ ap (λ (k : ℕ). padded 64 (map suc (inTurn 0 k))) n) m)
+    ∙ ap (λ (k : ℕ). answer from new (done s) k (inTurn 0 (length (done s)))) (kept-is s)
 
 pub judge-straight-spec : {M : Type 1} → statement M
-judge-straight-spec = tie.close (tie.spec below64-requires straight-order-requires answered-requires returns)
+judge-straight-spec =
+    tie.close (tie.spec count-requires below64-requires straight-order-requires answered-requires returns)

@@ -98,8 +98,11 @@ returns c =
     let a = c .before .before .before in
     let n : a .args .s .name < 4294967296 = search needs in
     let r : a .args .s .reads < 4294967296 = search needs in
-    let w : a .args .s .writes < 4294967296 = search needs in
-    (flat-put _ _ _ _ _ _ (a .pre) ∙ ap (λ (s : Step). set (stepsIn (a .args .steps .now)) (a .args .i) s) (step-again _ n r w), search needs)
+    let w : a .args .s .writes < 4294967296 = search needs in (
+      flat-put _ _ _ _ _ _ (a .pre) ∙ ap (λ (s : Step). set (stepsIn (a .args .steps .now)) (a .args .i) s)
+          (step-again _ n r w),
+      search needs,
+    )
 
 pub put-spec : {M : Type 1} → statement M
 put-spec =

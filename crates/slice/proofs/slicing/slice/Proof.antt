@@ -1,67 +1,44 @@
--- `slice::slicing::slice`: the rows to 9, and else what is kept and the table.
-use mathlib.Core.Path.{_≡_, sym, ap, _∙_}
-use mathlib.Core.Bool.{Bool, true, false, cond}
-use mathlib.Core.List.{List}
-use Prim.Native.Nat.{ℕ, _≤_}
-use native.Mathlib.Omega.{arith}
+-- `slice::slicing::slice`: both routes laid as numbers.
+use mathlib.Core.Path.{sym}
 use borrow.Author.Needs.{needs}
-use borrow.Author.Tests.{eq-eqb, ne-eqb}
-use lib.Dec.{eqb}
-use lib.ListN.{length, replicate}
-use Rattle.route.proofs.Full.{full}
-use Rattle.route.proofs.StepList.{length-steps}
-use Rattle.job.specs.Job.{Job, jobOf}
-use Rattle.job.specs.Run.{ran}
-use Rattle.job.specs.declared.Ran.{Ran}
-use Rattle.job.proofs.Rows.{LinesFit}
-use Rattle.job.proofs.RunLine.{ran-fits}
-use Rattle.slice.specs.Slice.{performed, variables, keptMask}
-use Rattle.slice.specs.Table.{table, sliced}
+use lib.Seq.{length-take-le}
+use Rattle.slice.proofs.SliceRows.{sliced-laid}
 use Rattle.slice.proofs.slicing.slice.Statement.{statement}
 use Rattle.slice.proofs.slicing.slice.Tie as tie
 
-module _ (j : Job) (r : Ran) (is : r ≡ ran j) where
-  picked : (t : Bool) → eqb (r .number) 0 ≡ t → cond t (record { number = 0; second = 0; kept = keptMask (performed (j .old) (j .done)) (variables (j .new)); table = table (performed (j .old) (j .done)) }) (record { number = ran j .number; second = ran j .second; kept = 0; table = replicate 64 0 }) ≡ sliced j
-  unfolding sliced
-  picked t e = ap (λ (x : Bool). cond x (record { number = 0; second = 0; kept = keptMask (performed (j .old) (j .done)) (variables (j .new)); table = table (performed (j .old) (j .done)) }) (record { number = ran j .number; second = ran j .second; kept = 0; table = replicate 64 0 })) (sym e ∙ ap (λ (x : Ran). eqb (x .number) 0) is)
+slice-aggregate-lay : tie.Need-slice-aggregate-lay
+slice-aggregate-lay c = search needs
 
-  refused : (r .number ≡ 0 → ⊥) → record { number = r .number; second = r .second; kept = 0; table = replicate 64 0 } ≡ sliced j
-  refused e = (λ i. record { number = is i .number; second = is i .second; kept = 0; table = replicate 64 0 }) ∙ picked false (ne-eqb (r .number) 0 e)
+lay-requires : tie.Need-lay-requires
+lay-requires c κs = search needs
 
-  answered : r .number ≡ 0 → (k : ℕ) (rows : List ℕ) → k ≡ keptMask (performed (j .old) (j .done)) (variables (j .new)) → rows ≡ table (performed (j .old) (j .done)) → record { number = 0; second = 0; kept = k; table = rows } ≡ sliced j
-  answered e k rows p q = (λ i. record { number = 0; second = 0; kept = p i; table = q i }) ∙ picked true (eq-eqb (r .number) 0 e)
+slice-aggregate-lay-2 : tie.Need-slice-aggregate-lay-2
+slice-aggregate-lay-2 c = search needs
 
--- after the rows to 9 have passed
-module _ (c : tie.Else1) where
-  abbrev job : Job
-  job = jobOf (c .before .before .before .before .args .old) (c .before .before .before .before .args .new) (c .before .before .before .before .args .done .now)
+lay-requires-2 : tie.Need-lay-requires-2
+lay-requires-2 c κs = search needs
 
-  fits : LinesFit job
-  fits = ran-fits job (ap (λ (r : Ran). r .number) (sym (c .before .before .run .ensures)) ∙ c .if1 .left)
+array-share-prefix-a : tie.Need-array-share-prefix-a
+array-share-prefix-a c = search needs
 
-  old-length : length (job .old) ≡ c .before .before .before .before .args .old .len
-  old-length = length-steps _ (full (c .before .before .before .before .args .old) _ (c .before .before .before .before .good .0))
+slice-aggregate-slice-lists : tie.Need-slice-aggregate-slice-lists
+slice-aggregate-slice-lists c = sym (length-take-le _ _ (array-share-prefix-a (c .before)))
 
-  new-length : length (job .new) ≡ c .before .before .before .before .args .new .len
-  new-length = length-steps _ (full (c .before .before .before .before .args .new) _ (c .before .before .before .before .good .1 .0))
+array-share-prefix-b : tie.Need-array-share-prefix-b
+array-share-prefix-b c = search needs
 
-run-requires : tie.Need-run-requires
-run-requires c κs = search needs
+slice-aggregate-slice-lists-2 : tie.Need-slice-aggregate-slice-lists-2
+slice-aggregate-slice-lists-2 c = sym (length-take-le _ _ (array-share-prefix-b (c .before)))
+
+slice-lists-requires : tie.Need-slice-lists-requires
+slice-lists-requires c κs = search needs
 
 returns : tie.Need-returns
 returns c =
-    let a = c .before .before .before .before .args in
-    refused (jobOf (a .old) (a .new) (a .done .now)) _ (c .before .before .run .ensures) (c .if1 .taken)
-
-cut-requires : tie.Need-cut-requires
-cut-requires c κs =
-    ((omega (arith, fits c .old-fits .steps-fit, old-length c), omega (arith, fits c .new-fits .steps-fit, new-length c)), fits c .done-fit)
-
-returns-2 : tie.Need-returns-2
-returns-2 c =
-    let k = c .before in
-    let e = k .before in
-    answered (job e) _ (e .before .before .run .ensures) (e .if1 .left) _ _ (k .cut .ensures .kept-is) (k .cut .ensures .table-is)
+    let second = c .before .before .before .before in
+    let first = second .before .before .before in
+    let a = first .before .before .before .args in
+    sliced-laid (a .old) (a .new) (a .done .now) _ _ _ _ _ (first .lay .ensures) (second .lay2 .ensures) (c .slice-lists .ensures)
 
 pub slice-spec : {M : Type 1} → statement M
-slice-spec = tie.close (tie.spec run-requires returns cut-requires returns-2)
+slice-spec = tie.close (tie.spec slice-aggregate-lay lay-requires slice-aggregate-lay-2 lay-requires-2 array-share-prefix-a slice-aggregate-slice-lists array-share-prefix-b slice-aggregate-slice-lists-2 slice-lists-requires returns)

@@ -1,38 +1,44 @@
--- `crate::trying::try_order`: the lines, and where they pass the rest.
-use mathlib.Core.Path.{sym, ap, _∙_}
+-- `crate::trying::try_order`: both routes laid as numbers.
+use mathlib.Core.Path.{sym}
 use borrow.Author.Needs.{needs}
-use borrow.Author.Tests.{not-true, not-false, eqb-true}
-use Rattle.refusal.specs.declared.Outcome.{Outcome}
-use Rattle.job.specs.Job.{jobOf}
-use Rattle.matching.proofs.Cases.{lines-refused}
-use Rattle.trying.proofs.TryRows.{tried-refused}
+use lib.Seq.{length-take-le}
+use Rattle.trying.proofs.TryRows.{tried-laid}
 use Rattle.trying.proofs.trying.try_order.Statement.{statement}
 use Rattle.trying.proofs.trying.try_order.Tie as tie
 
-check-lines-requires : tie.Need-check-lines-requires
-check-lines-requires c κs = search needs
+slice-aggregate-lay : tie.Need-slice-aggregate-lay
+slice-aggregate-lay c = search needs
 
-passed-requires : tie.Need-passed-requires
-passed-requires c κs = search needs
+lay-requires : tie.Need-lay-requires
+lay-requires c κs = search needs
 
-stop-requires : tie.Need-stop-requires
-stop-requires c κs = search needs
+slice-aggregate-lay-2 : tie.Need-slice-aggregate-lay-2
+slice-aggregate-lay-2 c = search needs
+
+lay-requires-2 : tie.Need-lay-requires-2
+lay-requires-2 c κs = search needs
+
+array-share-prefix-a : tie.Need-array-share-prefix-a
+array-share-prefix-a c = search needs
+
+slice-aggregate-try-lists : tie.Need-slice-aggregate-try-lists
+slice-aggregate-try-lists c = sym (length-take-le _ _ (array-share-prefix-a (c .before)))
+
+array-share-prefix-b : tie.Need-array-share-prefix-b
+array-share-prefix-b c = search needs
+
+slice-aggregate-try-lists-2 : tie.Need-slice-aggregate-try-lists-2
+slice-aggregate-try-lists-2 c = sym (length-take-le _ _ (array-share-prefix-b (c .before)))
+
+try-lists-requires : tie.Need-try-lists-requires
+try-lists-requires c κs = search needs
 
 returns : tie.Need-returns
 returns c =
-    let l = c .before .before .before in
-    let a = l .before .before .before .args in
-    let j = jobOf (a .old) (a .new) (a .done .now) in
-    let e = sym (c .before .before .passed .ensures) ∙ not-true _ (c .before .if1 .taken) in
-    c .stop .ensures ∙ tried-refused j _ _ (lines-refused j _ (l .check-lines .ensures) e) e
-
-try-checked-requires : tie.Need-try-checked-requires
-try-checked-requires c κs =
-    ap (λ (o : Outcome). o .number) (sym (c .before .before .check-lines .ensures))
-    ∙ eqb-true _ 0 (sym (c .before .passed .ensures) ∙ not-false _ (c .if1 .left))
-
-returns-2 : tie.Need-returns-2
-returns-2 c = search needs
+    let second = c .before .before .before .before in
+    let first = second .before .before .before in
+    let a = first .before .before .before .before .args in
+    tried-laid (a .old) (a .new) (a .done .now) (a .order .now) _ _ _ _ _ (first .lay .ensures) (second .lay2 .ensures) (c .try-lists .ensures)
 
 pub try-order-spec : {M : Type 1} → statement M
-try-order-spec = tie.close (tie.spec check-lines-requires passed-requires stop-requires returns try-checked-requires returns-2)
+try-order-spec = tie.close (tie.spec slice-aggregate-lay lay-requires slice-aggregate-lay-2 lay-requires-2 array-share-prefix-a slice-aggregate-try-lists array-share-prefix-b slice-aggregate-try-lists-2 try-lists-requires returns)

@@ -1,0 +1,223 @@
+-- A list of over 64 steps is refused by row 4 at its 65th, unless an earlier line's fault goes first; its steps past
+-- the 65th change nothing. So an answer that depends, where the lines are refused, on nothing but that refusal, is the
+-- answer to the job with both lists cut to 65.
+use mathlib.Core.Path.{_≡_, refl, sym, ap, ap₂, _∙_}
+use mathlib.Core.Bool.{Bool, true, false, cond}
+use mathlib.Core.List.{List, [], _∷_, _++_}
+use Prim.Native.Nat.{ℕ, _+_, _≤_, _<_}
+use native.Mathlib.Omega.{arith}
+use lib.Dec.{eqb, ltb}
+use lib.ListN.{length, take, drop, getD, length-append, length-take}
+use lib.Seq.{take-all, take-take, split-at, length-take-le}
+use borrow.Author.Tests.{ltb-true, ltb-false}
+use Rattle.refusal.specs.Rows.{refuse, unless, first}
+use Rattle.refusal.specs.declared.Outcome.{Outcome}
+use Rattle.refusal.proofs.Rows.{rows-pass, rows-refuse, row-refuses}
+use Rattle.route.specs.Steps.{blank, stepsOf}
+use Rattle.route.specs.Flat.{Laid}
+use Rattle.route.specs.declared.Route.{Route}
+use Rattle.route.specs.declared.Step.{Step}
+use Rattle.job.specs.Job.{Job, jobOf, flatJob, newLine}
+use Rattle.job.specs.Lines.{placesFit, stepRow, stepRows, routeRows, lineRows, checked}
+use Rattle.job.specs.Run.{ran}
+
+-- the job with other lists of steps
+abbrev withSteps : Job → List Step → List Step → Job
+withSteps j old new =
+    record { oldPlaces = j .oldPlaces; old = old; newPlaces = j .newPlaces; new = new; done = j .done }
+
+-- the job with both lists cut to 65
+abbrev pub short : Job → Job
+short j = withSteps j (take 65 (j .old)) (take 65 (j .new))
+
+-- ---- a list over 64: the rows of its first 64 lines, and row 4 at the next
+
+tooMany : ℕ → ℕ → List ℕ → List Step → Outcome
+tooMany line places earlier a = first (stepRows line places earlier a ++ (refuse 4 (line + length a) ∷ []))
+
+-- the 65th step is refused, whatever it is
+full-row : (line places : ℕ) (earlier : List ℕ) (s : Step) → length earlier ≡ 64
+    → stepRow line places earlier s ≡ refuse 4 line
+unfolding stepRow
+full-row line places earlier s e = row-refuses (ltb (length earlier) 64) 4 line _ (ap (λ (n : ℕ). ltb n 64) e) refl
+
+over-rows : (line places : ℕ) (earlier : List ℕ) (a : List Step) (s : Step) (r : List Step)
+    → length earlier + length a ≡ 64 → first (stepRows line places earlier (a ++ s ∷ r)) ≡ tooMany line places earlier a
+unfolding stepRows first tooMany
+over-rows line places earlier [] s r e =
+    ap (λ (o : Outcome). first (o ∷ stepRows (line + 1) places (earlier ++ (s .name ∷ [])) r))
+    (full-row line places earlier s (omega (arith, e)))
+    ∙ ap (λ (n : ℕ). refuse 4 n) (omega arith)
+over-rows line places earlier (x ∷ a) s r e =
+    ap (λ (o : Outcome). cond (eqb (stepRow line places earlier x .number) 0) o (stepRow line places earlier x))
+    (over-rows (line + 1) places (earlier ++ (x .name ∷ [])) a s r
+    (omega (arith, e, length-append earlier (x .name ∷ [])))
+    ∙ ap (λ (n : ℕ). first (stepRows (line + 1) places (earlier ++ (x .name ∷ [])) a ++ (refuse 4 n ∷ [])))
+    (omega arith))
+
+ends-refused : (a : List Outcome) (k : ℕ) → eqb (first (a ++ (refuse 4 k ∷ [])) .number) 0 ≡ false
+unfolding first
+ends-refused [] k = refl
+ends-refused (o ∷ a) k = go (eqb (o .number) 0) refl (ends-refused a k)
+  where
+    go : (t : Bool) → eqb (o .number) 0 ≡ t → eqb (first (a ++ (refuse 4 k ∷ [])) .number) 0 ≡ false
+        → eqb (cond t (first (a ++ (refuse 4 k ∷ []))) o .number) 0 ≡ false
+    go true e h = h
+    go false e h = e
+
+overRows : ℕ → ℕ → List Step → Outcome
+overRows line places a =
+    first (unless
+    (placesFit places) 2 line ∷ (stepRows (line + 1) places [] a ++ (refuse 4 (line + 1 + length a) ∷ [])))
+
+over-refused : (line places : ℕ) (a : List Step) → eqb (overRows line places a .number) 0 ≡ false
+unfolding overRows
+over-refused line places a =
+    ends-refused (unless (placesFit places) 2 line ∷ stepRows (line + 1) places [] a) (line + 1 + length a)
+
+route-front : (line places : ℕ) (a : List Step) (s : Step) (r : List Step) → length a ≡ 64
+    → first (routeRows line places (a ++ s ∷ r)) ≡ overRows line places a
+unfolding routeRows overRows first tooMany
+route-front line places a s r e =
+    ap (λ (o : Outcome). cond (eqb (unless (placesFit places) 2 line .number) 0) o (unless (placesFit places) 2 line))
+    (rows-refuse (stepRows (line + 1) places [] (a ++ s ∷ r)) _
+    (ap (λ (o : Outcome). eqb (o .number) 0) over ∙ ends-refused (stepRows (line + 1) places [] a)
+    (line + 1 + length a)) ∙ over)
+  where
+    over : first (stepRows (line + 1) places [] (a ++ s ∷ r)) ≡ tooMany (line + 1) places [] a
+    over = over-rows (line + 1) places [] a s r (omega (arith, e))
+
+route-over : (line places : ℕ) (l : List Step) → 64 < length l
+    → first (routeRows line places l) ≡ overRows line places (take 64 l)
+route-over line places l h =
+    ap (λ (x : List Step). first (routeRows line places x)) (split-at l 64 blank h)
+    ∙ route-front line places (take 64 l) (getD l 64 blank) (drop 65 l) (length-take-le 64 l (omega arith))
+
+cut-over : (line places : ℕ) (l : List Step) → 64 < length l
+    → first (routeRows line places (take 65 l)) ≡ overRows line places (take 64 l)
+cut-over line places l h =
+    route-over line places (take 65 l) (omega (arith, length-take 65 l))
+    ∙ ap (λ (x : List Step). overRows line places x) (take-take 64 65 l (omega arith))
+
+-- ---- two jobs whose lines are refused alike
+
+pub record Refused (j k : Job) : Type 0 where
+  pub alike : first (lineRows j) ≡ first (lineRows k)
+  pub refused : eqb (first (lineRows k) .number) 0 ≡ false
+
+abbrev Alike : List Outcome → List Outcome → Type 0
+Alike a b = (first a ≡ first b) × (eqb (first b .number) 0 ≡ false)
+
+-- a refusal in front of any rows
+front-alike : (o : Outcome) (a b c d : List Outcome) → first a ≡ o → first b ≡ o → eqb (o .number) 0 ≡ false
+    → Alike (a ++ c) (b ++ d)
+front-alike o a b c d ea eb z = (
+  rows-refuse a c (off a ea) ∙ ea ∙ sym eb
+      ∙ sym (rows-refuse b d (off b eb)),
+  ap (λ (x : Outcome). eqb (x .number) 0) (rows-refuse b d (off b eb)) ∙ off b eb,
+)
+  where
+    off : (x : List Outcome) → first x ≡ o → eqb (first x .number) 0 ≡ false
+    off x e = ap (λ (y : Outcome). eqb (y .number) 0) e ∙ z
+
+-- rows that are the same, and then a refusal
+then-alike : (a b c : List Outcome) → Alike b c → Alike (a ++ b) (a ++ c)
+then-alike a b c h = go (eqb (first a .number) 0) refl
+  where
+    go : (t : Bool) → eqb (first a .number) 0 ≡ t → Alike (a ++ b) (a ++ c)
+    go true e = (
+      rows-pass a b e ∙ h .0 ∙ sym (rows-pass a c e),
+      ap (λ (x : Outcome). eqb (x .number) 0) (rows-pass a c e)
+          ∙ h .1,
+    )
+    go false e =
+        (rows-refuse a b e ∙ sym (rows-refuse a c e), ap (λ (x : Outcome). eqb (x .number) 0) (rows-refuse a c e) ∙ e)
+
+module _ (j : Job) where
+  old-over : 64 < length (j .old) → Refused j (short j)
+  unfolding lineRows
+  old-over h =
+      let both = front-alike (overRows 1 (j .oldPlaces) (take 64 (j .old))) (routeRows 1 (j .oldPlaces) (j .old))
+      (routeRows 1 (j .oldPlaces) (take 65 (j .old))) _ _
+      (route-over 1 (j .oldPlaces) (j .old) h) (cut-over 1 (j .oldPlaces) (j .old) h) (over-refused 1 (j .oldPlaces) _)
+      in
+      record { alike = both .0; refused = both .1 }
+
+  -- the new list alone cut
+  abbrev shortNew : Job
+  shortNew = withSteps j (j .old) (take 65 (j .new))
+
+  new-over : 64 < length (j .new) → Refused j shortNew
+  unfolding lineRows
+  new-over h =
+      let line = newLine j in
+      let both = then-alike (routeRows 1 (j .oldPlaces) (j .old)) _ _
+      (front-alike (overRows line (j .newPlaces) (take 64 (j .new))) (routeRows line (j .newPlaces) (j .new))
+      (routeRows line (j .newPlaces) (take 65 (j .new))) _ _
+      (route-over line (j .newPlaces) (j .new) h) (cut-over line (j .newPlaces) (j .new) h)
+      (over-refused line (j .newPlaces) _))
+      in
+      record { alike = both .0; refused = both .1 }
+
+  -- a list up to 64 is not cut
+  old-whole : length (j .old) ≤ 64 → shortNew ≡ short j
+  old-whole h = ap (λ (l : List Step). withSteps j l (take 65 (j .new))) (sym (take-all 65 (j .old) (omega arith)))
+
+  new-whole : length (j .new) ≤ 64 → j ≡ shortNew
+  new-whole h = ap (λ (l : List Step). withSteps j (j .old) l) (sym (take-all 65 (j .new) (omega arith)))
+
+  pub short-whole : length (j .old) ≤ 64 → length (j .new) ≤ 64 → j ≡ short j
+  short-whole h k = new-whole k ∙ old-whole h
+
+  -- the law: f of the job is f of the cut job
+  pub same-short : {X : Type 0} (f : Job → X) → ((j k : Job) → Refused j k → f j ≡ f k) → f j ≡ f (short j)
+  same-short f by = go (ltb 64 (length (j .old))) refl (ltb 64 (length (j .new))) refl
+    where
+      go : (s : Bool) → ltb 64 (length (j .old)) ≡ s → (t : Bool) → ltb 64 (length (j .new)) ≡ t → f j ≡ f (short j)
+      go true e t e′ = by j (short j) (old-over (ltb-true 64 (length (j .old)) e))
+      go false e true e′ =
+          by j shortNew (new-over (ltb-true 64 (length (j .new)) e′))
+          ∙ ap f (old-whole (ltb-false 64 (length (j .old)) e))
+      go false e false e′ = ap f (short-whole (ltb-false 64 (length (j .old)) e) (ltb-false 64 (length (j .new)) e′))
+
+-- ---- rows that follow the lines, and the run
+
+module _ (j k : Job) (r : Refused j k) where
+  pub rows-alike : (b c : List Outcome) → first (lineRows j ++ b) ≡ first (lineRows k ++ c)
+  rows-alike b c =
+      rows-refuse (lineRows j) b (ap (λ (o : Outcome). eqb (o .number) 0) (r .alike) ∙ r .refused)
+      ∙ r .alike
+      ∙ sym (rows-refuse (lineRows k) c (r .refused))
+
+  pub rows-off : (c : List Outcome) → eqb (first (lineRows k ++ c) .number) 0 ≡ false
+  rows-off c = ap (λ (o : Outcome). eqb (o .number) 0) (rows-refuse (lineRows k) c (r .refused)) ∙ r .refused
+
+  checked-alike : checked j ≡ checked k
+  unfolding checked
+  checked-alike = rows-alike _ _
+
+  checked-off : eqb (checked k .number) 0 ≡ false
+  unfolding checked
+  checked-off = rows-off _
+
+  pub ran-alike : ran j ≡ ran k
+  unfolding ran
+  ran-alike = rw (checked-alike, checked-off)
+
+  pub ran-off : eqb (ran k .number) 0 ≡ false
+  unfolding ran
+  ran-off = rw (checked-off) checked-off
+
+pub rows-short : (j : Job) → first (lineRows j) ≡ first (lineRows (short j))
+rows-short j = same-short j (λ (x : Job). first (lineRows x)) (λ a b r. r .alike)
+
+pub ran-short : (j : Job) → ran j ≡ ran (short j)
+ran-short j = same-short j ran ran-alike
+
+-- ---- routes by value, laid as numbers
+
+pub laid-short : (old new : Route) (done : List ℕ) (n : ℕ) (a : List ℕ) (m : ℕ) (b : List ℕ) → Laid (stepsOf old) n a
+    → Laid (stepsOf new) m b
+    → flatJob (old .places) (take n a) (new .places) (take m b) done ≡ short (jobOf old new done)
+laid-short old new done n a m b p q =
+    ap₂ (λ (x y : List Step). withSteps (jobOf old new done) x y) (p .steps-are) (q .steps-are)

@@ -1,0 +1,62 @@
+-- The rows of one step's line in turn, where there is room for the step: 2, 3 and 5.
+use mathlib.Core.Path.{_≡_, refl, sym, ap, _∙_}
+use mathlib.Core.Bool.{Bool, true, false, not}
+use mathlib.Core.List.{List, [], _∷_}
+use Prim.Native.Nat.{ℕ, _<_}
+use native.Mathlib.Omega.{arith}
+use lib.Dec.{ltb}
+use lib.ListN.{length}
+use borrow.Author.Tests.{not-true, not-false, lt-ltb}
+use Rattle.refusal.specs.Rows.{pass, refuse, unless, first}
+use Rattle.route.specs.Steps.{names, position}
+use Rattle.route.specs.declared.Step.{Step}
+use Rattle.refusal.specs.declared.Outcome.{Outcome}
+use Rattle.route.specs.declared.Found.{Found}
+use Rattle.route.specs.declared.Found.the-variants.{At, Nothing}
+use Rattle.refusal.proofs.Rows.{row-passes, row-refuses, rows-end}
+use Rattle.route.proofs.StepList.{length-names}
+use Rattle.job.specs.Lines.{stepFits, listsFit, among, stepRow}
+use Rattle.job.proofs.Among.{among-found, among-missed}
+
+module _ (line places : ℕ) (earlier : List ℕ) (s : Step) (o : Outcome) where
+  pub step-two : (f : Bool) → o ≡ refuse 2 line → length earlier < 64 → f ≡ stepFits places s → not f ≡ true
+      → o ≡ stepRow line places earlier s
+  unfolding stepRow
+  step-two f p h fits t =
+      p ∙ sym (row-refuses (stepFits places s) 2 line _ (sym fits ∙ not-true f t) refl)
+      ∙ sym (row-passes _ 4 line _ (lt-ltb (length earlier) 64 h))
+
+  module _ (f l : Bool) (room : length earlier < 64) (fits : f ≡ stepFits places s) (fit : not f ≡ false)
+      (lists : l ≡ listsFit s) where
+    after-two : (k : List Outcome)
+        → first (unless (ltb (length earlier) 64) 4 line ∷ unless (stepFits places s) 2 line ∷ k) ≡ first k
+    after-two k =
+        row-passes _ 4 line _ (lt-ltb (length earlier) 64 room)
+        ∙ row-passes (stepFits places s) 2 line k (sym fits ∙ not-false f fit)
+
+    pub step-three : o ≡ refuse 3 line → not l ≡ true → o ≡ stepRow line places earlier s
+    unfolding stepRow
+    step-three p t = p ∙ sym (row-refuses (listsFit s) 3 line _ (sym lists ∙ not-true l t) refl) ∙ sym (after-two _)
+
+    pub step-five : (at : Found) (k : ℕ) → o ≡ refuse 5 line → not l ≡ false → at ≡ position (s .name) earlier
+        → at ≡ At k → o ≡ stepRow line places earlier s
+    unfolding stepRow
+    step-five at k p t found e =
+        p ∙ sym (row-refuses (not (among (s .name) earlier)) 5 line []
+        (ap not (among-found (s .name) earlier k (sym found ∙ e))) refl)
+        ∙ sym (row-passes (listsFit s) 3 line _ (sym lists ∙ not-false l t))
+        ∙ sym (after-two _)
+
+    pub step-none : (at : Found) → o ≡ pass → not l ≡ false → at ≡ position (s .name) earlier → at ≡ Nothing
+        → o ≡ stepRow line places earlier s
+    unfolding stepRow
+    step-none at p t found e =
+        p ∙ sym rows-end
+        ∙ sym (row-passes (not (among (s .name) earlier)) 5 line []
+        (ap not (among-missed (s .name) earlier (sym found ∙ e))))
+        ∙ sym (row-passes (listsFit s) 3 line _ (sym lists ∙ not-false l t))
+        ∙ sym (after-two _)
+
+-- the steps above
+pub names-few : (l : List Step) → length l < 64 → length (names l) < 64
+names-few l h = omega (arith, length-names l)

@@ -1,0 +1,61 @@
+-- `job::routes::check_routes`: both routes laid as numbers; what a list has past its 65th step changes nothing.
+use mathlib.Core.Path.{sym, ap, _∙_}
+use lib.Seq.{length-take-le}
+use Rattle.job.specs.Job.{Job, jobOf}
+use Rattle.refusal.specs.Rows.{first}
+use Rattle.job.specs.Lines.{lineRows}
+use Rattle.job.proofs.LongLists.{rows-short, laid-short}
+use borrow.Author.Needs.{needs}
+use Rattle.job.proofs.routes.check_routes.Statement.{statement}
+use Rattle.job.proofs.routes.check_routes.Tie as tie
+
+slice-aggregate-lay : tie.Need-slice-aggregate-lay
+slice-aggregate-lay c = search needs
+
+lay-requires : tie.Need-lay-requires
+lay-requires c κs = search needs
+
+slice-aggregate-lay-2 : tie.Need-slice-aggregate-lay-2
+slice-aggregate-lay-2 c = search needs
+
+lay-requires-2 : tie.Need-lay-requires-2
+lay-requires-2 c κs = search needs
+
+array-share-prefix-a : tie.Need-array-share-prefix-a
+array-share-prefix-a c = search needs
+
+slice-aggregate-check-lines : tie.Need-slice-aggregate-check-lines
+slice-aggregate-check-lines c = sym (length-take-le _ _ (array-share-prefix-a (c .before)))
+
+array-share-prefix-b : tie.Need-array-share-prefix-b
+array-share-prefix-b c = search needs
+
+slice-aggregate-check-lines-2 : tie.Need-slice-aggregate-check-lines-2
+slice-aggregate-check-lines-2 c = sym (length-take-le _ _ (array-share-prefix-b (c .before)))
+
+check-lines-requires : tie.Need-check-lines-requires
+check-lines-requires c κs = search needs
+
+returns : tie.Need-returns
+returns c =
+    let later = c .before .before .before .before in
+    let earlier = later .before .before .before in
+    let a = earlier .before .before .before .args in
+    c .check-lines .ensures
+    ∙ ap (λ (j : Job). first (lineRows j)) (laid-short (a .old) (a .new) (a .done .now) _ _ _ _ (earlier .lay .ensures) (later .lay2 .ensures))
+    ∙ sym (rows-short (jobOf (a .old) (a .new) (a .done .now)))
+
+pub check-routes-spec : {M : Type 1} → statement M
+check-routes-spec =
+    tie.close
+    (tie.spec
+    slice-aggregate-lay
+    lay-requires
+    slice-aggregate-lay-2
+    lay-requires-2
+    array-share-prefix-a
+    slice-aggregate-check-lines
+    array-share-prefix-b
+    slice-aggregate-check-lines-2
+    check-lines-requires
+    returns)

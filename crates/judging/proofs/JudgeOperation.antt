@@ -1,0 +1,178 @@
+-- The operation judge: row 14, the rows to 12 as the prepared job has them, and what follows; and the work slice after each.
+use mathlib.Core.Path.{_≡_, refl, sym, ap, ap₂, _∙_}
+use mathlib.Core.Bool.{Bool, true, false, not, cond, _&&_, and-false}
+use mathlib.Core.List.{List}
+use Prim.Native.Nat.{ℕ, _*_, _≤_, _<_}
+use native.Mathlib.Omega.{arith}
+use lib.Dec.{eqb, leb}
+use lib.ListN.{length, take}
+use borrow.Author.Tests.{eqb-false, eq-eqb, ne-eqb, le-leb, lt-leb}
+use Rattle.refusal.specs.Rows.{refuse}
+use Rattle.refusal.specs.declared.Outcome.{Outcome}
+use Rattle.route.specs.Flat.{stepsIn}
+use Rattle.route.specs.declared.Step.{Step}
+use Rattle.job.specs.Job.{Job, jobLine, newStart}
+use Rattle.job.specs.Run.{ran, performed}
+use Rattle.job.proofs.RunLine.{ran-fits}
+use Rattle.job.proofs.Performed.{length-performed}
+use Rattle.matching.specs.Straight.{runsStraight}
+use Rattle.matching.specs.Fit.{keptOf}
+use Rattle.matching.specs.KeptRows.{keptRows, rowsTo12}
+use Rattle.matching.specs.Matched.{matched, straightEnd, Ready, PreparedOf}
+use Rattle.matching.specs.declared.Prepared.{Prepared}
+use Rattle.matching.proofs.Choice.{cond-yes, cond-no}
+use Rattle.matching.proofs.Matched.{length-matched}
+use Rattle.matching.proofs.Preparation.{prepared-ran, prepared-ready, prepared-rows}
+use Rattle.search.specs.Candidates.{cleared}
+use Rattle.search.proofs.Clear.{cleared-is}
+use Rattle.judging.specs.Judge.{judgeStopped, judgeRows, judged, searched, workAfter}
+use Rattle.judging.specs.Passing.{Passing}
+
+rows-refused :
+    (line from : ℕ) (new l : List Step)
+    → (keptRows line from new l .number ≡ 0 → ⊥)
+    → judgeStopped (keptRows line from new l .number) (keptRows line from new l .second) ≡ judgeRows line from new l
+unfolding judgeRows
+rows-refused line from new l e = cond-no _ _ refl (ne-eqb (keptRows line from new l .number) 0 e)
+
+module _ (j : Job) where
+  abbrev done : List Step
+  done = performed (j .old) (j .done)
+
+  abbrev kept : Outcome
+  kept = keptRows (jobLine j) (newStart j) (j .new) done
+
+  abbrev straight : Bool
+  straight = runsStraight (newStart j) (j .new) done
+
+  unsearched : (work : List ℕ) → searched j (length work) ≡ false → work ≡ workAfter j work
+  unfolding workAfter
+  unsearched work e = cond-no _ work refl e
+
+  -- ---- row 14
+
+  pub judged-short : (room : ℕ) → room < 8192 → judgeStopped 14 0 ≡ judged j room
+  unfolding judged
+  judged-short room short = cond-no _ _ refl (lt-leb 8192 room short)
+
+  pub work-short : (work : List ℕ) → length work < 8192 → work ≡ workAfter j work
+  unfolding searched
+  work-short work short =
+      unsearched work
+      (ap (λ (t : Bool). t && (eqb (ran j .number) 0 && (eqb (kept .number) 0 && not straight))) (lt-leb 8192 (length work) short))
+
+  -- ---- a row to 12 that refuses
+
+  module _ (o : Outcome) (is : o ≡ rowsTo12 j) (refused : eqb (o .number) 0 ≡ false) where
+    refuses : o .number ≡ 0 → ⊥
+    refuses = eqb-false (o .number) 0 refused
+
+    pub judged-refused : (room : ℕ) → 8192 ≤ room → judgeStopped (o .number) (o .second) ≡ judged j room
+    unfolding judged rowsTo12
+    judged-refused room long = go (eqb (ran j .number) 0) is ∙ cond-yes _ _ refl (le-leb 8192 room long)
+      where
+        go :
+            (t : Bool)
+            → o ≡ cond t kept (refuse (ran j .number) (ran j .second))
+            → judgeStopped (o .number) (o .second)
+            ≡ cond t (judgeRows (jobLine j) (newStart j) (j .new) done) (judgeStopped (ran j .number) (ran j .second))
+        go true e =
+            ap (λ (x : Outcome). judgeStopped (x .number) (x .second)) e
+            ∙ rows-refused (jobLine j) (newStart j) (j .new) done (λ z. refuses (ap (λ (x : Outcome). x .number) e ∙ z))
+        go false e = ap (λ (x : Outcome). judgeStopped (x .number) (x .second)) e
+
+    pub work-refused : (work : List ℕ) → work ≡ workAfter j work
+    unfolding searched rowsTo12
+    work-refused work =
+        unsearched work
+        (ap (λ (t : Bool). leb 8192 (length work) && t) (go (eqb (ran j .number) 0) is) ∙ and-false (leb 8192 (length work)))
+      where
+        go :
+            (t : Bool)
+            → o ≡ cond t kept (refuse (ran j .number) (ran j .second))
+            → (t && (eqb (kept .number) 0 && not straight)) ≡ false
+        go true e =
+            ap (λ (u : Bool). u && not straight)
+            (ne-eqb (kept .number) 0 (λ z. refuses (ap (λ (x : Outcome). x .number) e ∙ z)))
+        go false e = refl
+
+  -- ---- the rows to 12 pass
+
+  module _
+      (p : Prepared) (occurrences matches : List ℕ) (is : PreparedOf j p occurrences matches)
+      (passed : eqb (p .outcome .number) 0 ≡ true) where
+    ran-through : ran j .number ≡ 0
+    ran-through = prepared-ran j p occurrences matches is passed
+
+    pub rows-hold : kept .number ≡ 0
+    rows-hold = prepared-rows j p occurrences matches is passed
+
+    pub ready : Ready (newStart j) (j .new) done p occurrences matches
+    ready = prepared-ready j p occurrences matches is passed
+
+    pub done-short : length (j .done) ≤ 64
+    done-short = ran-fits j ran-through .done-fit
+
+    -- the numbers of the steps done, and of the new route's steps for them
+    pub done-is : stepsIn (take (4 * length (j .done)) occurrences) ≡ done
+    done-is =
+        ap (λ (n : ℕ). stepsIn (take (4 * n) occurrences)) (sym (length-performed (j .old) (j .done)))
+        ∙ ready .done-are .steps-are
+
+    matched-long : length (matched (j .new) done) ≡ length (j .done)
+    matched-long = length-matched (j .new) done ∙ length-performed (j .old) (j .done)
+
+    pub matched-is : stepsIn (take (4 * length (j .done)) matches) ≡ matched (j .new) done
+    matched-is = ap (λ (n : ℕ). stepsIn (take (4 * n) matches)) (sym matched-long) ∙ ready .matches-are .steps-are
+
+    -- the steps done as they are lent
+    module _ (l : List Step) (e : l ≡ done) where
+      pub lent-rows : keptRows (p .line) (p .start .tokens) (j .new) l ≡ kept
+      lent-rows =
+          ap (keptRows (p .line) (p .start .tokens) (j .new)) e
+          ∙ ap₂ (λ (n m : ℕ). keptRows n m (j .new) done) (is .line-is) (ready .start-is)
+
+      abbrev pub passing : (t : List Step) → t ≡ matched (j .new) done → Passing p l t
+      passing t f = record {
+        new = j .new;
+        short = omega (arith, done-short, length-performed (j .old) (j .done), ap length e);
+        matches-are = f ∙ ap (matched (j .new)) (sym e);
+        straight-is =
+            ready .straight-is
+            ∙ ap₂ (λ (m : ℕ) (x : List Step). straightEnd m (j .new) x) (sym (ready .start-is)) (sym e);
+        kept-is = ready .kept-is ∙ ap (keptOf (j .new)) (sym e);
+        vars-are = ready .vars-are;
+        passes = ap (λ (x : Outcome). x .number) lent-rows ∙ rows-hold;
+      }
+
+      pub judged-passed : (room : ℕ) → 8192 ≤ room → judgeRows (p .line) (p .start .tokens) (j .new) l ≡ judged j room
+      unfolding judged
+      judged-passed room long =
+          ap (judgeRows (p .line) (p .start .tokens) (j .new)) e
+          ∙ ap₂ (λ (n m : ℕ). judgeRows n m (j .new) done) (is .line-is) (ready .start-is)
+          ∙ cond-yes _ _ refl (eq-eqb (ran j .number) 0 ran-through)
+          ∙ cond-yes _ _ refl (le-leb 8192 room long)
+
+    searched-is : (room : ℕ) → 8192 ≤ room → searched j room ≡ not straight
+    unfolding searched
+    searched-is room long =
+        ap (λ (t : Bool). t && (eqb (ran j .number) 0 && (eqb (kept .number) 0 && not straight)))
+        (le-leb 8192 room long)
+        ∙ ap₂ (λ (t u : Bool). t && (u && not straight)) (eq-eqb (ran j .number) 0 ran-through)
+        (eq-eqb (kept .number) 0 rows-hold)
+
+    pub work-passed :
+        (l : List Step)
+        → l ≡ done
+        → (work : List ℕ)
+        → 8192 ≤ length work
+        → cond (runsStraight (p .start .tokens) (j .new) l) work (cleared 8192 work) ≡ workAfter j work
+    unfolding workAfter
+    work-passed l e work long =
+        ap₂ (λ (m : ℕ) (x : List Step). cond (runsStraight m (j .new) x) work (cleared 8192 work)) (ready .start-is) e
+        ∙ turned straight
+        ∙ ap₂ (λ (t : Bool) (x : List ℕ). cond t x work) (sym (searched-is (length work) long)) (cleared-is 8192 work)
+      where
+        turned : (t : Bool) → cond t work (cleared 8192 work) ≡ cond (not t) (cleared 8192 work) work
+        turned true = refl
+        turned false = refl

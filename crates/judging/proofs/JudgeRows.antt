@@ -1,0 +1,178 @@
+-- Judge after the rows to 12, branch by branch: what each answer of the code is by the definition.
+use mathlib.Core.Path.{_≡_, refl, sym, ap, _∙_}
+use mathlib.Core.Bool.{Bool, true, false, cond}
+use mathlib.Core.List.{List, map}
+use mathlib.Core.Option.{none, some, Option·getD}
+use Prim.Native.Nat.{ℕ, suc, _-_, _≤_, _<_}
+use native.Mathlib.Omega.{arith}
+use lib.ListN.{length}
+use borrow.Author.Tests.{eq-eqb, ltb-true}
+use Rattle.mask.specs.Mask.{has, below, count}
+use Rattle.mask.proofs.Laws.{has-below}
+use Rattle.mask.proofs.Members.{count-few}
+use Rattle.route.specs.Steps.{blank}
+use Rattle.route.specs.declared.Step.{Step}
+use Rattle.route.specs.declared.Marking.{Marking}
+use Rattle.slice.specs.Slice.{variables}
+use Rattle.slice.specs.Order.{inTurn}
+use Rattle.slice.proofs.InTurn.{map-getD-inTurn}
+use Rattle.slice.proofs.Laws.{kept-below}
+use Rattle.matching.specs.Straight.{fireAll, stepsOn, runsStraight}
+use Rattle.matching.specs.Fit.{keptOf}
+use Rattle.matching.specs.KeptRows.{keptRows}
+use Rattle.matching.specs.Matched.{straightEnd}
+use Rattle.matching.specs.declared.End.{End}
+use Rattle.matching.specs.declared.End.the-variants.{At, Stuck}
+use Rattle.matching.specs.declared.Prepared.{Prepared}
+use Rattle.matching.proofs.Matched.{length-matched}
+use Rattle.matching.proofs.KeptRows.{limit-holds, members-same}
+use Rattle.judging.specs.Judge.{padded, afterOf, writerOf, judgeStopped, answer, firstFit, judgeFound, judgeRows}
+use Rattle.judging.specs.Columns.{placedOn}
+use Rattle.judging.specs.Passing.{Passing}
+use Rattle.judging.specs.declared.Placed.{Placed}
+use Rattle.judging.proofs.CandidateColumns.{AllSame}
+
+-- ---- an answer is known by its parts
+
+pub answer-is :
+    (from : ℕ) (new l : List Step) (kept : ℕ) (o : List ℕ) (d : ℕ) (list : Placed) (after writers : List ℕ)
+    → d ≡ length l - count 64 kept
+    → list ≡ placedOn from new l o
+    → after ≡ map (afterOf l kept) (inTurn 0 64)
+    → writers ≡ map (writerOf new l) (inTurn 0 32)
+    → record { number = 0; second = 0; kept = kept; dropped = d; len = list .len; order = list .order; marking = list .marking; after = after; writers = writers }
+    ≡ answer from new l kept o
+unfolding answer
+answer-is from new l kept o d list after writers p q t u =
+    λ i. record {
+      number =
+          0;
+      second = 0;
+      kept = kept;
+      dropped = p i;
+      len = q i .len;
+      order = q i .order;
+      marking = q i .marking;
+      after = t
+          i;
+      writers = u i;
+    }
+
+-- all below n are n
+pub below-few : (n : ℕ) → count 64 (below n) ≤ n
+below-few n = count-few 64 (below n) n (λ i h. ltb-true i n (sym (has-below n i) ∙ h))
+
+-- all occurrences in turn, and where they end
+pub straight-list :
+    (from : ℕ) (new l : List Step) (len : ℕ) (order : List ℕ) (marking : Marking)
+    → len ≡ length (inTurn 0 (length l))
+    → order ≡ padded 64 (map suc (inTurn 0 (length l)))
+    → marking .tokens ≡ Option·getD (fireAll new from l) 0
+    → record { len = len; order = order; marking = marking } ≡ placedOn from new l (inTurn 0 (length l))
+unfolding stepsOn
+straight-list from new l len order marking p q r =
+    λ i. record {
+      len =
+          p i;
+      order = q i;
+      marking = record
+          { tokens = (r ∙ ap (λ (x : List Step). Option·getD (fireAll new from x) 0) (sym (map-getD-inTurn blank l))) i };
+    }
+
+-- ---- where the straight list ends
+
+module _ (from : ℕ) (new l : List Step) (f : End) (is : f ≡ straightEnd from new l) where
+  straight-at :
+      (m : Marking)
+      → f ≡ At m
+      → (runsStraight from new l ≡ true) × (m .tokens ≡ Option·getD (fireAll new from l) 0)
+  unfolding straightEnd
+  straight-at m e = go (runsStraight from new l) (sym e ∙ is)
+    where
+      go :
+          (t : Bool)
+          → At m ≡ cond t (At (record { tokens = Option·getD (fireAll new from l) 0 })) Stuck
+          → (t ≡ true) × (m .tokens ≡ Option·getD (fireAll new from l) 0)
+      go true h = let same : m ≡ record { tokens = Option·getD (fireAll new from l) 0 } = cc in (refl, ap (λ (x : Marking). x .tokens) same)
+      go false h = (cc, cc)
+
+  straight-stuck : f ≡ Stuck → runsStraight from new l ≡ false
+  unfolding straightEnd
+  straight-stuck e = go (runsStraight from new l) (sym e ∙ is)
+    where
+      go : (t : Bool) → Stuck ≡ cond t (At (record { tokens = Option·getD (fireAll new from l) 0 })) Stuck → t ≡ false
+      go true h = cc
+      go false h = refl
+
+-- ---- the first fit list
+
+module _ (line from : ℕ) (new l : List Step) where
+  pub fit-answer :
+      (kept : ℕ) (q : List ℕ)
+      → kept ≡ keptOf new l
+      → firstFit from new l ≡ some q
+      → answer from new l kept q ≡ judgeFound line from new l (firstFit from new l)
+  unfolding judgeFound
+  fit-answer kept q is e = ap (λ (k : ℕ). answer from new l k q) is ∙ ap (judgeFound line from new l) (sym e)
+
+  pub none-answer : firstFit from new l ≡ none → judgeStopped 13 line ≡ judgeFound line from new l (firstFit from new l)
+  unfolding judgeFound
+  none-answer e = ap (judgeFound line from new l) (sym e)
+
+  -- rows 10 to 13, where those to 12 pass
+  module _ (passes : keptRows line from new l .number ≡ 0) where
+    rows-pass :
+        cond (runsStraight from new l) (answer from new l (below (length l)) (inTurn 0 (length l)))
+        (judgeFound line from new l (firstFit from new l)) ≡ judgeRows line from new l
+    unfolding judgeRows
+    rows-pass =
+        ap
+        (λ (t : Bool). cond t (cond (runsStraight from new l) (answer from new l (below (length l)) (inTurn 0 (length l))) (judgeFound line from new l (firstFit from new l))) (judgeStopped (keptRows line from new l .number) (keptRows line from new l .second)))
+        (sym (eq-eqb (keptRows line from new l .number) 0 passes))
+
+    pub rows-straight :
+        runsStraight from new l ≡ true
+        → answer from new l (below (length l)) (inTurn 0 (length l)) ≡ judgeRows line from new l
+    rows-straight e =
+        ap
+        (λ (t : Bool). cond t (answer from new l (below (length l)) (inTurn 0 (length l))) (judgeFound line from new l (firstFit from new l)))
+        (sym e)
+        ∙ rows-pass
+
+    pub rows-search :
+        runsStraight from new l ≡ false
+        → judgeFound line from new l (firstFit from new l) ≡ judgeRows line from new l
+    rows-search e =
+        ap
+        (λ (t : Bool). cond t (answer from new l (below (length l)) (inTurn 0 (length l))) (judgeFound line from new l (firstFit from new l)))
+        (sym e)
+        ∙ rows-pass
+
+-- ---- a job that no row to 12 refuses
+
+module _ {p : Prepared} {l t : List Step} (k : Passing p l t) where
+  pub passing-straight :
+      (m : Marking)
+      → p .straight ≡ At m
+      → (runsStraight (p .start .tokens) (k .new) l ≡ true) × (m .tokens ≡ Option·getD (fireAll (k .new) (p .start .tokens) l) 0)
+  passing-straight = straight-at (p .start .tokens) (k .new) l (p .straight) (k .straight-is)
+
+  pub passing-stuck : p .straight ≡ Stuck → runsStraight (p .start .tokens) (k .new) l ≡ false
+  passing-stuck = straight-stuck (p .start .tokens) (k .new) l (p .straight) (k .straight-is)
+
+  pub passing-below : (i : ℕ) → has (p .kept) i ≡ true → i < length l
+  unfolding keptOf
+  passing-below i h = kept-below l (variables (k .new)) i (ap (λ (m : ℕ). has m i) (sym (k .kept-is)) ∙ h)
+
+  -- each of the kept has its step among the new route's
+  pub passing-matched : (i : ℕ) → has (p .kept) i ≡ true → i < length t
+  passing-matched i h = omega (arith, passing-below i h, ap length (k .matches-are), length-matched (k .new) l)
+
+  pub passing-few : count 64 (p .kept) ≤ length l
+  passing-few = count-few 64 (p .kept) (length l) passing-below
+
+  pub passing-limit : p .straight ≡ Stuck → count 64 (p .kept) ≤ 16
+  passing-limit e = rw (k .kept-is) (limit-holds (p .line) (p .start .tokens) (k .new) l (k .passes) (passing-stuck e))
+
+  pub passing-same : AllSame (k .new) l (p .kept)
+  passing-same = rw (k .kept-is) (members-same (p .line) (p .start .tokens) (k .new) l (k .passes))

@@ -1,0 +1,70 @@
+-- `crate::matches::weigh`: what each part finds, put together.
+use mathlib.Core.Path.{_≡_, refl, sym, ap, _∙_}
+use mathlib.Core.Bool.{true}
+use mathlib.Core.List.{List}
+use Prim.Native.Nat.{ℕ, _<_}
+use native.Mathlib.Omega.{arith}
+use borrow.Author.Needs.{needs}
+use lib.ListN.{length}
+use Rattle.mask.specs.Mask.{has}
+use Rattle.route.specs.Flat.{stepsIn}
+use Rattle.route.specs.declared.Step.{Step}
+use Rattle.slice.specs.Slice.{keptMask}
+use Rattle.slice.proofs.Laws.{kept-below}
+use Rattle.matching.specs.Fit.{keptOf}
+use Rattle.matching.proofs.matches.weigh.Statement.{statement}
+use Rattle.matching.proofs.matches.weigh.Tie as tie
+
+module _ (c : tie.After-keep) where
+  abbrev occurrences : List Step
+  occurrences = stepsIn (c .before .before .before .before .before .args .occurrences .now)
+
+  kept-room : (i : ℕ) → has (c .keep .result) i ≡ true → i < length occurrences
+  kept-room i h =
+      kept-below occurrences (c .before .variables-of .result) i (ap (λ (m : ℕ). has m i) (sym (c .keep .ensures)) ∙ h)
+
+variables-of-requires : tie.Need-variables-of-requires
+variables-of-requires c κs = search needs
+
+keep-requires : tie.Need-keep-requires
+keep-requires c κs = search needs
+
+same-mask-requires : tie.Need-same-mask-requires
+same-mask-requires c κs = search needs
+
+straight-end-requires : tie.Need-straight-end-requires
+straight-end-requires c κs = search needs
+
+kept-rows-requires : tie.Need-kept-rows-requires
+kept-rows-requires c κs =
+    (omega arith, λ i h. let low = kept-room (c .before .before) i h in (omega arith, omega arith))
+
+returns : tie.Need-returns
+unfolding keptOf
+returns c =
+    let s = c .before in
+    let k = s .before .before in
+    let v = k .before in
+    λ is.
+    let kept = k .keep .ensures ∙ ap (keptMask (occurrences k)) (v .variables-of .ensures) in
+    let same = s .before .same-mask .ensures _ is in
+    let straight = s .straight-end .ensures _ _ is same in
+    record {
+      outcome-is = c .kept-rows .ensures _ _ _ is kept same straight;
+      line-is = refl;
+      start-is = refl;
+      straight-is = straight;
+      kept-is = kept;
+      vars-are = v .variables-of .ensures;
+    }
+
+pub weigh-spec : {M : Type 1} → statement M
+weigh-spec =
+    tie.close
+    (tie.spec
+    variables-of-requires
+    keep-requires
+    same-mask-requires
+    straight-end-requires
+    kept-rows-requires
+    returns)

@@ -1,0 +1,87 @@
+-- `crate::same::same_mask`: what has been gathered is the mask of those passed.
+use Prim.Native.Nat.{_-_, _≤_}
+use native.Mathlib.Omega.{arith}
+use borrow.Author.Needs.{needs}
+use Rattle.route.specs.Flat.{stepsIn}
+use Rattle.matching.proofs.SameMask.{SameSoFar, TestAt, test-at, same-init, same-hit, same-miss, same-done}
+use Rattle.matching.proofs.same.same_mask.Statement.{statement}
+use Rattle.matching.proofs.same.same_mask.Tie as tie
+
+abbrev Inv-loop : tie.InvT-loop
+Inv-loop occurrences matches n same₀ i₀ same i = (i ≤ n) × SameSoFar (stepsIn occurrences) matches i same
+
+abbrev μ-loop : tie.MeasureT-loop
+μ-loop occurrences matches n same₀ i₀ same i = n - i
+
+module _ (c : tie.After-same-data Inv-loop μ-loop) where
+  abbrev at : tie.At-loop Inv-loop μ-loop
+  at = c .before .before .before .before
+
+  abbrev entry : tie.Start Inv-loop μ-loop
+  entry = at .before .before .before .before
+
+  tested :
+      TestAt (stepsIn (entry .args .occurrences .now)) (entry .args .matches .now) (at .loop .i) (c .same-data .result)
+  tested =
+      test-at (omega arith) (c .before .before .step-at .ensures) (c .before .step-at2 .ensures) (c .same-data .ensures)
+
+count-requires : tie.Need-count-requires Inv-loop μ-loop
+count-requires c κs = search needs
+
+loop-holds : tie.Need-loop-holds Inv-loop μ-loop
+loop-holds c = (omega arith, same-init _ _)
+
+step-at-requires : tie.Need-step-at-requires Inv-loop μ-loop
+step-at-requires c κs = search needs
+
+step-at-requires-2 : tie.Need-step-at-requires-2 Inv-loop μ-loop
+step-at-requires-2 c κs = search needs
+
+same-data-requires : tie.Need-same-data-requires Inv-loop μ-loop
+same-data-requires c κs = search needs
+
+add-i : tie.Need-add-i Inv-loop μ-loop
+add-i c = search needs
+
+loop-less : tie.Need-loop-less Inv-loop μ-loop
+loop-less c = search needs
+
+loop-again : tie.Need-loop-again Inv-loop μ-loop
+loop-again c = (omega arith, same-miss (at (c .before) .loop .inv .1) (tested (c .before)) (c .if1 .taken))
+
+bit64-requires : tie.Need-bit64-requires Inv-loop μ-loop
+bit64-requires c κs = search needs
+
+add-i-2 : tie.Need-add-i-2 Inv-loop μ-loop
+add-i-2 c = search needs
+
+loop-less-2 : tie.Need-loop-less-2 Inv-loop μ-loop
+loop-less-2 c = search needs
+
+loop-again-2 : tie.Need-loop-again-2 Inv-loop μ-loop
+loop-again-2 c =
+    let e = c .before in
+    (omega arith, same-hit (at (e .before) .loop .inv .1) (tested (e .before)) (e .if1 .left) (c .bit64 .ensures))
+
+returns : tie.Need-returns Inv-loop μ-loop
+returns c = same-done (c .before .loop .inv .1) (omega arith) (omega arith)
+
+pub same-mask-spec : {M : Type 1} → statement M
+same-mask-spec =
+    tie.close
+    (tie.spec
+    Inv-loop
+    μ-loop
+    count-requires
+    loop-holds
+    step-at-requires
+    step-at-requires-2
+    same-data-requires
+    add-i
+    loop-less
+    loop-again
+    bit64-requires
+    add-i-2
+    loop-less-2
+    loop-again-2
+    returns)

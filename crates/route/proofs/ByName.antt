@@ -1,0 +1,139 @@
+-- Look-up by name: the position among the names, and the step there. The loop's invariant is that the position is the
+-- one found in what is left, moved on by what has been passed.
+use mathlib.Core.Path.{_≡_, refl, sym, ap, _∙_}
+use mathlib.Core.Bool.{Bool, true, false, cond}
+use mathlib.Core.List.{List, [], _∷_}
+use mathlib.Core.Option.{none, some, Option·none-ne-some, Option·some-injective}
+use Prim.Native.Nat.{ℕ, zero, suc, _+_, _≤_, _<_}
+use native.Mathlib.Omega.{arith}
+use native.Mathlib.Numerals.{add-one}
+use lib.Dec.{eqb}
+use lib.ListN.{length, take, drop, getD, drop-of-length-le, List·getD-map}
+use lib.Seq.{drop-cons}
+use borrow.Author.Tests.{eq-eqb, ne-eqb, eqb-true}
+use Rattle.route.specs.Steps.{blank, names, position, further, lookup}
+use Rattle.route.specs.declared.Step.{Step}
+use Rattle.route.specs.declared.Found.{Found}
+use Rattle.route.specs.declared.Found.the-variants.{At, Nothing}
+use Rattle.route.proofs.StepList.{length-names}
+
+-- a position in what is left after i names
+unfoldable pub moved : ℕ → Found → Found
+moved i (At k) = At (i + k)
+moved i Nothing = Nothing
+
+pub moved-none : (f : Found) → moved 0 f ≡ f
+unfolding moved
+moved-none (At k) = ap At (omega arith)
+moved-none Nothing = refl
+
+moved-on : (i : ℕ) (f : Found) → moved i (further f) ≡ moved (i + 1) f
+unfolding moved further
+moved-on i (At k) = ap At (omega arith)
+moved-on i Nothing = refl
+
+module _ (n : ℕ) (column : List ℕ) (whole : Found) where
+  pub position-hit : (i : ℕ) → i < length column → moved i (position n (drop i column)) ≡ whole → getD column i 0 ≡ n
+      → At i ≡ whole
+  unfolding moved position
+  position-hit i h inv e =
+      ap At here
+      ∙ sym (ap (λ (t : Bool). moved i (cond t (At 0) (further (position n (drop (suc i) column)))))
+      (eq-eqb (getD column i 0) n e))
+      ∙ ap (λ (l : List ℕ). moved i (position n l)) (sym (drop-cons column i 0 h)) ∙ inv
+    where
+      here : i ≡ i + 0
+      here = omega arith
+
+  pub position-miss : (i : ℕ) → i < length column → moved i (position n (drop i column)) ≡ whole
+      → (getD column i 0 ≡ n → ⊥) → moved (i + 1) (position n (drop (i + 1) column)) ≡ whole
+  unfolding position
+  position-miss i h inv e =
+      ap (λ (m : ℕ). moved (i + 1) (position n (drop m column))) (add-one i)
+      ∙ sym (moved-on i (position n (drop (suc i) column)))
+      ∙ sym (ap (λ (t : Bool). moved i (cond t (At 0) (further (position n (drop (suc i) column)))))
+      (ne-eqb (getD column i 0) n e))
+      ∙ ap (λ (l : List ℕ). moved i (position n l)) (sym (drop-cons column i 0 h))
+      ∙ inv
+
+  pub position-end : (i : ℕ) → length column ≤ i → moved i (position n (drop i column)) ≡ whole → Nothing ≡ whole
+  unfolding moved position
+  position-end i h inv = ap (λ (l : List ℕ). moved i (position n l)) (sym (drop-of-length-le column {i = i} h)) ∙ inv
+
+pub names-at : (l : List Step) (i : ℕ) → getD (names l) i 0 ≡ getD l i blank .name
+unfolding names
+names-at l i = List·getD-map (λ (s : Step). s .name) l i blank
+
+pub names-take : (n : ℕ) (l : List Step) → names (take n l) ≡ take n (names l)
+unfolding names
+names-take zero l = refl
+names-take (suc n) [] = refl
+names-take (suc n) (s ∷ l) = ap (λ (k : List ℕ). s .name ∷ k) (names-take n l)
+
+-- the turns of a search through the steps, of which there are `count`; `x` is the name at i
+module _ (n : ℕ) (l : List Step) (i count x : ℕ) (whole : Found) (counted : count ≡ length l)
+    (inv : moved i (position n (drop i (names l))) ≡ whole) where
+  within-names : i < count → i < length (names l)
+  within-names h = omega (arith, length-names l)
+
+  pub find-hit : i < count → x ≡ getD l i blank .name → x ≡ n → At i ≡ whole
+  find-hit h is e = position-hit n (names l) whole i (within-names h) inv (names-at l i ∙ sym is ∙ e)
+
+  pub find-miss : i < count → x ≡ getD l i blank .name → (x ≡ n → ⊥)
+      → moved (i + 1) (position n (drop (i + 1) (names l))) ≡ whole
+  find-miss h is e = position-miss n (names l) whole i (within-names h) inv (λ p. e (is ∙ sym (names-at l i) ∙ p))
+
+  pub find-end : count ≤ i → Nothing ≡ whole
+  find-end h = position-end n (names l) whole i (omega (arith, length-names l)) inv
+
+-- what a position says of the list: it is within it, and the name stands there
+pub position-below : (n : ℕ) (l : List ℕ) (k : ℕ) → position n l ≡ At k → k < length l
+unfolding position further
+position-below n [] k e = absurd (clear e)
+  where
+    clear : Nothing ≡ At k → ⊥
+    clear p = let z : _≡_ {A = ℕ} 0 1 = cc in omega arith
+position-below n (x ∷ l) k e = go (eqb x n) (position n l) refl e (position-below n l)
+  where
+    go : (t : Bool) (f : Found) → position n l ≡ f → cond t (At 0) (further f) ≡ At k
+        → ((j : ℕ) → position n l ≡ At j → j < length l) → k < suc (length l)
+    go true f p q ih = let z : 0 ≡ k = cc in omega arith
+    go false (At j) p q ih =
+        let z : suc j ≡ k = cc in
+        let b : j < length l = ih j p in
+        omega arith
+    go false Nothing p q ih = let z : _≡_ {A = ℕ} 0 1 = cc in absurd (omega arith)
+
+-- the step of a name is the one at its position
+pub lookup-at : (n : ℕ) (l : List Step) (k : ℕ) → position n (names l) ≡ At k → lookup n l ≡ some (getD l k blank)
+unfolding position further lookup names
+lookup-at n [] k e = cc
+lookup-at n (s ∷ l) k e = go (eqb (s .name) n) (position n (names l)) refl e (lookup-at n l)
+  where
+    go : (t : Bool) (f : Found) → position n (names l) ≡ f → cond t (At 0) (further f) ≡ At k
+        → ((j : ℕ) → position n (names l) ≡ At j → lookup n l ≡ some (getD l j blank))
+        → cond t (some s) (lookup n l) ≡ some (getD (s ∷ l) k blank)
+    go true f p q ih = let z : 0 ≡ k = cc in ap (λ (j : ℕ). some (getD (s ∷ l) j blank)) z
+    go false (At j) p q ih = let z : suc j ≡ k = cc in ih j p ∙ ap (λ (m : ℕ). some (getD (s ∷ l) m blank)) z
+    go false Nothing p q ih = cc
+
+pub lookup-none : (n : ℕ) (l : List Step) → position n (names l) ≡ Nothing → lookup n l ≡ none
+unfolding position further lookup names
+lookup-none n [] e = refl
+lookup-none n (s ∷ l) e = go (eqb (s .name) n) (position n (names l)) refl e (lookup-none n l)
+  where
+    go : (t : Bool) (f : Found) → position n (names l) ≡ f → cond t (At 0) (further f) ≡ Nothing
+        → (position n (names l) ≡ Nothing → lookup n l ≡ none) → cond t (some s) (lookup n l) ≡ none
+    go true f p q ih = cc
+    go false (At j) p q ih = cc
+    go false Nothing p q ih = ih p
+
+pub lookup-name : (n : ℕ) (l : List Step) (s : Step) → lookup n l ≡ some s → s .name ≡ n
+unfolding lookup
+lookup-name n [] s e = absurd (Option·none-ne-some s e)
+lookup-name n (t ∷ l) s e = go (eqb (t .name) n) refl e (lookup-name n l s)
+  where
+    go : (b : Bool) → eqb (t .name) n ≡ b → cond b (some t) (lookup n l) ≡ some s → (lookup n l ≡ some s → s .name ≡ n)
+        → s .name ≡ n
+    go true h e ih = ap (λ (x : Step). x .name) (sym (Option·some-injective t s e)) ∙ eqb-true (t .name) n h
+    go false h e ih = ih e

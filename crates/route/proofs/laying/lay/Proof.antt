@@ -1,0 +1,119 @@
+-- `route::laying::lay`: the steps laid so far are the first of the route's.
+use mathlib.Core.Path.{_≡_, refl}
+use native.Mathlib.Omega.{arith}
+use Prim.Native.Nat.{_-_, _≤_, _<_}
+use lib.ListN.{length, take}
+use Rattle.route.specs.Steps.{stepsOf}
+use Rattle.route.specs.Flat.{stepsIn}
+use Rattle.route.proofs.Full.{full}
+use borrow.Author.Needs.{needs}
+use Rattle.route.proofs.FlatSteps.{length-flat}
+use Rattle.route.proofs.LaidSteps.{lay-end, lay-on, lay-over}
+use Rattle.route.proofs.laying.lay.Statement.{statement}
+use Rattle.route.proofs.laying.lay.Tie as tie
+
+abbrev Inv-loop : tie.InvT-loop
+Inv-loop into₀ r i₀ into i =
+    ((i ≤ r .len) × ((i ≤ 64) × (length into ≡ length into₀))) × (take i (stepsIn into) ≡ take i (stepsOf r))
+
+abbrev μ-loop : tie.MeasureT-loop
+μ-loop into₀ r i₀ into i = r .len - i
+
+-- the numbers have room for 65 steps
+room : (c : tie.At-loop Inv-loop μ-loop) → 260 ≤ length (c .loop .into)
+room c = omega (arith, c .before .before .pre)
+
+room-at : (c : tie.At-loop Inv-loop μ-loop) → c .loop .i < length (stepsIn (c .loop .into))
+room-at c = omega (arith, length-flat (c .loop .into), room c)
+
+loop-holds : tie.Need-loop-holds Inv-loop μ-loop
+loop-holds c = search needs
+
+blank-requires : tie.Need-blank-requires Inv-loop μ-loop
+blank-requires c κs = search needs
+
+put-requires : tie.Need-put-requires Inv-loop μ-loop
+put-requires c κs = room-at (c .before .before .before .before)
+
+mul-result : tie.Need-mul-result Inv-loop μ-loop
+mul-result c = search needs
+
+add-result : tie.Need-add-result Inv-loop μ-loop
+add-result c = search needs
+
+same-length : tie.Need-same-length Inv-loop μ-loop
+same-length c = search needs
+
+returns : tie.Need-returns Inv-loop μ-loop
+returns c =
+    let put = c .before .before in
+    let at = put .before .before .before .before .before in
+    let start = at .before .before in
+    let r = start .args .t1 in
+    lay-over r (full r _ (start .good .0)) (at .loop .into) (at .loop .i) (at .loop .inv .1) _ _ (room at) (omega arith)
+    (put .put .ensures .0)
+    (omega arith) (omega arith) (put .before .blank .ensures)
+
+mul-s : tie.Need-mul-s Inv-loop μ-loop
+mul-s c = search needs
+
+element-copy-out-s : tie.Need-element-copy-out-s Inv-loop μ-loop
+element-copy-out-s c = search needs
+
+put-requires-2 : tie.Need-put-requires-2 Inv-loop μ-loop
+put-requires-2 c κs = room-at (c .before .before .before .before)
+
+add-i : tie.Need-add-i Inv-loop μ-loop
+add-i c = search needs
+
+loop-less : tie.Need-loop-less Inv-loop μ-loop
+loop-less c = search needs
+
+loop-again : tie.Need-loop-again Inv-loop μ-loop
+loop-again c =
+    let put = c .before .before in
+    let at = put .before .before .before .before .before in
+    let start = at .before .before in
+    let r = start .args .t1 in
+    let on =
+    lay-on r (full r _ (start .good .0)) (at .loop .into) (at .loop .i) (at .loop .inv .1) _ _ (room at) (omega arith)
+    (put .put2 .ensures .0)
+    (omega arith) refl
+    in
+    (search needs, on)
+
+mul-result-2 : tie.Need-mul-result-2 Inv-loop μ-loop
+mul-result-2 c = search needs
+
+same-length-2 : tie.Need-same-length-2 Inv-loop μ-loop
+same-length-2 c = search needs
+
+returns-2 : tie.Need-returns-2 Inv-loop μ-loop
+returns-2 c =
+    let at = c .before in
+    let start = at .before .before in
+    let r = start .args .t1 in
+    lay-end r (full r _ (start .good .0)) (at .loop .into) (at .loop .i) (at .loop .inv .1) (omega arith) (omega arith)
+
+pub lay-spec : {M : Type 1} → statement M
+lay-spec =
+    tie.close
+    (tie.spec
+    Inv-loop
+    μ-loop
+    loop-holds
+    blank-requires
+    put-requires
+    mul-result
+    add-result
+    same-length
+    returns
+    mul-s
+    element-copy-out-s
+    put-requires-2
+    add-i
+    loop-less
+    loop-again
+    mul-result-2
+    same-length-2
+    returns-2)

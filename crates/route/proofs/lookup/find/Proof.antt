@@ -1,0 +1,56 @@
+-- `route::lookup::find`: the position is the one found in what is left, moved on by what has been passed.
+use mathlib.Core.Path.{_≡_}
+use Prim.Native.Nat.{_-_, _≤_}
+use lib.ListN.{drop}
+use borrow.Author.Needs.{needs}
+use Rattle.route.specs.Steps.{names, position}
+use Rattle.route.specs.Flat.{stepsIn}
+use Rattle.route.proofs.ByName.{moved, moved-none, find-hit, find-miss, find-end}
+use Rattle.route.proofs.lookup.find.Statement.{statement}
+use Rattle.route.proofs.lookup.find.Tie as tie
+
+abbrev Inv-loop : tie.InvT-loop
+Inv-loop steps name n i₀ i =
+    (i ≤ n) × (moved i (position name (drop i (names (stepsIn steps)))) ≡ position name (names (stepsIn steps)))
+
+abbrev μ-loop : tie.MeasureT-loop
+μ-loop steps name n i₀ i = n - i
+
+count-requires : tie.Need-count-requires Inv-loop μ-loop
+count-requires c κs = search needs
+
+loop-holds : tie.Need-loop-holds Inv-loop μ-loop
+loop-holds c = (search needs, moved-none _)
+
+name-at-requires : tie.Need-name-at-requires Inv-loop μ-loop
+name-at-requires c κs = search needs
+
+returns : tie.Need-returns Inv-loop μ-loop
+returns c = search (needs, find-hit)
+
+add-i : tie.Need-add-i Inv-loop μ-loop
+add-i c = search needs
+
+loop-less : tie.Need-loop-less Inv-loop μ-loop
+loop-less c = search needs
+
+loop-again : tie.Need-loop-again Inv-loop μ-loop
+loop-again c = (search needs, search (needs, find-miss))
+
+returns-2 : tie.Need-returns-2 Inv-loop μ-loop
+returns-2 c = search (needs, find-end)
+
+pub find-spec : {M : Type 1} → statement M
+find-spec =
+    tie.close
+    (tie.spec
+    Inv-loop
+    μ-loop
+    count-requires
+    loop-holds
+    name-at-requires
+    returns
+    add-i
+    loop-less
+    loop-again
+    returns-2)

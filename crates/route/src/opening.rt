@@ -1,0 +1,56 @@
+// A list of steps as a whole: the places that they take from and put to, the start, and rows 6 and 7.
+use crate::Ends;
+use crate::Marking;
+use crate::Opened;
+use crate::flat;
+use refusal::Outcome;
+ghost use mathlib.Core.Path.{_≡_};
+ghost use Prim.Native.Nat.{_≤_};
+ghost use Rattle.route.specs.Flat.{stepsIn};
+ghost use Rattle.route.specs.Net.{opened};
+ghost use Rattle.route.specs.Ends.{EndsOf};
+
+// All in-places and all out-places, by one pass.
+fn ends(steps: &[u64]) -> Ends
+    ensures { λ r. ⌜ EndsOf (stepsIn (now (steps .entry))) r ⌝ }
+{
+    let n = flat::count(steps);
+    let mut ins = 0u64;
+    let mut outs = 0u64;
+    let mut i = 0;
+    while i < n {
+        let s = flat::step_at(steps, i);
+        ins |= s.ins;
+        outs |= s.outs;
+        i += 1;
+    }
+    Ends { ins, outs }
+}
+
+// Rows 6 and 7 at the line of the route's head, and the start.
+pub fn open(places: u64, steps: &[u64], line: u64) -> Opened
+    requires { ⌜ places ≤ 64 ⌝ }
+    ensures { λ r. ⌜ r ≡ opened line places (stepsIn (now (steps .entry))) ⌝ }
+{
+    let e = ends(steps);
+    let all = mask::below64(places);
+    let marking = Marking {
+        tokens: mask::without64(all, e.outs),
+    };
+    if !mask::within64(all, e.ins | e.outs) {
+        return Opened {
+            outcome: Outcome::refuse(6, line),
+            marking,
+        };
+    }
+    if marking.tokens == 0 {
+        return Opened {
+            outcome: Outcome::refuse(7, line),
+            marking,
+        };
+    }
+    Opened {
+        outcome: Outcome::pass(),
+        marking,
+    }
+}

@@ -1,0 +1,103 @@
+-- `slice::sweeping::keep`: the loop is the sweep, from the position it has come down to.
+use mathlib.Core.Path.{_≡_, sym, ap, ap₂, _∙_}
+use mathlib.Core.Bool.{Bool, true, false, cond}
+use mathlib.Core.List.{List}
+use Prim.Native.Nat.{ℕ, suc, _-_, _≤_, _<_}
+use native.Mathlib.Omega.{arith}
+use borrow.Author.Needs.{needs}
+use lib.Bits.{bitOr}
+use lib.ListN.{length, getD}
+use Rattle.mask.specs.Mask.{bit, without, meets}
+use Rattle.route.specs.Steps.{blank}
+use Rattle.route.specs.Flat.{stepsIn}
+use Rattle.route.specs.declared.Step.{Step}
+use Rattle.slice.specs.Slice.{Sweep, sweepStep, keptMask}
+use Rattle.slice.proofs.Sweep.{sweepFrom, sweep-end, sweep-on}
+use Rattle.slice.proofs.sweeping.keep.Statement.{statement}
+use Rattle.slice.proofs.sweeping.keep.Tie as tie
+
+at-the-end : (l : List Step) (vars i : ℕ) → i ≡ length l → sweepFrom l vars i ≡ record { live = vars; kept = 0 }
+at-the-end l vars i h = sweep-end l vars i (omega arith)
+
+module _ (l : List Step) (vars i live kept : ℕ) where
+  abbrev before : Step → Bool → Sweep
+  before s t =
+      cond t
+      (record { live = bitOr (without live (s .writes)) (s .reads); kept = bitOr kept (bit (i - 1)) })
+      (record { live = live; kept = kept })
+
+  module _
+      (some : 0 < i)
+      (inv : sweepFrom l vars i ≡ record { live = live; kept = kept })
+      (s : Step)
+      (is : s ≡ getD l (i - 1) blank)
+      (t : Bool)
+      (test : t ≡ meets (s .writes) live) where
+    one-back : sweepFrom l vars (i - 1) ≡ before s t
+    unfolding sweepStep
+    one-back =
+        sweep-on l vars (i - 1)
+        ∙ ap₂ (λ (x : Step) (w : Sweep). sweepStep (i - 1) x w) (sym is) (ap (sweepFrom l vars) next ∙ inv)
+        ∙ ap (before s) (sym test)
+      where
+        next : suc (i - 1) ≡ i
+        next = omega arith
+
+    taken-along : (left b : ℕ) → t ≡ true → left ≡ without live (s .writes) → b ≡ bit (i - 1)
+        → sweepFrom l vars (i - 1) ≡ record { live = bitOr left (s .reads); kept = bitOr kept b }
+    taken-along left b yes-kept gone placed = rw (one-back, yes-kept) (sym (λ n. record { live = bitOr (gone n) (s .reads); kept = bitOr kept (placed n) }))
+
+    passed-over : t ≡ false → sweepFrom l vars (i - 1) ≡ record { live = live; kept = kept }
+    passed-over not-kept = rw (one-back, not-kept)
+
+  all-swept : i ≤ 0 → sweepFrom l vars i ≡ record { live = live; kept = kept } → kept ≡ keptMask l vars
+  unfolding keptMask
+  all-swept h inv = sym (ap (λ (w : Sweep). w .kept) (ap (sweepFrom l vars) start ∙ inv))
+    where
+      start : 0 ≡ i
+      start = omega arith
+
+abbrev Inv-loop : tie.InvT-loop
+Inv-loop occurrences vars live₀ kept₀ i₀ live kept i = (i ≤ length (stepsIn occurrences)) × (sweepFrom (stepsIn occurrences) vars i ≡ record { live = live; kept = kept })
+
+abbrev μ-loop : tie.MeasureT-loop
+μ-loop occurrences vars live₀ kept₀ i₀ live kept i = i
+
+count-requires : tie.Need-count-requires Inv-loop μ-loop
+count-requires c κs = search needs
+
+loop-holds : tie.Need-loop-holds Inv-loop μ-loop
+loop-holds c = (search needs, search (needs, at-the-end))
+
+sub-i : tie.Need-sub-i Inv-loop μ-loop
+sub-i c = search needs
+
+step-at-requires : tie.Need-step-at-requires Inv-loop μ-loop
+step-at-requires c κs = search needs
+
+meets32-requires : tie.Need-meets32-requires Inv-loop μ-loop
+meets32-requires c κs = search needs
+
+without32-requires : tie.Need-without32-requires Inv-loop μ-loop
+without32-requires c κs = search needs
+
+bit64-requires : tie.Need-bit64-requires Inv-loop μ-loop
+bit64-requires c κs = search needs
+
+loop-less : tie.Need-loop-less Inv-loop μ-loop
+loop-less c = search needs
+
+loop-again : tie.Need-loop-again Inv-loop μ-loop
+loop-again c = (search needs, search (needs, taken-along))
+
+loop-less-2 : tie.Need-loop-less-2 Inv-loop μ-loop
+loop-less-2 c = search needs
+
+loop-again-2 : tie.Need-loop-again-2 Inv-loop μ-loop
+loop-again-2 c = (search needs, search (needs, passed-over))
+
+returns : tie.Need-returns Inv-loop μ-loop
+returns c = search (needs, all-swept)
+
+pub keep-spec : {M : Type 1} → statement M
+keep-spec = tie.close (tie.spec Inv-loop μ-loop count-requires loop-holds sub-i step-at-requires meets32-requires without32-requires bit64-requires loop-less loop-again loop-less-2 loop-again-2 returns)

@@ -1,0 +1,15 @@
+-- Occurrences by variable: what a mask of variables for each occurrence is, read the other way round.
+use mathlib.Core.Path.{_≡_}
+use mathlib.Core.List.{List}
+use Prim.Native.Nat.{ℕ, _<_}
+use lib.ListN.{length, getD}
+use Rattle.mask.specs.Mask.{has, meets, collect}
+
+-- the entry at each of the 32 variables holds the occurrences below n whose mask f has the variable
+pub record ByVariable (f : ℕ → ℕ) (n : ℕ) (by : List ℕ) : Type 0 where
+  pub room : length by ≡ 32
+  pub entry : (v : ℕ) → v < 32 → getD by v 0 ≡ collect (λ (j : ℕ). has (f j) v) n
+
+-- the occurrences below n whose mask f has one of the variables
+unfoldable pub meeting : (ℕ → ℕ) → ℕ → ℕ → ℕ
+meeting f vars n = collect (λ (j : ℕ). meets (f j) vars) n

@@ -1,0 +1,25 @@
+// Which of the steps done are kept: one sweep from the last to the first.
+use route::flat;
+ghost use mathlib.Core.Path.{_≡_};
+ghost use Prim.Native.Nat.{_≤_};
+ghost use lib.ListN.{length};
+ghost use Rattle.route.specs.Flat.{stepsIn};
+ghost use Rattle.slice.specs.Slice.{keptMask};
+
+pub fn keep(occurrences: &[u64], vars: u32) -> u64
+    requires { ⌜ length (stepsIn (now occurrences)) ≤ 64 ⌝ }
+    ensures { λ r. ⌜ r ≡ keptMask (stepsIn (now (occurrences .entry))) vars ⌝ }
+{
+    let mut live = vars;
+    let mut kept = 0u64;
+    let mut i = flat::count(occurrences);
+    while 0 < i {
+        i -= 1;
+        let s = flat::step_at(occurrences, i);
+        if mask::meets32(s.writes, live) {
+            live = mask::without32(live, s.writes) | s.reads;
+            kept |= mask::bit64(i);
+        }
+    }
+    kept
+}
