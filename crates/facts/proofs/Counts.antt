@@ -1,9 +1,9 @@
 -- A route that was read has at most 64 steps: a line adds one only below that.
 -- Assumes nothing.
-use mathlib.Core.Path.{_≡_, refl, sym, ap, _∙_}
+use mathlib.Core.Path.{_≡_, refl}
 use mathlib.Core.Bool.{Bool, true, false, cond}
 use mathlib.Core.List.{List, [], _∷_}
-use Prim.Native.Nat.{ℕ, zero, suc, _+_, _≤_, _<_}
+use Prim.Native.Nat.{ℕ, _+_, _≤_}
 use native.Mathlib.Omega.{arith}
 use lib.Dec.{eqb, ltb}
 use lib.ListN.{length, set}
@@ -15,7 +15,7 @@ use Rattle.layout.specs.Text.{Form, Lines}
 use Rattle.layout.specs.Parse.{Parsed, parse}
 use Rattle.layout.specs.declared.Part.{Part}
 use Rattle.layout.specs.declared.Part.the-variants.{OldRoute, NewRoute, JobPart}
-use Rattle.facts.specs.Facts.{State, failed, settled, headed, stepped, withOld, withNew, oldHead, newHead, jobHead, doneIn, stepIn, more, moreSteps, moreDones, nothing, factsOf, answered, readOf}
+use Rattle.facts.specs.Facts.{State, failed, settled, headed, stepped, oldHead, newHead, jobHead, doneIn, stepIn, more, moreSteps, moreDones, nothing, factsOf, answered, readOf}
 use Rattle.facts.specs.declared.Sheet.{Sheet}
 
 pub record Few (s : Sheet) : Type 0 where

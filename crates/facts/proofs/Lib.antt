@@ -2,11 +2,13 @@
 pub mod Settle
 pub mod Counts
 pub mod LineEnds
-pub mod Stand
-pub mod Dones
-pub mod PartText
 pub mod Members
 pub mod Masks
-pub mod Fine
 pub mod Ties
 pub mod Records
+pub mod PartText
+pub mod Widths
+pub mod RowOne
+pub mod RowsFold
+pub mod PassingLines
+pub mod DoneNames

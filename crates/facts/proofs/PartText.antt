@@ -2,24 +2,24 @@
 -- Assumes nothing.
 use mathlib.Core.Path.{_≡_, refl, sym, ap, _∙_}
 use mathlib.Core.Bool.{Bool, true, false, cond}
-use mathlib.Core.List.{List, [], _∷_, _++_, map}
-use Prim.Native.Nat.{ℕ, zero, suc, _+_, _/_, _%_}
+use mathlib.Core.List.{List, [], _∷_, _++_}
+use Prim.Native.Nat.{ℕ, zero, suc, _+_, _-_, _/_, _%_}
 use native.Mathlib.Omega.{arith}
 use lib.Dec.{eqb, ltb}
-use lib.ListN.{length, length-map}
+use lib.ListN.{length, replicate, length-map}
+use lib.Seq.{take-append-seam}
 use borrow.Author.Tests.{ne-eqb, eq-eqb}
 use Rattle.layout.specs.Words.{spelling}
 use Rattle.layout.specs.Text.{Form, Lines, digits, number, entries, listed, stepLine, wordLine, stepLines, jobText, text}
-use Rattle.layout.specs.Parse.{Parsed, parse}
 use Rattle.layout.specs.declared.Word.{Word}
-use Rattle.layout.specs.declared.Word.the-variants.{Old, New, Step, In, Out, Read, Write}
+use Rattle.layout.specs.declared.Word.the-variants.{Old, New}
 use Rattle.layout.proofs.Sound.{sound}
 use Rattle.facts.specs.Forms.{recordOf}
-use Rattle.facts.specs.Facts.{factsOf, answered, readOf}
+use Rattle.facts.specs.Facts.{readOf, jobRead}
 use Rattle.facts.specs.SheetRows.{filled, factsRecord}
 use Rattle.facts.specs.JobPart.{afterLines, jobPart}
 use Rattle.facts.specs.declared.Sheet.{Sheet}
-use Rattle.facts.proofs.Stand.{reads-facts}
+use Rattle.facts.proofs.Records.{ReadAs, reads-as}
 
 over-byte : (k b : ℕ) (s : List ℕ) → eqb b 10 ≡ false → afterLines (suc k) (b ∷ s) ≡ afterLines (suc k) s
 unfolding afterLines
@@ -75,15 +75,17 @@ over-text x =
     first-line = omega arith
 
 -- the job part of a sheet that reads
-pub job-part-text : (s : List ℕ) (x : Lines) → parse s ≡ Parsed.read x → readOf s .number ≡ 0 → jobPart s ≡ jobText (x .done)
+pub job-part-text : (s : List ℕ) → readOf s .number ≡ 0 → jobPart s ≡ jobText (jobRead (readOf s) .done)
 unfolding jobPart factsRecord filled
-job-part-text s x e z =
+job-part-text s z =
     ap (λ (t : Bool). cond t (afterLines (readOf s .old .len + readOf s .new .len + 2) s) []) (eq-eqb (readOf s .number) 0 z)
-    ∙ ap (λ (y : Sheet). afterLines (y .old .len + y .new .len + 2) s) (facts ∙ reads-facts x (ap (λ (y : Sheet). y .number) (sym facts) ∙ z) .1)
-    ∙ sizes (sound s x e .same)
+    ∙ ap (λ (y : Sheet). afterLines (y .old .len + y .new .len + 2) s) (r .facts)
+    ∙ (λ i. afterLines (length-map (x .old) recordOf i + length-map (x .new) recordOf i + 2) (sound s x (r .parsed) .same i))
+    ∙ over-text x
+    ∙ ap jobText (sym (ap (λ (y : Sheet). jobRead y .done) (r .facts) ∙ take-append-seam (x .done) (replicate (64 - length (x .done)) 0)))
   where
-    facts : readOf s ≡ factsOf x
-    facts = unfold readOf answered in ap (answered (length s)) e
+    r : ReadAs s
+    r = reads-as s z
 
-    sizes : s ≡ text x → afterLines (factsRecord x .old .len + factsRecord x .new .len + 2) s ≡ jobText (x .done)
-    sizes q = (λ i. afterLines (length-map (x .old) recordOf i + length-map (x .new) recordOf i + 2) (q i)) ∙ over-text x
+    x : Lines
+    x = r .lines

@@ -22,9 +22,9 @@ use Rattle.facts.specs.Facts.{failed, factsOf, answered, readOf, jobRead
 use Rattle.facts.specs.SheetRows.{sheetRows, filled, factsRecord}
 use Rattle.facts.specs.Back.{formOf, linesOf, Wide, AllWide}
 use Rattle.facts.specs.declared.Sheet.{Sheet}
-use Rattle.facts.proofs.Stand.{reads-facts, filled-steps}
+use Rattle.facts.proofs.RowsFold.{reads-facts, filled-steps}
 use Rattle.facts.proofs.Masks.{mask-members, members-mask, masked-below}
-use Rattle.facts.proofs.Fine.{Passes, Fine, AllFine, AllLines, lines-fine}
+use Rattle.facts.proofs.PassingLines.{Passes, Fine, AllFine, AllLines, lines-fine}
 use Rattle.facts.proofs.Ties.{tie}
 
 -- ---- a step: its form's record, and its record's form
@@ -110,12 +110,22 @@ pub not-broken : (s r : List ℕ) → readOf s .number ≡ 0 → parse s ≡ Par
 unfolding readOf answered failed
 not-broken s r z e = let one : _≡_ {A = ℕ} 1 0 = sym (ap (λ (p : Parsed). answered (length s) p .number) e) ∙ z in omega arith
 
--- a sheet that reads passes the rows of its lines
-pub read-lines : (s : List ℕ) → readOf s .number ≡ 0 → LinesPass (jobRead (readOf s))
-read-lines s z = go (parse s) refl
+-- a sheet that reads: its lines, which no row refuses, and its facts
+pub record ReadAs (s : List ℕ) : Type 0 where
+  pub lines : Lines
+  pub parsed : parse s ≡ Parsed.read lines
+  pub passes : Passes (sheetRows lines)
+  pub facts : readOf s ≡ factsRecord lines
+
+pub reads-as : (s : List ℕ) → readOf s .number ≡ 0 → ReadAs s
+reads-as s z = go (parse s) refl
   where
-    go : (p : Parsed) → parse s ≡ p → LinesPass (jobRead (readOf s))
+    go : (p : Parsed) → parse s ≡ p → ReadAs s
     go (Parsed.read x) e =
         let passed = reads-facts x (ap (λ (y : Sheet). y .number) (sym (read-is s x e)) ∙ z) in
-        ap (λ (y : Sheet). first (lineRows (jobRead y)) .number) (read-is s x e ∙ passed .1) ∙ eqb-true _ 0 (records-pass x (passed .0))
+        record { lines = x; parsed = e; passes = passed .0; facts = read-is s x e ∙ passed .1 }
     go (Parsed.broken r) e = absurd (not-broken s r z e)
+
+-- a sheet that reads passes the rows of its lines
+pub read-lines : (s : List ℕ) → readOf s .number ≡ 0 → LinesPass (jobRead (readOf s))
+read-lines s z = let r = reads-as s z in ap (λ (y : Sheet). first (lineRows (jobRead y)) .number) (r .facts) ∙ eqb-true _ 0 (records-pass (r .lines) (r .passes))

@@ -20,8 +20,8 @@ use Rattle.facts.specs.SheetRows.{formRows, routeFormRows, sheetRows}
 use Rattle.facts.specs.Back.{formOf, linesOf, Wide, AllWide}
 use Rattle.facts.proofs.Members.{bool-ext, all-below-width, below-is, none-is, fits-is}
 
-or-within : (a b c : ℕ) → within (bitOr a b) c ≡ (within a c && within b c)
-or-within a b c =
+pub within-or : (a b c : ℕ) → within (bitOr a b) c ≡ (within a c && within b c)
+within-or a b c =
     bool-ext (within (bitOr a b) c) (within a c && within b c)
     (λ e. ap₂ (λ (x y : Bool). x && y) (all-within a c (λ v h. within-all (bitOr a b) c e v (has-or a b v ∙ left (has a v) (has b v) h))) (all-within b c (λ v h. within-all (bitOr a b) c e v (has-or a b v ∙ right (has a v) (has b v) h))))
     (λ e. all-within (bitOr a b) c (λ v h. pick (has a v) (has b v) (has c v) (sym (has-or a b v) ∙ h) (within-all a c (both (within a c) (within b c) e .0) v) (within-all b c (both (within a c) (within b c) e .1) v)))
@@ -46,7 +46,7 @@ fits-same places s h =
     (ap₂ (λ (x y : Bool). x && y) (below-is 64 (s .outs) places (h .outs))
     (ap₂ (λ (x y : Bool). x && y) (all-below-width 32 (s .reads)) (all-below-width 32 (s .writes))))
     ∙ ap (λ (x : Bool). within (s .ins) (below places) && x) (end (within (s .outs) (below places)))
-    ∙ sym (or-within (s .ins) (s .outs) (below places)))
+    ∙ sym (within-or (s .ins) (s .outs) (below places)))
   where
     end : (x : Bool) → (x && (true && true)) ≡ x
     end true = refl

@@ -1,7 +1,8 @@
 -- The lines of records: each mask's entries rise.
 use mathlib.Core.List.{List, [], _∷_, map}
 use Prim.Native.Nat.{_<_, _^_}
-use Rattle.mask.specs.Mask.{members}
+use lib.Bits.{bitAnd}
+use Rattle.mask.specs.Mask.{below, members}
 use Rattle.route.specs.declared.Step.{Step}
 use Rattle.job.specs.Job.{Job}
 use Rattle.layout.specs.Text.{Form, Lines}
@@ -22,3 +23,11 @@ pub record Wide (s : Step) : Type 0 where
 abbrev pub AllWide : List Step → Type 0
 AllWide [] = Unit {0}
 AllWide (s ∷ l) = Wide s × AllWide l
+
+-- A step as a record holds it: its variables are those below 32. In the code a mask of variables has 32 bits, and `asRecord` changes no such
+-- step; here a mask may be any number, and the rows ask nothing of a bit past 32. (Row 2 bounds the places by itself.)
+unfoldable pub asRecord : Step → Step
+asRecord s = record { name = s .name; ins = s .ins; outs = s .outs; reads = bitAnd (s .reads) (below 32); writes = bitAnd (s .writes) (below 32) }
+
+unfoldable pub asRecords : Job → Job
+asRecords j = record { oldPlaces = j .oldPlaces; old = map asRecord (j .old); newPlaces = j .newPlaces; new = map asRecord (j .new); done = j .done }

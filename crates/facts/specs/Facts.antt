@@ -1,10 +1,10 @@
 -- The facts of a sheet: its lines top down, each by the rows 4, 2, 3, 5 in this order. The first refusal stands, with all else 0.
-use mathlib.Core.Bool.{Bool, true, false, not, cond}
+use mathlib.Core.Bool.{not, cond}
 use mathlib.Core.List.{List, [], _∷_}
-use Prim.Native.Nat.{ℕ, zero, suc, _+_, _-_}
+use Prim.Native.Nat.{ℕ, _+_, _-_}
 use lib.Dec.{eqb, ltb}
 use lib.ListN.{length, set, take, replicate}
-use Rattle.route.specs.Steps.{blank, noRoute, stepsOf, names}
+use Rattle.route.specs.Steps.{noRoute, stepsOf, names}
 use Rattle.refusal.specs.Rows.{unless, first}
 use Rattle.route.specs.declared.Step.{Step}
 use Rattle.route.specs.declared.Route.{Route}

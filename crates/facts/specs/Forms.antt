@@ -1,7 +1,7 @@
 -- Rows 4, 2, 3 and 5 of a step as it is written, and its record.
-use mathlib.Core.Bool.{Bool, true, false, not, cond, _&&_}
+use mathlib.Core.Bool.{Bool, true, not, cond, _&&_}
 use mathlib.Core.List.{List, [], _∷_}
-use Prim.Native.Nat.{ℕ, zero, suc}
+use Prim.Native.Nat.{ℕ, suc}
 use lib.Dec.{eqb, ltb, leb}
 use lib.ListN.{length}
 use lib.Bits.{bitOr}

@@ -1,7 +1,7 @@
 -- The rows of a sheet's lines as one list, and the facts of a sheet that no row refuses.
-use mathlib.Core.Bool.{Bool, true, false, not}
+use mathlib.Core.Bool.{not}
 use mathlib.Core.List.{List, [], _∷_, _++_, map}
-use Prim.Native.Nat.{ℕ, zero, suc, _+_, _-_}
+use Prim.Native.Nat.{ℕ, _+_, _-_}
 use lib.Dec.{eqb}
 use lib.ListN.{length, replicate}
 use Rattle.route.specs.Steps.{blank}
@@ -9,6 +9,7 @@ use Rattle.refusal.specs.Rows.{unless}
 use Rattle.route.specs.declared.Step.{Step}
 use Rattle.route.specs.declared.Route.{Route}
 use Rattle.refusal.specs.declared.Outcome.{Outcome}
+use Rattle.job.specs.Job.{Job}
 use Rattle.job.specs.Lines.{placesFit, doneRows}
 use Rattle.layout.specs.Text.{Form, Lines}
 use Rattle.facts.specs.Forms.{formRow, recordOf}
@@ -46,4 +47,16 @@ factsRecord x =
       new = filled (x .newPlaces) (map recordOf (x .new));
       «done_len» = length (x .done);
       done = x .done ++ replicate (64 - length (x .done)) 0;
+    }
+
+-- the answer of a sheet of these records
+abbrev pub sheetOf : Job → Sheet
+sheetOf j =
+    record {
+      number = 0;
+      second = 0;
+      old = filled (j .oldPlaces) (j .old);
+      new = filled (j .newPlaces) (j .new);
+      «done_len» = length (j .done);
+      done = j .done ++ replicate (64 - length (j .done)) 0;
     }

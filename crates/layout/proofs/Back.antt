@@ -1,10 +1,9 @@
 -- Lists that are gathered with the latest first, and their texts.
 -- Assumes nothing.
-use mathlib.Core.Path.{_≡_, refl, sym, ap, _∙_}
-use mathlib.Core.List.{List, [], _∷_, _++_, reverse, reverseAux}
+use mathlib.Core.Path.{_≡_, refl}
+use mathlib.Core.List.{List, [], _∷_, reverseAux}
 use Prim.Native.Nat.{ℕ}
-use Rattle.layout.specs.Text.{Form, number, entries, stepLine, wordLine, stepLines, doneLines, Short, Shorts, ShortForm, ShortForms}
-use Rattle.layout.specs.declared.Word.{Word}
+use Rattle.layout.specs.Text.{Form, number, entries, stepLine, wordLine, stepLines, doneLines, Shorts, ShortForms}
 use Rattle.layout.specs.declared.Word.the-variants.{Done}
 
 unfoldable pub entriesBack : List ℕ → List ℕ → List ℕ

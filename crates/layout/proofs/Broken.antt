@@ -3,19 +3,17 @@
 use mathlib.Core.Path.{_≡_, refl, sym, ap, _∙_, subst}
 use mathlib.Core.Bool.{Bool, true, false, cond}
 use mathlib.Core.List.{List, [], _∷_, _++_, append-assoc}
-use Prim.Native.Nat.{ℕ, suc, _+_, _-_, _≤_, _<_}
+use Prim.Native.Nat.{ℕ, suc, _+_, _-_, _<_}
 use native.Mathlib.Omega.{arith}
 use lib.ListN.{length, take, length-append}
 use lib.Seq.{take-at}
 use Rattle.layout.specs.Text.{Lines, text}
 use Rattle.layout.specs.Points.{alive, next}
-use Rattle.layout.specs.Parse.{Line, Parsed, noLine, noLines, took, keep, inOrder, atEnd, run, parse}
-use Rattle.layout.specs.Begins.{IsSheet, Begins, FirstBroken}
-use Rattle.layout.specs.declared.Part.{Part}
+use Rattle.layout.specs.Parse.{Line, Parsed, noLine, noLines, took, keep, atEnd, run, parse}
+use Rattle.layout.specs.Begins.{Begins, FirstBroken}
 use Rattle.layout.specs.declared.Part.the-variants.{OldRoute, NewRoute, JobPart}
 use Rattle.layout.specs.declared.Point.{Point}
 use Rattle.layout.specs.declared.Point.the-variants.{Start, Open, Choice, Letters, Past, Digit, Digits, Gap, Closed, Lf, Stuck}
-use Rattle.layout.proofs.Onward.{apart}
 use Rattle.layout.proofs.Complete.{complete}
 use Rattle.layout.proofs.Sound.{sound, not-read}
 use Rattle.layout.proofs.Ends.{good, stays-good, ends}

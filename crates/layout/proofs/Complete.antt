@@ -1,19 +1,17 @@
 -- What is written is read: the text of lines leads from point to point, and gathers those lines.
 -- Assumes nothing.
-use mathlib.Core.Path.{_≡_, refl, sym, ap, _∙_}
-use mathlib.Core.Bool.{Bool, true, false, cond}
-use mathlib.Core.List.{List, [], _∷_, _++_, reverse, reverseAux, reverse-reverse}
-use Prim.Native.Nat.{ℕ, zero, suc}
+use mathlib.Core.Path.{_≡_, refl, ap, _∙_}
+use mathlib.Core.List.{List, [], _∷_, reverseAux, reverse-reverse}
+use Prim.Native.Nat.{ℕ}
 use Rattle.layout.specs.Words.{spelling}
-use Rattle.layout.specs.Text.{Form, Lines, digits, number, entries, listed, stepLine, wordLine, jobLine, stepLines, doneLines, jobText, text, Short, Shorts, ShortForm, ShortForms, ShortLines}
-use Rattle.layout.specs.Points.{digit, alive, expect, chosen, spelt, inList, pastWord, first, ended, more, closed, next}
-use Rattle.layout.specs.Parse.{Line, Parsed, noLine, noLines, withNum, stored, took, formOf, putStep, putLine, keep, inOrder, atEnd, run, parse}
+use Rattle.layout.specs.Text.{Form, Lines, number, entries, listed, stepLine, wordLine, jobLine, stepLines, doneLines, jobText, text, Short, Shorts, ShortForm, ShortForms, ShortLines}
+use Rattle.layout.specs.Points.{digit, alive, expect, chosen, spelt, inList, pastWord, ended, more, closed, next}
+use Rattle.layout.specs.Parse.{Line, Parsed, noLine, noLines, withNum, stored, took, formOf, putStep, putLine, keep, atEnd, run, parse}
 use Rattle.layout.specs.declared.Word.{Word}
-use Rattle.layout.specs.declared.Word.the-variants.{Old, New, Job, Done, Step, In, Out, Read, Write}
+use Rattle.layout.specs.declared.Word.the-variants.{Old, New, Done, Step, In, Out, Read, Write}
 use Rattle.layout.specs.declared.Part.{Part}
 use Rattle.layout.specs.declared.Part.the-variants.{OldRoute, NewRoute, JobPart}
-use Rattle.layout.specs.declared.Point.{Point}
-use Rattle.layout.specs.declared.Point.the-variants.{Start, Open, Choice, Letters, Past, Digit, Digits, Gap, Closed, Lf, Stuck}
+use Rattle.layout.specs.declared.Point.the-variants.{Start, Open, Past, Digit, Digits, Closed}
 use Rattle.layout.proofs.Numbers.{number-run}
 
 -- ---- the entries of a list

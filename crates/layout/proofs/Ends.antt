@@ -1,17 +1,17 @@
 -- From every point that reading reaches, some sheet ends: each point's shortest ending leads to the next one's.
 -- Assumes nothing.
-use mathlib.Core.Path.{_≡_, refl, sym, ap, _∙_}
+use mathlib.Core.Path.{_≡_, refl, _∙_}
 use mathlib.Core.Bool.{Bool, true, false, cond}
-use mathlib.Core.List.{List, [], _∷_, _++_}
+use mathlib.Core.List.{List, [], _∷_}
 use Prim.Native.Nat.{ℕ, zero, suc, _+_, _-_, _≤_, _<_}
 use native.Mathlib.Omega.{arith}
 use lib.Dec.{eqb, ltb}
 use lib.ListN.{length, getD}
-use borrow.Author.Tests.{eqb-true, eqb-false, eq-eqb, ne-eqb, ltb-true, lt-ltb}
+use borrow.Author.Tests.{eqb-false, eq-eqb, ne-eqb, ltb-true, lt-ltb}
 use Rattle.layout.specs.Words.{spelling}
 use Rattle.layout.specs.Text.{Lines}
 use Rattle.layout.specs.Points.{digit, alive, expect, chosen, spelt, inList, pastWord, first, ended, more, closed, next}
-use Rattle.layout.specs.Parse.{Line, Parsed, noLine, took, putLine, keep, inOrder, atEnd, run}
+use Rattle.layout.specs.Parse.{Line, Parsed, took, putLine, keep, atEnd, run}
 use Rattle.layout.specs.declared.Word.{Word}
 use Rattle.layout.specs.declared.Word.the-variants.{Old, New, Job, Done, Step, In, Out, Read, Write}
 use Rattle.layout.specs.declared.Part.{Part}
@@ -19,7 +19,7 @@ use Rattle.layout.specs.declared.Part.the-variants.{OldRoute, NewRoute, 
 use Rattle.layout.specs.declared.Point.{Point}
 use Rattle.layout.specs.declared.Point.the-variants.{Start, Open, Choice, Letters, Past, Digit, Digits, Gap, Closed, Lf, Stuck}
 use Rattle.layout.proofs.Numbers.{run-on}
-use Rattle.layout.proofs.Onward.{never, apart, expected, either}
+use Rattle.layout.proofs.PrefixStep.{never, apart, expected, either}
 
 -- ---- the points that reading reaches
 

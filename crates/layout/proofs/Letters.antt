@@ -1,11 +1,11 @@
 -- The table of words, entry by entry.
 -- Assumes nothing.
 use mathlib.Core.Path.{_≡_, refl, ap, ap₂, _∙_}
-use mathlib.Core.List.{List, [], _∷_}
+use mathlib.Core.List.{List}
 use Prim.Native.Nat.{ℕ, zero, suc, _+_, _*_, _≤_, _<_}
 use native.Mathlib.Omega.{arith}
 use lib.Dec.{lit<, lit≤}
-use lib.ListN.{length, getD}
+use lib.ListN.{length, getD, take, drop}
 use Rattle.layout.specs.Words.{wordTable, spelling, numberOf}
 use Rattle.layout.specs.declared.Word.{Word}
 use Rattle.layout.specs.declared.Word.the-variants.{Old, New, Job, Done, Step, In, Out, Read, Write}
@@ -77,3 +77,16 @@ module _ (t : List ℕ) (n : ℕ) (w : Word) (is : t ≡ wordTable) (row : n ≡
 
   pub table-room : (k : ℕ) → k < 6 → n * 6 + k < length t
   table-room k h = omega (arith, ap length is, row, row-below w)
+
+-- the letters as a part of the table
+pub letters-at : (w : Word) → take (length (spelling w)) (drop (numberOf w * 6 + 1) wordTable) ≡ spelling w
+unfolding spelling numberOf
+letters-at Old = refl
+letters-at New = refl
+letters-at Job = refl
+letters-at Done = refl
+letters-at Step = refl
+letters-at In = refl
+letters-at Out = refl
+letters-at Read = refl
+letters-at Write = refl

@@ -3,8 +3,8 @@ pub mod Letters
 pub mod Numbers
 pub mod Complete
 pub mod Back
-pub mod Sofar
-pub mod Onward
 pub mod Sound
 pub mod Ends
 pub mod Broken
+pub mod Prefix
+pub mod PrefixStep

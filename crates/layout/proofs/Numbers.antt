@@ -1,12 +1,12 @@
 -- A number that is written is read: from its first digit to whatever follows it.
 -- Assumes nothing.
-use mathlib.Core.Path.{_≡_, refl, sym, ap, ap₂, _∙_}
+use mathlib.Core.Path.{_≡_, refl, ap, ap₂, _∙_}
 use mathlib.Core.Bool.{Bool, true, false, cond, _&&_}
-use mathlib.Core.List.{List, [], _∷_}
+use mathlib.Core.List.{List, _∷_}
 use Prim.Native.Nat.{ℕ, zero, suc, _+_, _-_, _*_, _^_, _/_, _%_, _≤_, _<_}
 use native.Mathlib.Nat.{pow-suc}
 use native.Mathlib.Omega.{arith}
-use lib.Dec.{eqb, ltb, leb}
+use lib.Dec.{ltb}
 use borrow.Author.Tests.{ne-eqb, lt-ltb, le-leb, ltb-true, ltb-false}
 use Rattle.layout.specs.Text.{Lines, digits, number, Short}
 use Rattle.layout.specs.Points.{digit, alive, first, more, ended, next}

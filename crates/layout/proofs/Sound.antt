@@ -1,22 +1,20 @@
 -- What is read was written: the lines that reading gives have the bytes for their text.
 -- Assumes nothing.
-use mathlib.Core.Path.{_≡_, refl, sym, ap, ap₂, _∙_, subst}
+use mathlib.Core.Path.{_≡_, refl, sym, ap, _∙_, subst}
 use mathlib.Core.Bool.{Bool, true, false, cond}
-use mathlib.Core.List.{List, [], _∷_, _++_, reverse}
+use mathlib.Core.List.{List, [], _∷_, reverse}
 use Prim.Native.Nat.{ℕ}
 use native.Mathlib.Omega.{arith}
-use Rattle.layout.specs.Text.{Form, Lines, wordLine, jobLine, stepLines, doneLines, jobText, text, ShortLines}
+use Rattle.layout.specs.Text.{Lines, wordLine, jobLine, stepLines, doneLines, jobText, text, ShortLines}
 use Rattle.layout.specs.Points.{alive, next}
 use Rattle.layout.specs.Parse.{Line, Parsed, noLine, noLines, took, keep, inOrder, atEnd, run, parse}
-use Rattle.layout.specs.declared.Word.{Word}
 use Rattle.layout.specs.declared.Word.the-variants.{Old, New}
-use Rattle.layout.specs.declared.Part.{Part}
 use Rattle.layout.specs.declared.Part.the-variants.{OldRoute, NewRoute, JobPart}
 use Rattle.layout.specs.declared.Point.{Point}
 use Rattle.layout.specs.declared.Point.the-variants.{Start, Open, Choice, Letters, Past, Digit, Digits, Gap, Closed, Lf, Stuck}
-use Rattle.layout.proofs.Back.{stepsBack, donesBack, steps-back, dones-back, shorts-back, forms-back}
-use Rattle.layout.proofs.Sofar.{rest, above, sofar, Shape, ShortLine, Onward}
-use Rattle.layout.proofs.Onward.{onward}
+use Rattle.layout.proofs.Back.{stepsBack, steps-back, dones-back, shorts-back, forms-back}
+use Rattle.layout.proofs.Prefix.{rest, above, sofar, Shape, ShortLine}
+use Rattle.layout.proofs.PrefixStep.{onward}
 
 -- a sheet that has the text s, by lines with short numbers
 pub record Written (s : List ℕ) (x : Lines) : Type 0 where

@@ -1,7 +1,7 @@
 -- Reading: from point to point through the bytes, gathering the lines. Lists are gathered with the latest first.
-use mathlib.Core.Bool.{Bool, true, false, cond}
+use mathlib.Core.Bool.{cond}
 use mathlib.Core.List.{List, [], _∷_, reverse}
-use Prim.Native.Nat.{ℕ, zero, suc, _+_, _-_, _*_, _%_}
+use Prim.Native.Nat.{ℕ, _+_, _-_, _*_, _%_}
 use Rattle.layout.specs.Text.{Form, Lines}
 use Rattle.layout.specs.Points.{digit, alive, next}
 use Rattle.layout.specs.declared.Word.{Word}

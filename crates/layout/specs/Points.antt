@@ -1,7 +1,6 @@
 -- The points of the layout, and the step from one to the next. The theorems of proofs/ say that this is the text of specs/Text.antt.
 use mathlib.Core.Bool.{Bool, true, false, cond, _&&_}
-use mathlib.Core.List.{List, []}
-use Prim.Native.Nat.{ℕ, zero, suc, _+_}
+use Prim.Native.Nat.{ℕ, _+_}
 use lib.Dec.{eqb, ltb, leb}
 use lib.ListN.{length, getD}
 use Rattle.layout.specs.Words.{spelling}

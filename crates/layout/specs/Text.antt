@@ -1,6 +1,6 @@
 -- The text of a sheet as a function of its lines. Each definition puts its text in front of what follows, `s`. The bytes: 40 and 41 are
 -- the brackets, 32 the space, 10 the LF, 48 the digit 0.
-use mathlib.Core.Bool.{Bool, true, false, cond}
+use mathlib.Core.Bool.{cond}
 use mathlib.Core.List.{List, [], _∷_, _++_}
 use Prim.Native.Nat.{ℕ, zero, suc, _+_, _/_, _%_, _<_}
 use lib.Dec.{ltb}

@@ -1,5 +1,4 @@
-// The layout of a sheet: the nine words, the points between its bytes, and the step from point to point.
-pub mod points;
+// The layout of a sheet: the one table of the nine words. The parts and the points are what the definitions speak of.
 pub mod words;
 
 // The nine words.

@@ -63,7 +63,8 @@ pub const TABLE: [u8; 54] = [
     101, // write
 ];
 
-fn place(w: Word) -> usize
+// The row of a word.
+pub fn place(w: Word) -> usize
     ensures { λ r. ⌜ r ≡ numberOf w ⌝ }
 {
     match w {

@@ -1,7 +1,11 @@
 -- Laws on reading.
-pub mod Pass
-pub mod Lists
-pub mod Same
-pub mod LineBytes
-pub mod Tallied
-pub mod LineKept
+pub mod LineTexts
+pub mod LineTokens
+pub mod LineForm
+pub mod RowForms
+pub mod PrefixStep
+pub mod HeadLines
+pub mod StepLines
+pub mod DoneLines
+pub mod WholeSheet
+pub mod StepsOut

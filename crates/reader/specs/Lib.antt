@@ -1,5 +1,5 @@
--- A sheet's facts: the rows on its lines, its routes and its done list.
-pub mod Pens
-pub mod PenFacts
-pub mod Tallies
+-- What reading tells, inside and at its end.
+pub mod Rows
 pub mod Lines
+pub mod Prefix
+pub mod Read

@@ -1,38 +1,73 @@
--- What reading a line tells: the pass goes on from where it stopped, whatever was put away before.
+-- What the readers of a line tell, and its rows 2 and 3 on what is kept of its lists.
 use mathlib.Core.Path.{_≡_}
-use mathlib.Core.Bool.{Bool, true, false}
-use mathlib.Core.List.{List, map}
-use Prim.Native.Nat.{ℕ, _≤_, _<_}
-use lib.ListN.{length, drop, take, getD}
-use Rattle.route.specs.Steps.{names}
-use Rattle.route.specs.declared.Step.{Step}
-use Rattle.layout.specs.Points.{alive, next}
+use mathlib.Core.Bool.{Bool, true, false, not, _&&_}
+use mathlib.Core.List.{List}
+use Prim.Native.Nat.{ℕ, _+_, _≤_, _<_}
+use lib.Dec.{eqb, leb}
+use lib.ListN.{length, getD}
+use Rattle.job.specs.Lines.{nameFits}
+use Rattle.layout.specs.Text.{Form, Lines}
+use Rattle.layout.specs.Parse.{Line, noLine, withNum, stored, putStep, putLine}
+use Rattle.layout.specs.declared.Word.{Word}
+use Rattle.layout.specs.declared.Word.the-variants.{Old, New, Job, Done, Step, In, Out, Read, Write}
+use Rattle.layout.specs.declared.Part.{Part}
+use Rattle.layout.specs.declared.Part.the-variants.{OldRoute, NewRoute, JobPart}
 use Rattle.layout.specs.declared.Point.{Point}
-use Rattle.reader.specs.Pens.{noPen}
-use Rattle.reader.specs.PenFacts.{endsLine, scan}
-use Rattle.reader.specs.declared.Pen.{Pen}
-use Rattle.facts.specs.declared.Sheet.{Sheet}
-use Rattle.reader.specs.declared.Ended.{Ended}
-use Rattle.reader.specs.declared.Tally.{Tally}
+use Rattle.layout.specs.declared.Point.the-variants.{Open, Digit}
+use Rattle.tokens.specs.Tokens.{Reading, Reached, Spells, noEntries, along}
+use Rattle.tokens.specs.declared.Numeral.{Numeral}
+use Rattle.tokens.specs.declared.Entries.{Entries}
+use Rattle.reader.specs.declared.StepLine.{StepLine}
 
--- the pass from one place is the pass from another
-abbrev pub Onward : List ℕ → Point → Pen → ℕ → Point → Pen → ℕ → Type 0
-Onward s a p i a′ p′ i′ = (n : ℕ) (k : Sheet) → scan a′ p′ n k (drop i′ s) i′ ≡ scan a p n k (drop i s) i
+-- the words of a line that one number ends
+unfoldable pub headWord : Word → Bool
+headWord Old = true
+headWord New = true
+headWord Job = false
+headWord Done = true
+headWord Step = false
+headWord In = false
+headWord Out = false
+headWord Read = false
+headWord Write = false
 
-pub record LineFrom (s : List ℕ) (from : ℕ) (start : Point) (e : Ended) : Type 0 where
-  pub onward : Onward s start noPen from (e .at) (e .pen) (e .i)
-  pub later : from ≤ e .i
-  pub within : e .i ≤ length s
-  pub leads : e .i < length s → e .to ≡ next (e .at) (getD s (e .i) 0)
-  pub ends : e .i < length s → alive (e .to) ≡ true → endsLine (e .at) ≡ true
+pub record NumberedOn (s : List ℕ) (from : ℕ) (w : List ℕ) (r : Numeral) : Type 0 where
+  pub past : r .ok ≡ true → from < r .at
+  pub within : r .at ≤ length s
+  pub small : r .value < 100000
+  pub goes : (p : Point) (c : Line) (t : Lines) (x : Word) (q : Part) → headWord x ≡ true → Spells s from p c t w (Digit x q) c t → Reading s from p c t → Reached s (r .at) (r .ok) (Open q) noLine (putLine x q (stored x (withNum (r .value) c)) t)
 
--- the steps beside the tally: both routes have room for 64, and their names stand in a column
-pub record Beside (t : Tally) (old new : List Step) (done olds news : List ℕ) : Type 0 where
-  pub old-few : t .«old_len» < 65
-  pub new-few : t .«new_len» < 65
-  pub done-few : t .«done_len» < 65
-  pub old-long : length old ≡ 64
-  pub new-long : length new ≡ 64
-  pub done-long : length done ≡ 64
-  pub old-names : olds ≡ names old
-  pub new-names : news ≡ names new
+-- what is kept of a step's line is that of its form
+pub record IsForm (r : StepLine) (f : Form) : Type 0 where
+  pub small : r .name < 100000
+  pub name : r .name ≡ f .name
+  pub ins : r .ins ≡ along noEntries (f .ins)
+  pub outs : r .outs ≡ along noEntries (f .outs)
+  pub reads : r .reads ≡ along noEntries (f .reads)
+  pub writes : r .writes ≡ along noEntries (f .writes)
+
+-- the parts that have steps
+unfoldable pub hasSteps : Part → Bool
+hasSteps OldRoute = true
+hasSteps NewRoute = true
+hasSteps JobPart = false
+
+pub record StepOn (s : List ℕ) (from : ℕ) (r : StepLine) : Type 0 where
+  pub past : r .ok ≡ true → from < r .at
+  pub within : r .at ≤ length s
+  pub form : Form
+  pub is : IsForm r form
+  pub goes : (q : Part) (t : Lines) → hasSteps q ≡ true → getD s (from + 1) 0 ≡ 115 → Reading s from (Open q) noLine t → Reached s (r .at) (r .ok) (Open q) noLine (putStep q form t)
+
+-- ---- rows 2 and 3
+
+unfoldable pub lineFits : ℕ → StepLine → Bool
+lineFits places l = nameFits (l .name) && (leb (l .ins .top) places && (leb (l .outs .top) places && (leb (l .reads .top) 32 && leb (l .writes .top) 32)))
+
+unfoldable pub entriesFit : Entries → Bool
+entriesFit e = leb (e .count) 8 && not (e .falls)
+
+unfoldable pub lineLists : StepLine → Bool
+lineLists l =
+    not (eqb (l .ins .count) 0)
+    && (not (eqb (l .outs .count) 0) && (entriesFit (l .ins) && (entriesFit (l .outs) && (entriesFit (l .reads) && entriesFit (l .writes)))))

@@ -1,51 +1,47 @@
-// Reading a sheet: its layout and its facts in one pass.
-use layout::Part;
-use layout::Point;
-use layout::Word;
+// Reading a sheet: layout and facts in one pass, into lent lists.
+use refusal::Outcome;
+use tokens::Entries;
 
-pub mod endings;
+pub mod lines;
+pub mod lists;
 pub mod part;
-pub mod pens;
+pub mod parts;
 pub mod reads;
 pub mod rows;
-pub mod tallies;
 
-// The entries of one list so far: as a mask, one above the highest, how many (9 stands for more), and 1 where one was not above all before.
-pub struct Entries {
-    pub mask: u64,
-    pub top: u64,
-    pub count: u32,
-    pub falls: u32,
-}
-
-// What has been read of a line: the number in hand, the line's own number, and its lists.
-pub struct Pen {
-    pub num: u32,
-    pub head: u32,
+// A step's line: how far reading came and whether the layout holds to there, the name, and what is kept of its lists.
+pub struct StepLine {
+    pub at: usize,
+    pub ok: bool,
+    pub name: u64,
     pub ins: Entries,
     pub outs: Entries,
     pub reads: Entries,
     pub writes: Entries,
 }
 
-// What a byte does at a point: nothing but move on, begin a number, go on with the number of a word, or end the line of a word in a part.
-pub enum Act {
-    Moves,
-    Begins,
-    Counts(Word),
-    Ends(Word, Part),
+// Where reading stands between two lines: the place and whether the layout holds to there, how many lines there were, and their outcome.
+pub struct Pass {
+    pub at: usize,
+    pub ok: bool,
+    pub lines: u64,
+    pub outcome: Outcome,
 }
 
-// Where reading stops in a line and the point that its next byte would lead to, what was gathered of the line, and how far reading came.
-pub struct Ended {
-    pub at: Point,
-    pub to: Point,
-    pub pen: Pen,
-    pub i: usize,
+// Past a route's head: where reading stands, and the place count.
+pub struct Head {
+    pub pass: Pass,
+    pub places: u64,
 }
 
-// The lines so far: a refusal and its second number, or 0 and 0; both place counts, and how many steps and done names there are.
-pub struct Tally {
+// Past the steps or the done names: where reading stands, and how many were put away.
+pub struct Filled {
+    pub pass: Pass,
+    pub len: usize,
+}
+
+// What reading gives besides the lists: a refusal and its second number, or 0 and 0 and both place counts and all three lengths.
+pub struct Counts {
     pub number: u32,
     pub second: u64,
     pub old_places: u64,
@@ -53,12 +49,4 @@ pub struct Tally {
     pub new_places: u64,
     pub new_len: usize,
     pub done_len: usize,
-}
-
-// Where a line's facts are put away.
-pub enum Goes {
-    Old,
-    New,
-    Done,
-    Nowhere,
 }

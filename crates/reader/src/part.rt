@@ -1,5 +1,5 @@
 // The job part, lent back.
-use crate::reads;
+use crate::lists::read_lists;
 ghost use mathlib.Core.Path.{_≡_};
 ghost use Rattle.facts.specs.JobPart.{jobPart, PastLines};
 
@@ -27,10 +27,13 @@ fn past_lines(s: &[u8], n: usize) -> usize
 pub fn job_part(sheet: &[u8]) -> &[u8]
     ensures { λ r. ⌜ now r ≡ jobPart (now (sheet .entry)) ⌝ }
 {
-    let x = reads::read(sheet);
-    if x.number != 0 {
+    let mut old = [0u64; 256];
+    let mut new = [0u64; 256];
+    let mut done = [0u32; 64];
+    let c = read_lists(sheet, &mut old, &mut new, &mut done);
+    if c.number != 0 {
         return &sheet[..0];
     }
-    let k = past_lines(sheet, x.old.len + x.new.len + 2);
+    let k = past_lines(sheet, c.old_len + c.new_len + 2);
     &sheet[k..]
 }

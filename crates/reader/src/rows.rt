@@ -1,96 +1,146 @@
-// Rows 4, 2, 3 and 5 of a step's line, on what was gathered of it.
-use crate::Entries;
-use crate::Pen;
+// Rows 4, 2, 3 and 5 of a line.
+use crate::StepLine;
 use refusal::Outcome;
 use route::Found;
 use route::Route;
 use route::Step;
+use route::flat;
+use route::lookup;
+use tokens::Entries;
 ghost use mathlib.Core.Path.{_≡_};
-ghost use Prim.Native.Nat.{_≤_, _<_};
+ghost use mathlib.Core.Bool.{true};
+ghost use Prim.Native.Nat.{ℕ, _≤_};
 ghost use lib.ListN.{length};
-ghost use Rattle.job.specs.Lines.{nameFits, placesFit};
-ghost use Rattle.reader.specs.Pens.{entriesFit, penFits, penLists, penRow, penStep};
+ghost use Rattle.route.specs.Steps.{names, Hinted};
+ghost use Rattle.route.specs.Flat.{stepsIn};
+ghost use Rattle.job.specs.Lines.{nameFits, placesFit, doneRow};
+ghost use Rattle.layout.specs.Text.{Form};
+ghost use Rattle.facts.specs.Forms.{formFits, formRow, recordOf};
+ghost use Rattle.reader.specs.Lines.{entriesFit, lineFits, lineLists, IsForm};
+ghost use Rattle.reader.specs.Rows.{headRow, newRow, jobRow};
 
-pub fn name_fits(n: u32) -> bool
+fn name_fits(n: u64) -> bool
     ensures { λ r. ⌜ r ≡ nameFits n ⌝ }
 {
     1 <= n && n <= 65535
 }
 
-pub fn places_fit(n: u32) -> bool
+fn places_fit(n: u64) -> bool
     ensures { λ r. ⌜ r ≡ placesFit n ⌝ }
 {
-    1 <= n && n <= 64
+    1 <= n && n <= Route::PLACES
 }
 
-// A name in its range, each place below the count, each variable below 32.
-fn pen_fits(places: u64, pen: Pen) -> bool
-    ensures { λ r. ⌜ r ≡ penFits places pen ⌝ }
+pub fn head_row(n: u64, line: u64) -> Outcome
+    ensures { λ r. ⌜ r ≡ headRow line n ⌝ }
 {
-    if !name_fits(pen.head) {
-        return false;
+    if places_fit(n) {
+        Outcome::pass()
+    } else {
+        Outcome::refuse(2, line)
     }
-    if places < pen.ins.top {
-        return false;
+}
+
+// Row 4 of the route above, and then the head's own.
+pub fn new_row(above: usize, n: u64, line: u64) -> Outcome
+    ensures { λ r. ⌜ r ≡ newRow line above n ⌝ }
+{
+    if above == 0 {
+        return Outcome::refuse(4, line);
     }
-    if places < pen.outs.top {
-        return false;
+    head_row(n, line)
+}
+
+pub fn job_row(above: usize, line: u64) -> Outcome
+    ensures { λ r. ⌜ r ≡ jobRow line above ⌝ }
+{
+    if above == 0 {
+        return Outcome::refuse(4, line);
     }
-    pen.reads.top <= 32 && pen.writes.top <= 32
+    Outcome::pass()
+}
+
+pub fn done_row(above: usize, n: u64, line: u64) -> Outcome
+    ensures { λ r. ⌜ r ≡ doneRow line above n ⌝ }
+{
+    if Route::STEPS <= above {
+        return Outcome::refuse(4, line);
+    }
+    if !name_fits(n) {
+        return Outcome::refuse(2, line);
+    }
+    Outcome::pass()
 }
 
 // At most 8 entries, each above the one before.
 fn entries_fit(e: Entries) -> bool
     ensures { λ r. ⌜ r ≡ entriesFit e ⌝ }
 {
-    e.count <= Route::ENTRIES && e.falls == 0
+    e.count <= 8 && !e.falls
 }
 
-fn pen_lists(pen: Pen) -> bool
-    ensures { λ r. ⌜ r ≡ penLists pen ⌝ }
+// A name in its range, each place below the count, each variable below 32.
+fn line_fits(places: u64, l: StepLine) -> bool
+    ensures { λ r. ⌜ r ≡ lineFits places l ⌝ }
 {
-    if pen.ins.count == 0 {
+    if !name_fits(l.name) {
         return false;
     }
-    if pen.outs.count == 0 {
+    if places < l.ins.top {
         return false;
     }
-    if !entries_fit(pen.ins) {
+    if places < l.outs.top {
         return false;
     }
-    if !entries_fit(pen.outs) {
-        return false;
-    }
-    entries_fit(pen.reads) && entries_fit(pen.writes)
+    l.reads.top <= 32 && l.writes.top <= 32
 }
 
-// Given the names of the steps above.
-pub fn step_row(places: u64, names: &[u32], pen: Pen, line: u64) -> Outcome
-    ensures { λ o. ⌜ o ≡ penRow line places (length (now (names .entry))) (now (names .entry)) pen ⌝ }
+fn line_lists(l: StepLine) -> bool
+    ensures { λ r. ⌜ r ≡ lineLists l ⌝ }
 {
-    if Route::STEPS <= names.len() {
+    if l.ins.count == 0 {
+        return false;
+    }
+    if l.outs.count == 0 {
+        return false;
+    }
+    if !entries_fit(l.ins) {
+        return false;
+    }
+    if !entries_fit(l.outs) {
+        return false;
+    }
+    entries_fit(l.reads) && entries_fit(l.writes)
+}
+
+// Given the steps above, and the hints of their names.
+pub fn step_row(hint: &[u8; 256], steps: &[u64], places: u64, l: StepLine, line: u64) -> Outcome
+    requires { ⌜ Hinted (names (stepsIn (now steps))) (now hint) ⌝ }
+    ensures { λ o. ⌜ ((f : Form) → IsForm l f → o ≡ formRow line places (length (stepsIn (now (steps .entry)))) (names (stepsIn (now (steps .entry)))) f) ⌝ }
+{
+    if Route::STEPS <= flat::count(steps) {
         return Outcome::refuse(4, line);
     }
-    if !pen_fits(places, pen) {
+    if !line_fits(places, l) {
         return Outcome::refuse(2, line);
     }
-    if !pen_lists(pen) {
+    if !line_lists(l) {
         return Outcome::refuse(3, line);
     }
-    match route::steps::find(names, pen.head) {
+    match lookup::find_by(hint, steps, (l.name % 4294967296) as u32) {
         Found::At(_) => Outcome::refuse(5, line),
         Found::Nothing => Outcome::pass(),
     }
 }
 
-pub fn step_of(pen: Pen) -> Step
-    ensures { λ r. ⌜ r ≡ penStep pen ⌝ }
+pub fn step_of(l: StepLine) -> Step
+    ensures { λ r. ⌜ ((f : Form) (places : ℕ) → IsForm l f → places ≤ 64 → formFits places f ≡ true → r ≡ recordOf f) ⌝ }
 {
     Step {
-        name: pen.head,
-        ins: pen.ins.mask,
-        outs: pen.outs.mask,
-        reads: (pen.reads.mask % 4294967296) as u32,
-        writes: (pen.writes.mask % 4294967296) as u32,
+        name: (l.name % 4294967296) as u32,
+        ins: l.ins.mask,
+        outs: l.outs.mask,
+        reads: (l.reads.mask % 4294967296) as u32,
+        writes: (l.writes.mask % 4294967296) as u32,
     }
 }

@@ -1,4 +1,4 @@
--- `sheet::part::past_lines`: what follows the lines that are left is what follows all of them.
+-- `reader::part::past_lines`: what follows the lines that are left is what follows all of them.
 use mathlib.Core.Path.{_≡_, refl}
 use Prim.Native.Nat.{_-_, _≤_}
 use lib.ListN.{length}

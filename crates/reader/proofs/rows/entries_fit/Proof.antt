@@ -1,8 +1,8 @@
--- `sheet::rows::entries_fit`: the two tests in turn.
+-- `reader::rows::entries_fit`: the two tests in turn.
 use mathlib.Core.Path.{refl}
 use borrow.Author.Tests.{le-leb, lt-leb}
 use Rattle.mask.proofs.Truth.{and-yes, and-no}
-use Rattle.reader.specs.Pens.{entriesFit}
+use Rattle.reader.specs.Lines.{entriesFit}
 use Rattle.reader.proofs.rows.entries_fit.Statement.{statement}
 use Rattle.reader.proofs.rows.entries_fit.Tie as tie
 

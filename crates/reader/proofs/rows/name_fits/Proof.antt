@@ -1,4 +1,4 @@
--- `sheet::rows::name_fits`: the two bounds in turn.
+-- `reader::rows::name_fits`: the two bounds in turn.
 use mathlib.Core.Path.{refl}
 use borrow.Author.Tests.{le-leb, lt-leb}
 use Rattle.mask.proofs.Truth.{and-yes, and-no}

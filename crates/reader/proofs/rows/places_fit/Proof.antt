@@ -1,4 +1,4 @@
--- `sheet::rows::places_fit`: the two bounds in turn.
+-- `reader::rows::places_fit`: the two bounds in turn.
 use mathlib.Core.Path.{refl}
 use borrow.Author.Tests.{le-leb, lt-leb}
 use Rattle.mask.proofs.Truth.{and-yes, and-no}

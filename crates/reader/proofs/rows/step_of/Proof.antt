@@ -1,6 +1,5 @@
--- `sheet::rows::step_of`: field by field.
-use mathlib.Core.Path.{refl}
-use Rattle.reader.specs.Pens.{penStep}
+-- `reader::rows::step_of`: the record of the form.
+use Rattle.reader.proofs.LineForm.{step-form}
 use borrow.Author.Needs.{needs}
 use Rattle.reader.proofs.rows.step_of.Statement.{statement}
 use Rattle.reader.proofs.rows.step_of.Tie as tie
@@ -11,9 +10,11 @@ cast-t3 c = search needs
 cast-t5 : tie.Need-cast-t5
 cast-t5 c = search needs
 
+cast-t7 : tie.Need-cast-t7
+cast-t7 c = search needs
+
 returns : tie.Need-returns
-unfolding penStep
-returns c = refl
+returns c = λ f n is few fits. step-form _ f is n few fits
 
 pub step-of-spec : {M : Type 1} → statement M
-step-of-spec = tie.close (tie.spec cast-t3 cast-t5 returns)
+step-of-spec = tie.close (tie.spec cast-t3 cast-t5 cast-t7 returns)

@@ -1,0 +1,37 @@
+-- The done names that reading gives lie in 64 entries, and no more than these are counted.
+-- Assumes nothing.
+use mathlib.Core.Path.{_≡_, sym, subst, _∙_}
+use mathlib.Core.List.{List}
+use Prim.Native.Nat.{ℕ, _-_, _≤_}
+use native.Mathlib.Omega.{arith}
+use lib.ListN.{length, replicate, length-append, length-replicate}
+use Rattle.layout.specs.Text.{Lines}
+use Rattle.layout.specs.Parse.{Parsed, parse}
+use Rattle.facts.specs.Facts.{failed, factsOf, answered, readOf}
+use Rattle.facts.specs.SheetRows.{sheetRows, factsRecord}
+use Rattle.facts.specs.declared.Sheet.{Sheet}
+use Rattle.facts.proofs.RowsFold.{Stand, stands, fails, facts-stand}
+
+pub record Dones (s : Sheet) : Type 0 where
+  pub few : s .«done_len» ≤ 64
+  pub room : length (s .done) ≡ 64
+
+no-dones : (n k : ℕ) → Dones (failed n k)
+unfolding failed
+no-dones n k = record { few = omega arith; room = length-replicate {A = ℕ} 64 0 }
+
+facts-dones : (x : Lines) → Dones (factsOf x)
+unfolding factsRecord
+facts-dones x = go (facts-stand x)
+  where
+    go : Stand (factsOf x) (sheetRows x) (factsRecord x) (length (x .done) ≤ 64) → Dones (factsOf x)
+    go (stands e q h) = subst Dones (sym q) (record { few = h; room = length-append (x .done) (replicate (64 - length (x .done)) 0) ∙ omega (arith, length-replicate {A = ℕ} (64 - length (x .done)) 0, h) })
+    go (fails e q) = subst Dones (sym q) (no-dones _ _)
+
+pub read-dones : (s : List ℕ) → Dones (readOf s)
+unfolding readOf answered
+read-dones s = go (parse s)
+  where
+    go : (p : Parsed) → Dones (answered (length s) p)
+    go (Parsed.read x) = facts-dones x
+    go (Parsed.broken r) = no-dones 1 _

@@ -1,0 +1,190 @@
+-- What has been read up to a point: the bytes in front of what follows, said from the point and what has been gathered.
+-- Assumes nothing.
+use mathlib.Core.Path.{_≡_}
+use mathlib.Core.Bool.{Bool, true, false}
+use mathlib.Core.Logic.{_⊎_}
+use mathlib.Core.List.{List, [], _∷_, _++_}
+use Prim.Native.Nat.{ℕ, _^_, _≤_, _<_}
+use lib.ListN.{take}
+use Rattle.layout.specs.Words.{spelling}
+use Rattle.layout.specs.Text.{Lines, number, wordLine, jobLine, Short, Shorts, ShortLines}
+use Rattle.layout.specs.Parse.{Line}
+use Rattle.layout.specs.declared.Word.{Word}
+use Rattle.layout.specs.declared.Word.the-variants.{Old, New, Job, Done, Step, In, Out, Read, Write}
+use Rattle.layout.specs.declared.Part.{Part}
+use Rattle.layout.specs.declared.Part.the-variants.{OldRoute, NewRoute, JobPart}
+use Rattle.layout.specs.declared.Point.{Point}
+use Rattle.layout.specs.declared.Point.the-variants.{Start, Open, Choice, Letters, Past, Digit, Digits, Gap, Closed, Lf, Stuck}
+use Rattle.layout.proofs.Back.{entriesBack, stepsBack, donesBack}
+
+-- the line in hand without the number in hand
+pub record Rest : Type 0 where
+  pub head : ℕ
+  pub ins : List ℕ
+  pub outs : List ℕ
+  pub reads : List ℕ
+  pub writes : List ℕ
+
+abbrev pub rest : Line → Rest
+rest c = record { head = c .head; ins = c .ins; outs = c .outs; reads = c .reads; writes = c .writes }
+
+-- the whole lines, up to the last one of a part
+unfoldable pub above : Part → Lines → List ℕ → List ℕ
+above OldRoute t s = wordLine Old (t .oldPlaces) (stepsBack (t .old) s)
+above NewRoute t s = wordLine Old (t .oldPlaces) (stepsBack (t .old) (wordLine New (t .newPlaces) (stepsBack (t .new) s)))
+above JobPart t s = wordLine Old (t .oldPlaces) (stepsBack (t .old) (wordLine New (t .newPlaces) (stepsBack (t .new) (jobLine (donesBack (t .done) s)))))
+
+unfoldable pub gapIn : Part → Rest → Lines → List ℕ → List ℕ
+gapIn p c t s = above p t (40 ∷ (spelling Step ++ (32 ∷ number (c .head) (32 ∷ s))))
+
+unfoldable pub gapOut : Part → Rest → Lines → List ℕ → List ℕ
+gapOut p c t s = gapIn p c t (40 ∷ (spelling In ++ entriesBack (c .ins) (41 ∷ 32 ∷ s)))
+
+unfoldable pub gapRead : Part → Rest → Lines → List ℕ → List ℕ
+gapRead p c t s = gapOut p c t (40 ∷ (spelling Out ++ entriesBack (c .outs) (41 ∷ 32 ∷ s)))
+
+unfoldable pub gapWrite : Part → Rest → Lines → List ℕ → List ℕ
+gapWrite p c t s = gapRead p c t (40 ∷ (spelling Read ++ entriesBack (c .reads) (41 ∷ 32 ∷ s)))
+
+-- up to the bracket in front of a word
+unfoldable pub gap : Word → Part → Rest → Lines → List ℕ → List ℕ
+gap Old p c t s = s
+gap New p c t s = above OldRoute t s
+gap Job p c t s = above NewRoute t s
+gap Done p c t s = above JobPart t s
+gap Step p c t s = above p t s
+gap In p c t s = gapIn p c t s
+gap Out p c t s = gapOut p c t s
+gap Read p c t s = gapRead p c t s
+gap Write p c t s = gapWrite p c t s
+
+unfoldable pub listOf : Word → Rest → List ℕ
+listOf Old c = []
+listOf New c = []
+listOf Job c = []
+listOf Done c = []
+listOf Step c = []
+listOf In c = c .ins
+listOf Out c = c .outs
+listOf Read c = c .reads
+listOf Write c = c .writes
+
+-- up to a word and the entries that follow it
+unfoldable pub upto : Word → Part → Rest → Lines → List ℕ → List ℕ
+upto w p c t s = gap w p c t (40 ∷ (spelling w ++ entriesBack (listOf w c) s))
+
+-- up to a line's LF.
+unfoldable pub lineEnd : Word → Part → Rest → Lines → List ℕ → List ℕ
+lineEnd Old p c t s = upto Old p c t (32 ∷ number (c .head) (41 ∷ s))
+lineEnd New p c t s = upto New p c t (32 ∷ number (c .head) (41 ∷ s))
+lineEnd Job p c t s = upto Job p c t (41 ∷ s)
+lineEnd Done p c t s = upto Done p c t (32 ∷ number (c .head) (41 ∷ s))
+lineEnd Step p c t s = s
+lineEnd In p c t s = s
+lineEnd Out p c t s = s
+lineEnd Read p c t s = s
+lineEnd Write p c t s = upto Write p c t (41 ∷ 41 ∷ s)
+
+unfoldable pub sofar : Point → Line → Lines → List ℕ → List ℕ
+sofar Start c t s = s
+sofar (Open p) c t s = above p t s
+sofar (Choice p) c t s = above p t (40 ∷ s)
+sofar (Letters w p k) c t s = gap w p (rest c) t (40 ∷ (take k (spelling w) ++ s))
+sofar (Past w p) c t s = upto w p (rest c) t s
+sofar (Digit w p) c t s = upto w p (rest c) t (32 ∷ s)
+sofar (Digits w p k) c t s = upto w p (rest c) t (32 ∷ number (c .num) s)
+sofar (Gap w p) c t s = gap w p (rest c) t s
+sofar (Closed w p) c t s = upto w p (rest c) t (41 ∷ s)
+sofar (Lf w p) c t s = lineEnd w p (rest c) t s
+sofar Stuck c t s = s
+
+-- ---- what holds at a point besides
+
+-- a step stands in a route
+unfoldable pub routed : Part → Bool
+routed OldRoute = true
+routed NewRoute = true
+routed JobPart = false
+
+-- the word stands in the part
+unfoldable pub goes : Word → Part → Bool
+goes Old OldRoute = true
+goes Old NewRoute = false
+goes Old JobPart = false
+goes New OldRoute = false
+goes New NewRoute = true
+goes New JobPart = false
+goes Job OldRoute = false
+goes Job NewRoute = false
+goes Job JobPart = true
+goes Done OldRoute = false
+goes Done NewRoute = false
+goes Done JobPart = true
+goes Step p = routed p
+goes In p = routed p
+goes Out p = routed p
+goes Read p = routed p
+goes Write p = routed p
+
+-- the word is the last of a line of the part
+unfoldable pub closes : Word → Part → Bool
+closes Old p = goes Old p
+closes New p = goes New p
+closes Job p = goes Job p
+closes Done p = goes Done p
+closes Step p = false
+closes In p = false
+closes Out p = false
+closes Read p = false
+closes Write p = goes Write p
+
+-- the lists from a word on are empty; those after it are
+abbrev pub From : Word → Rest → Type 0
+From Old c = Unit {0}
+From New c = Unit {0}
+From Job c = Unit {0}
+From Done c = Unit {0}
+From Step c = (c .ins ≡ []) × ((c .outs ≡ []) × ((c .reads ≡ []) × (c .writes ≡ [])))
+From In c = (c .ins ≡ []) × ((c .outs ≡ []) × ((c .reads ≡ []) × (c .writes ≡ [])))
+From Out c = (c .outs ≡ []) × ((c .reads ≡ []) × (c .writes ≡ []))
+From Read c = (c .reads ≡ []) × (c .writes ≡ [])
+From Write c = c .writes ≡ []
+
+abbrev pub After : Word → Rest → Type 0
+After Old c = Unit {0}
+After New c = Unit {0}
+After Job c = Unit {0}
+After Done c = Unit {0}
+After Step c = From In c
+After In c = From Out c
+After Out c = From Read c
+After Read c = From Write c
+After Write c = Unit {0}
+
+-- the number in hand has k digits; a lone 0 counts as five
+abbrev pub Wide : ℕ → ℕ → Type 0
+Wide k n = (k ≤ 5) × (((1 ≤ n) × (n < 10 ^ k)) ⊎ ((n ≡ 0) × (k ≡ 5)))
+
+abbrev pub Shape : Point → Line → Type 0
+Shape Start c = Unit {0}
+Shape (Open p) c = From Step (rest c)
+Shape (Choice p) c = From Step (rest c)
+Shape (Letters w p k) c = (goes w p ≡ true) × From w (rest c)
+Shape (Past w p) c = (goes w p ≡ true) × After w (rest c)
+Shape (Digit w p) c = (goes w p ≡ true) × After w (rest c)
+Shape (Digits w p k) c = ((goes w p ≡ true) × After w (rest c)) × Wide k (c .num)
+Shape (Gap w p) c = (goes w p ≡ true) × From w (rest c)
+Shape (Closed w p) c = (goes w p ≡ true) × After w (rest c)
+Shape (Lf w p) c = closes w p ≡ true
+Shape Stuck c = Unit {0}
+
+-- every number that has been put away is short
+abbrev pub ShortLine : Rest → Type 0
+ShortLine c = Short (c .head) × (Shorts (c .ins) × (Shorts (c .outs) × (Shorts (c .reads) × Shorts (c .writes))))
+
+-- one byte on, from p at b to q
+pub record Onward (p : Point) (b : ℕ) (c : Line) (t : Lines) (q : Point) (c′ : Line) (t′ : Lines) : Type 0 where
+  pub same : (s : List ℕ) → sofar q c′ t′ s ≡ sofar p c t (b ∷ s)
+  pub shape : Shape q c′
+  pub line : ShortLine (rest c′)
+  pub lines : ShortLines t′

@@ -1,0 +1,348 @@
+-- Each byte that the layout has keeps what has been read: by the point, then by the word.
+-- Assumes nothing.
+use mathlib.Core.Path.{_≡_, refl, sym, ap, ap₂, _∙_, subst}
+use mathlib.Core.Logic.{_⊎_, inl, inr, ⊎-elim}
+use mathlib.Core.Bool.{Bool, true, false, cond, _&&_}
+use mathlib.Core.List.{List, [], _∷_, _++_, reverse}
+use Prim.Native.Nat.{ℕ, zero, suc, _+_, _-_, _*_, _^_, _/_, _%_, _≤_, _<_}
+use native.Mathlib.Nat.{pow-suc}
+use native.Mathlib.Numerals.{add-one}
+use native.Mathlib.Omega.{arith}
+use lib.Dec.{eqb, ltb, leb}
+use lib.ListN.{length, getD, take}
+use lib.Seq.{take-suc, take-all, append-snoc}
+use borrow.Author.Tests.{eqb-true, eqb-false, ltb-true, lt-ltb, le-ltb, leb-true}
+use Rattle.layout.specs.Words.{spelling}
+use Rattle.layout.specs.Text.{Lines, digits, number, entries, listed, stepLine, wordLine, jobLine, Short, ShortForm, ShortLines}
+use Rattle.layout.specs.Points.{digit, alive, expect, chosen, spelt, inList, pastWord, first, ended, more, closed, next}
+use Rattle.layout.specs.Parse.{Line, noLine, withNum, grown, stored, took, formOf, putStep, putLine, keep}
+use Rattle.layout.specs.declared.Word.{Word}
+use Rattle.layout.specs.declared.Word.the-variants.{Old, New, Job, Done, Step, In, Out, Read, Write}
+use Rattle.layout.specs.declared.Part.{Part}
+use Rattle.layout.specs.declared.Part.the-variants.{OldRoute, NewRoute, JobPart}
+use Rattle.layout.specs.declared.Point.{Point}
+use Rattle.layout.specs.declared.Point.the-variants.{Start, Open, Choice, Letters, Past, Digit, Digits, Gap, Closed, Lf, Stuck}
+use Rattle.layout.proofs.Back.{entriesBack, stepsBack, donesBack, entries-back, shorts-back}
+use Rattle.layout.proofs.Prefix.{rest, above, gapIn, gapOut, gapRead, gapWrite, gap, listOf, upto, lineEnd, sofar, routed, goes, closes, From, After, Wide, Shape, ShortLine, Onward}
+
+-- ---- tests that hold
+
+pub never : alive Stuck ≡ true → ⊥
+unfolding alive
+never h = let z : _≡_ {A = ℕ} 0 1 = cc in omega arith
+
+pub apart : false ≡ true → ⊥
+apart h = let z : _≡_ {A = ℕ} 0 1 = cc in omega arith
+
+pub expected : (P : ℕ → Point → Type 0) (b k : ℕ) (q : Point) → P k q → alive (expect b k q) ≡ true → P b (expect b k q)
+unfolding expect
+expected P b k q h = go (eqb b k) refl
+  where
+    go : (x : Bool) → eqb b k ≡ x → alive (cond x q Stuck) ≡ true → P b (cond x q Stuck)
+    go true e l = subst (λ (m : ℕ). P m q) (sym (eqb-true b k e)) h
+    go false e l = absurd (never l)
+
+pub either : (P : ℕ → Point → Type 0) (b k : ℕ) (q r : Point) → P k q → (eqb b k ≡ false → alive r ≡ true → P b r) → alive (cond (eqb b k) q r) ≡ true → P b (cond (eqb b k) q r)
+either P b k q r h other = go (eqb b k) refl
+  where
+    go : (x : Bool) → eqb b k ≡ x → alive (cond x q r) ≡ true → P b (cond x q r)
+    go true e l = subst (λ (m : ℕ). P m q) (sym (eqb-true b k e)) h
+    go false e l = other e l
+
+-- ---- numbers
+
+pub digit-bounds : (b : ℕ) → digit b ≡ true → (48 ≤ b) × (b ≤ 57)
+unfolding digit
+digit-bounds b d = (leb-true 48 b (split (leb 48 b) (leb b 57) d .0), leb-true b 57 (split (leb 48 b) (leb b 57) d .1))
+  where
+    split : (x y : Bool) → (x && y) ≡ true → (x ≡ true) × (y ≡ true)
+    split true y e = (refl, e)
+    split false y e = absurd (apart e)
+
+less-fuel : (k n : ℕ) (s : List ℕ) → n < 10 ^ k → 1 ≤ k → digits (suc k) n s ≡ digits k n s
+unfolding digits
+less-fuel zero n s h l = absurd (omega arith)
+less-fuel (suc zero) n s h l =
+    ap (λ (x : Bool). cond x ((48 + n) ∷ s) (digits 1 (n / 10) ((48 + n % 10) ∷ s))) (lt-ltb n 10 h)
+    ∙ sym (ap (λ (x : Bool). cond x ((48 + n) ∷ s) (digits 0 (n / 10) ((48 + n % 10) ∷ s))) (lt-ltb n 10 h))
+less-fuel (suc (suc k)) n s h l = ap (λ (y : List ℕ). cond (ltb n 10) ((48 + n) ∷ s) y) (less-fuel (suc k) (n / 10) ((48 + n % 10) ∷ s) (tenth (10 ^ suc k) (10 ^ suc (suc k)) (pow-suc 10 (suc k)) h) (omega arith))
+  where
+    tenth : (q r : ℕ) → r ≡ q * 10 → n < r → n / 10 < q
+    tenth q r e h = omega arith
+
+grows : (n b : ℕ) (s : List ℕ) → 1 ≤ n → n < 10000 → digit b ≡ true → number (grown n b) s ≡ number n (b ∷ s)
+unfolding number digits
+grows n b s low high d =
+    let bounds = digit-bounds b d in
+    let high-digits : grown n b / 10 ≡ n = omega (arith, bounds .0, bounds .1) in
+    let low-digit : 48 + grown n b % 10 ≡ b = omega (arith, bounds .0, bounds .1) in
+    ap (λ (x : Bool). cond x ((48 + grown n b) ∷ s) (digits 4 (grown n b / 10) ((48 + grown n b % 10) ∷ s))) (le-ltb (grown n b) 10 (omega (arith, bounds .0)))
+    ∙ ap₂ (λ (m e : ℕ). digits 4 m (e ∷ s)) high-digits low-digit
+    ∙ sym (less-fuel 4 n (b ∷ s) high (omega arith))
+
+single : (b : ℕ) (s : List ℕ) → digit b ≡ true → number (b - 48) s ≡ b ∷ s
+unfolding number digits
+single b s d =
+    let bounds = digit-bounds b d in
+    ap (λ (x : Bool). cond x ((48 + (b - 48)) ∷ s) (digits 4 ((b - 48) / 10) ((48 + (b - 48) % 10) ∷ s))) (lt-ltb (b - 48) 10 (omega (arith, bounds .0, bounds .1)))
+    ∙ ap (λ (m : ℕ). m ∷ s) (omega (arith, bounds .0))
+
+-- ---- the points
+
+module _ (c : Line) (t : Lines) (line : ShortLine (rest c)) (lines : ShortLines t) where
+  at-start : (b : ℕ) → alive (next Start b) ≡ true → Onward Start b c t (next Start b) c t
+  unfolding next sofar gap
+  at-start b = expected (λ x q. Onward Start x c t q c t) b 40 (Letters Old OldRoute 0) (record { same = λ s. refl; shape = (unfold goes in refl, tt); line = line; lines = lines })
+
+  at-open : (p : Part) (b : ℕ) → Shape (Open p) c → alive (next (Open p) b) ≡ true → Onward (Open p) b c t (next (Open p) b) c t
+  unfolding next sofar
+  at-open p b h = expected (λ x q. Onward (Open p) x c t q c t) b 40 (Choice p) (record { same = λ s. refl; shape = h; line = line; lines = lines })
+
+  at-choice : (p : Part) (b : ℕ) → Shape (Choice p) c → alive (next (Choice p) b) ≡ true → Onward (Choice p) b c t (next (Choice p) b) c t
+  unfolding next chosen sofar gap spelling goes routed
+  at-choice OldRoute b h =
+      either (λ x q. Onward (Choice OldRoute) x c t q c t) b 115 (Letters Step OldRoute 1) (expect b 110 (Letters New NewRoute 1))
+      (record { same = λ s. refl; shape = (refl, h); line = line; lines = lines })
+      (λ far. expected (λ x q. Onward (Choice OldRoute) x c t q c t) b 110 (Letters New NewRoute 1) (record { same = λ s. refl; shape = (refl, tt); line = line; lines = lines }))
+  at-choice NewRoute b h =
+      either (λ x q. Onward (Choice NewRoute) x c t q c t) b 115 (Letters Step NewRoute 1) (expect b 106 (Letters Job JobPart 1))
+      (record { same = λ s. refl; shape = (refl, h); line = line; lines = lines })
+      (λ far. expected (λ x q. Onward (Choice NewRoute) x c t q c t) b 106 (Letters Job JobPart 1) (record { same = λ s. refl; shape = (refl, tt); line = line; lines = lines }))
+  at-choice JobPart b h = expected (λ x q. Onward (Choice JobPart) x c t q c t) b 100 (Letters Done JobPart 1) (record { same = λ s. refl; shape = (refl, tt); line = line; lines = lines })
+
+  from-after : (w : Word) → From w (rest c) → After w (rest c)
+  from-after Old h = h
+  from-after New h = h
+  from-after Job h = h
+  from-after Done h = h
+  from-after Step h = h
+  from-after In h = h .1
+  from-after Out h = h .1
+  from-after Read h = h .1
+  from-after Write h = tt
+
+  from-empty : (w : Word) → From w (rest c) → listOf w (rest c) ≡ []
+  unfolding listOf
+  from-empty Old h = refl
+  from-empty New h = refl
+  from-empty Job h = refl
+  from-empty Done h = refl
+  from-empty Step h = refl
+  from-empty In h = h .0
+  from-empty Out h = h .0
+  from-empty Read h = h .0
+  from-empty Write h = h
+
+  at-letters : (w : Word) (p : Part) (k b : ℕ) → Shape (Letters w p k) c → alive (next (Letters w p k) b) ≡ true → Onward (Letters w p k) b c t (next (Letters w p k) b) c t
+  unfolding next spelt sofar upto entriesBack
+  at-letters w p k b h = inside (ltb k (length (spelling w))) refl
+    where
+      one-more : (s : List ℕ) → k < length (spelling w) → take (k + 1) (spelling w) ++ s ≡ take k (spelling w) ++ (getD (spelling w) k 0 ∷ s)
+      one-more s room = ap (λ (n : ℕ). take n (spelling w) ++ s) (add-one k) ∙ ap (λ (l : List ℕ). l ++ s) (take-suc (spelling w) k 0 room) ∙ append-snoc (take k (spelling w)) (getD (spelling w) k 0) s
+
+      target : Bool → Point
+      target x = cond x (Past w p) (Letters w p (k + 1))
+
+      reached : (x : Bool) → eqb (k + 1) (length (spelling w)) ≡ x → k < length (spelling w) → Onward (Letters w p k) (getD (spelling w) k 0) c t (target x) c t
+      reached true e room =
+          record {
+            same = λ s.
+                ap₂ (λ (l m : List ℕ). gap w p (rest c) t (40 ∷ (l ++ m)))
+                (sym (take-all (k + 1) (spelling w) (omega (arith, eqb-true (k + 1) (length (spelling w)) e))))
+                (ap (λ (l : List ℕ). entriesBack l s) (from-empty w (h .1)))
+                ∙ ap (λ (l : List ℕ). gap w p (rest c) t (40 ∷ l)) (one-more s room);
+            shape = (h .0, from-after w (h .1));
+            line = line;
+            lines = lines;
+          }
+      reached false e room =
+          record {
+            same = λ s. ap (λ (l : List ℕ). gap w p (rest c) t (40 ∷ l)) (one-more s room);
+            shape = h;
+            line = line;
+            lines = lines;
+          }
+
+      inside : (x : Bool) → ltb k (length (spelling w)) ≡ x → alive (cond x (expect b (getD (spelling w) k 0) (target (eqb (k + 1) (length (spelling w))))) Stuck) ≡ true → Onward (Letters w p k) b c t (cond x (expect b (getD (spelling w) k 0) (target (eqb (k + 1) (length (spelling w))))) Stuck) c t
+      inside true e l = expected (λ x q. Onward (Letters w p k) x c t q c t) b (getD (spelling w) k 0) (target (eqb (k + 1) (length (spelling w)))) (reached (eqb (k + 1) (length (spelling w))) refl (ltb-true k (length (spelling w)) e)) l
+      inside false e l = absurd (never l)
+
+  at-list : (w : Word) (p : Part) (b : ℕ) (c′ : Line) (from : Point) → ((s : List ℕ) → upto w p (rest c′) t s ≡ sofar from c t s) → Shape (Closed w p) c′ → ShortLine (rest c′) → alive (inList w p b) ≡ true → Onward from b c t (inList w p b) c′ t
+  unfolding inList sofar
+  at-list w p b c′ from same h short =
+      either (λ x q. Onward from x c t q c′ t) b 32 (Digit w p) (expect b 41 (Closed w p))
+      (record { same = λ s. same (32 ∷ s); shape = h; line = short; lines = lines })
+      (λ far. expected (λ x q. Onward from x c t q c′ t) b 41 (Closed w p) (record { same = λ s. same (41 ∷ s); shape = h; line = short; lines = lines }))
+
+  at-past : (w : Word) (p : Part) (b : ℕ) → Shape (Past w p) c → alive (next (Past w p) b) ≡ true → Onward (Past w p) b c t (next (Past w p) b) c t
+  unfolding next pastWord sofar lineEnd closes
+  at-past Old p b h = expected (λ x q. Onward (Past Old p) x c t q c t) b 32 (Digit Old p) (record { same = λ s. refl; shape = h; line = line; lines = lines })
+  at-past New p b h = expected (λ x q. Onward (Past New p) x c t q c t) b 32 (Digit New p) (record { same = λ s. refl; shape = h; line = line; lines = lines })
+  at-past Done p b h = expected (λ x q. Onward (Past Done p) x c t q c t) b 32 (Digit Done p) (record { same = λ s. refl; shape = h; line = line; lines = lines })
+  at-past Step p b h = expected (λ x q. Onward (Past Step p) x c t q c t) b 32 (Digit Step p) (record { same = λ s. refl; shape = h; line = line; lines = lines })
+  at-past Job p b h = expected (λ x q. Onward (Past Job p) x c t q c t) b 41 (Lf Job p) (record { same = λ s. refl; shape = h .0; line = line; lines = lines })
+  at-past In p b h = at-list In p b c (Past In p) (λ s. refl) h line
+  at-past Out p b h = at-list Out p b c (Past Out p) (λ s. refl) h line
+  at-past Read p b h = at-list Read p b c (Past Read p) (λ s. refl) h line
+  at-past Write p b h = at-list Write p b c (Past Write p) (λ s. refl) h line
+
+  at-digit : (w : Word) (p : Part) (b : ℕ) → Shape (Digit w p) c → alive (next (Digit w p) b) ≡ true → Onward (Digit w p) b c t (next (Digit w p) b) (withNum (b - 48) c) t
+  unfolding next first sofar number digits
+  at-digit w p b h =
+      either (λ x q. Onward (Digit w p) x c t q (withNum (x - 48) c) t) b 48 (Digits w p 5) (cond (digit b) (Digits w p 1) Stuck)
+      (record { same = λ s. refl; shape = (h, (omega arith, inr (refl, refl))); line = line; lines = lines })
+      other
+    where
+      other : eqb b 48 ≡ false → alive (cond (digit b) (Digits w p 1) Stuck) ≡ true → Onward (Digit w p) b c t (cond (digit b) (Digits w p 1) Stuck) (withNum (b - 48) c) t
+      other z = go (digit b) refl
+        where
+          go : (x : Bool) → digit b ≡ x → alive (cond x (Digits w p 1) Stuck) ≡ true → Onward (Digit w p) b c t (cond x (Digits w p 1) Stuck) (withNum (b - 48) c) t
+          go true e l =
+              let bounds = digit-bounds b e in
+              let far : (b ≡ 48) → ⊥ = eqb-false b 48 z in
+              record { same = λ s. ap (λ (m : List ℕ). upto w p (rest c) t (32 ∷ m)) (single b s e); shape = (h, (omega arith, inl (omega arith, omega arith))); line = line; lines = lines }
+          go false e l = absurd (never l)
+
+  -- a number in hand is short, and one that may have another digit has at most four
+  wide-short : (k n : ℕ) → Wide k n → Short n
+  wide-short k n h = ⊎-elim (λ w. few k (h .0) (w .1)) (λ w. omega (arith, w .0)) (h .1)
+    where
+      few : (k : ℕ) → k ≤ 5 → n < 10 ^ k → n < 100000
+      few zero r q = omega arith
+      few (suc zero) r q = omega arith
+      few (suc (suc zero)) r q = omega arith
+      few (suc (suc (suc zero))) r q = omega arith
+      few (suc (suc (suc (suc zero)))) r q = omega arith
+      few (suc (suc (suc (suc (suc zero))))) r q = q
+      few (suc (suc (suc (suc (suc (suc k)))))) r q = absurd (omega arith)
+
+  wide-more : (k n : ℕ) → k < 5 → Wide k n → (1 ≤ n) × (n < 10000) × (n < 10 ^ k)
+  wide-more k n room h = ⊎-elim (λ w. (w .0, few k room (w .1), w .1)) (λ w. absurd (omega (arith, w .1))) (h .1)
+    where
+      few : (k : ℕ) → k < 5 → n < 10 ^ k → n < 10000
+      few zero r q = omega arith
+      few (suc zero) r q = omega arith
+      few (suc (suc zero)) r q = omega arith
+      few (suc (suc (suc zero))) r q = omega arith
+      few (suc (suc (suc (suc zero)))) r q = q
+      few (suc (suc (suc (suc (suc k))))) r q = absurd (omega arith)
+
+  at-ended : (w : Word) (p : Part) (k b : ℕ) → Shape (Digits w p k) c → alive (ended w p b) ≡ true → Onward (Digits w p k) b c t (ended w p b) (stored w c) t
+  unfolding ended stored closes sofar lineEnd upto gap listOf gapIn gapOut gapRead gapWrite entriesBack
+  at-ended Old p k b h = expected (λ x q. Onward (Digits Old p k) x c t q (stored Old c) t) b 41 (Lf Old p) (record { same = λ s. refl; shape = h .0 .0; line = (wide-short k (c .num) (h .1), line .1); lines = lines })
+  at-ended New p k b h = expected (λ x q. Onward (Digits New p k) x c t q (stored New c) t) b 41 (Lf New p) (record { same = λ s. refl; shape = h .0 .0; line = (wide-short k (c .num) (h .1), line .1); lines = lines })
+  at-ended Done p k b h = expected (λ x q. Onward (Digits Done p k) x c t q (stored Done c) t) b 41 (Lf Done p) (record { same = λ s. refl; shape = h .0 .0; line = (wide-short k (c .num) (h .1), line .1); lines = lines })
+  at-ended Step p k b h = expected (λ x q. Onward (Digits Step p k) x c t q (stored Step c) t) b 32 (Gap In p) (record { same = λ s. unfold spelling in refl; shape = unfold goes in h .0; line = (wide-short k (c .num) (h .1), line .1); lines = lines })
+  at-ended Job p k b h = λ l. absurd (never l)
+  at-ended In p k b h = at-list In p b (stored In c) (Digits In p k) (λ s. refl) (h .0) (line .0, ((wide-short k (c .num) (h .1), line .1 .0), line .1 .1))
+  at-ended Out p k b h = at-list Out p b (stored Out c) (Digits Out p k) (λ s. refl) (h .0) (line .0, (line .1 .0, ((wide-short k (c .num) (h .1), line .1 .1 .0), line .1 .1 .1)))
+  at-ended Read p k b h = at-list Read p b (stored Read c) (Digits Read p k) (λ s. refl) (h .0) (line .0, (line .1 .0, (line .1 .1 .0, ((wide-short k (c .num) (h .1), line .1 .1 .1 .0), line .1 .1 .1 .1))))
+  at-ended Write p k b h = at-list Write p b (stored Write c) (Digits Write p k) (λ s. refl) (h .0) (line .0, (line .1 .0, (line .1 .1 .0, (line .1 .1 .1 .0, (wide-short k (c .num) (h .1), line .1 .1 .1 .1)))))
+
+  at-digits : (w : Word) (p : Part) (k b : ℕ) → Shape (Digits w p k) c → alive (next (Digits w p k) b) ≡ true → Onward (Digits w p k) b c t (next (Digits w p k) b) (took (Digits w p k) b c) t
+  unfolding next more took sofar
+  at-digits w p k b h = go (digit b) refl
+    where
+      grow : digit b ≡ true → k < 5 → Onward (Digits w p k) b c t (Digits w p (k + 1)) (withNum (grown (c .num) b) c) t
+      grow e room =
+          let few = wide-more k (c .num) room (h .1) in
+          let bounds = digit-bounds b e in
+          let up : 10 ^ (k + 1) ≡ 10 ^ k * 10 = ap (λ (n : ℕ). 10 ^ n) (add-one k) ∙ pow-suc 10 k in
+          record {
+            same = λ s. ap (λ (m : List ℕ). upto w p (rest c) t (32 ∷ m)) (grows (c .num) b s (few .0) (few .1) e);
+            shape = (h .0, (omega arith, inl (omega (arith, few .0, few .1), omega (arith, few .1, few .2))));
+            line = line;
+            lines = lines;
+          }
+
+      inner : (x : Bool) → ltb k 5 ≡ x → digit b ≡ true → alive (cond x (Digits w p (k + 1)) Stuck) ≡ true → Onward (Digits w p k) b c t (cond x (Digits w p (k + 1)) Stuck) (withNum (grown (c .num) b) c) t
+      inner true r e l = grow e (ltb-true k 5 r)
+      inner false r e l = absurd (never l)
+
+      go : (x : Bool) → digit b ≡ x → alive (cond x (cond (ltb k 5) (Digits w p (k + 1)) Stuck) (ended w p b)) ≡ true → Onward (Digits w p k) b c t (cond x (cond (ltb k 5) (Digits w p (k + 1)) Stuck) (ended w p b)) (cond x (withNum (grown (c .num) b) c) (stored w c)) t
+      go true e l = inner (ltb k 5) refl e l
+      go false e l = at-ended w p k b h l
+
+  at-gap : (w : Word) (p : Part) (b : ℕ) → Shape (Gap w p) c → alive (next (Gap w p) b) ≡ true → Onward (Gap w p) b c t (next (Gap w p) b) c t
+  unfolding next sofar
+  at-gap w p b h = expected (λ x q. Onward (Gap w p) x c t q c t) b 40 (Letters w p 0) (record { same = λ s. refl; shape = h; line = line; lines = lines })
+
+  at-closed : (w : Word) (p : Part) (b : ℕ) → Shape (Closed w p) c → alive (next (Closed w p) b) ≡ true → Onward (Closed w p) b c t (next (Closed w p) b) c t
+  unfolding next closed closes sofar lineEnd upto gap listOf gapOut gapRead gapWrite goes
+  at-closed In p b h = expected (λ x q. Onward (Closed In p) x c t q c t) b 32 (Gap Out p) (record { same = λ s. refl; shape = h; line = line; lines = lines })
+  at-closed Out p b h = expected (λ x q. Onward (Closed Out p) x c t q c t) b 32 (Gap Read p) (record { same = λ s. refl; shape = h; line = line; lines = lines })
+  at-closed Read p b h = expected (λ x q. Onward (Closed Read p) x c t q c t) b 32 (Gap Write p) (record { same = λ s. refl; shape = h; line = line; lines = lines })
+  at-closed Write p b h = expected (λ x q. Onward (Closed Write p) x c t q c t) b 41 (Lf Write p) (record { same = λ s. refl; shape = h .0; line = line; lines = lines })
+  at-closed Old p b h = λ l. absurd (never l)
+  at-closed New p b h = λ l. absurd (never l)
+  at-closed Job p b h = λ l. absurd (never l)
+  at-closed Done p b h = λ l. absurd (never l)
+  at-closed Step p b h = λ l. absurd (never l)
+
+-- ---- the end of a line
+
+listed-back : (w : Word) (l s : List ℕ) → listed w (reverse l) s ≡ 32 ∷ 40 ∷ (spelling w ++ entriesBack l (41 ∷ s))
+unfolding listed entries
+listed-back w l s = ap (λ (m : List ℕ). 32 ∷ 40 ∷ (spelling w ++ m)) (entries-back l [] (41 ∷ s))
+
+-- the line of a step, from what was gathered
+step-back : (c : Line) (s : List ℕ) → stepLine (formOf c) s ≡ 40 ∷ (spelling Step ++ (32 ∷ number (c .head) (32 ∷ 40 ∷ (spelling In ++ entriesBack (c .ins) (41 ∷ 32 ∷ 40 ∷ (spelling Out ++ entriesBack (c .outs) (41 ∷ 32 ∷ 40 ∷ (spelling Read ++ entriesBack (c .reads) (41 ∷ 32 ∷ 40 ∷ (spelling Write ++ entriesBack (c .writes) (41 ∷ 41 ∷ 10 ∷ s)))))))))))
+unfolding stepLine
+step-back c s =
+    ap (λ (y : List ℕ). 40 ∷ (spelling Step ++ (32 ∷ number (c .head) y)))
+    (listed-back In (c .ins) _
+    ∙ ap (λ (y : List ℕ). 32 ∷ 40 ∷ (spelling In ++ entriesBack (c .ins) (41 ∷ y)))
+    (listed-back Out (c .outs) _
+    ∙ ap (λ (y : List ℕ). 32 ∷ 40 ∷ (spelling Out ++ entriesBack (c .outs) (41 ∷ y)))
+    (listed-back Read (c .reads) _
+    ∙ ap (λ (y : List ℕ). 32 ∷ 40 ∷ (spelling Read ++ entriesBack (c .reads) (41 ∷ y))) (listed-back Write (c .writes) (41 ∷ 10 ∷ s)))))
+
+no-line-short : ShortLine (rest noLine)
+no-line-short = (omega arith, (tt, (tt, (tt, tt))))
+
+form-short : (c : Line) → ShortLine (rest c) → ShortForm (formOf c)
+form-short c h = record { name = h .0; ins = shorts-back (c .ins) [] (h .1 .0) tt; outs = shorts-back (c .outs) [] (h .1 .1 .0) tt; reads = shorts-back (c .reads) [] (h .1 .1 .1 .0) tt; writes = shorts-back (c .writes) [] (h .1 .1 .1 .1) tt }
+
+module _ (c : Line) (t : Lines) (line : ShortLine (rest c)) (lines : ShortLines t) where
+  line-on : (w : Word) (p : Part) → closes w p ≡ true → ((s : List ℕ) → above p (putLine w p c t) s ≡ lineEnd w p (rest c) t (10 ∷ s)) × ShortLines (putLine w p c t)
+  unfolding closes goes routed above putLine putStep lineEnd upto gap gapIn gapOut gapRead gapWrite listOf wordLine jobLine spelling entriesBack stepsBack donesBack
+  line-on Old OldRoute g = (λ s. refl, record { oldPlaces = line .0; old = tt; newPlaces = omega arith; new = tt; done = tt })
+  line-on Old NewRoute g = absurd (apart g)
+  line-on Old JobPart g = absurd (apart g)
+  line-on New OldRoute g = absurd (apart g)
+  line-on New NewRoute g = (λ s. refl, record { oldPlaces = lines .oldPlaces; old = lines .old; newPlaces = line .0; new = tt; done = tt })
+  line-on New JobPart g = absurd (apart g)
+  line-on Job OldRoute g = absurd (apart g)
+  line-on Job NewRoute g = absurd (apart g)
+  line-on Job JobPart g = (λ s. refl, record { oldPlaces = lines .oldPlaces; old = lines .old; newPlaces = lines .newPlaces; new = lines .new; done = tt })
+  line-on Done OldRoute g = absurd (apart g)
+  line-on Done NewRoute g = absurd (apart g)
+  line-on Done JobPart g = (λ s. refl, record { oldPlaces = lines .oldPlaces; old = lines .old; newPlaces = lines .newPlaces; new = lines .new; done = (line .0, lines .done) })
+  line-on Step p g = absurd (apart g)
+  line-on In p g = absurd (apart g)
+  line-on Out p g = absurd (apart g)
+  line-on Read p g = absurd (apart g)
+  line-on Write OldRoute g = (λ s. ap (λ (y : List ℕ). wordLine Old (t .oldPlaces) (stepsBack (t .old) y)) (step-back c s), record { oldPlaces = lines .oldPlaces; old = (form-short c line, lines .old); newPlaces = lines .newPlaces; new = lines .new; done = lines .done })
+  line-on Write NewRoute g = (λ s. ap (λ (y : List ℕ). wordLine Old (t .oldPlaces) (stepsBack (t .old) (wordLine New (t .newPlaces) (stepsBack (t .new) y)))) (step-back c s), record { oldPlaces = lines .oldPlaces; old = lines .old; newPlaces = lines .newPlaces; new = (form-short c line, lines .new); done = lines .done })
+  line-on Write JobPart g = absurd (apart g)
+
+  at-lf : (w : Word) (p : Part) (b : ℕ) → Shape (Lf w p) c → alive (next (Lf w p) b) ≡ true → Onward (Lf w p) b c t (next (Lf w p) b) noLine (putLine w p c t)
+  unfolding next sofar
+  at-lf w p b h =
+      let on = line-on w p h in
+      expected (λ x q. Onward (Lf w p) x c t q noLine (putLine w p c t)) b 10 (Open p) (record { same = on .0; shape = (refl, (refl, (refl, refl))); line = no-line-short; lines = on .1 })
+
+  -- every byte that the layout has
+  pub onward : (p : Point) (b : ℕ) → Shape p c → alive (next p b) ≡ true → Onward p b c t (next p b) (took p b c) (keep p c t)
+  unfolding took keep
+  onward Start b h l = at-start c t line lines b l
+  onward (Open p) b h l = at-open c t line lines p b h l
+  onward (Choice p) b h l = at-choice c t line lines p b h l
+  onward (Letters w p k) b h l = at-letters c t line lines w p k b h l
+  onward (Past w p) b h l = at-past c t line lines w p b h l
+  onward (Digit w p) b h l = at-digit c t line lines w p b h l
+  onward (Digits w p k) b h l = at-digits c t line lines w p k b h l
+  onward (Gap w p) b h l = at-gap c t line lines w p b h l
+  onward (Closed w p) b h l = at-closed c t line lines w p b h l
+  onward (Lf w p) b h l = at-lf w p b h l
+  onward Stuck b h l = absurd (never (unfold next in l))

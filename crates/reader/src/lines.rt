@@ -1,0 +1,76 @@
+// The lines, each made of its tokens.
+use crate::StepLine;
+use tokens::Numeral;
+use tokens::lists::list;
+use tokens::numbers::number;
+use tokens::texts;
+use tokens::texts::text;
+ghost use mathlib.Core.Path.{_≡_};
+ghost use Prim.Native.Nat.{_+_, _≤_};
+ghost use lib.Dec.{eqb};
+ghost use lib.ListN.{length, getD};
+ghost use Rattle.reader.specs.Lines.{NumberedOn, StepOn};
+
+// A line of one word and one number: its first text, the number, and the end.
+pub fn numbered(s: &[u8], from: usize, w: &[u8]) -> Numeral
+    requires { ⌜ from ≤ length (now s) ⌝ }
+    ensures { λ r. ⌜ NumberedOn (now (s .entry)) from (now (w .entry)) r ⌝ }
+{
+    let end = texts::END;
+    let a = text(s, from, true, w);
+    let n = number(s, a.at, a.ok);
+    let e = text(s, n.at, n.ok, &end);
+    Numeral {
+        at: e.at,
+        ok: e.ok,
+        value: n.value,
+    }
+}
+
+// The letter past a line's bracket is that of a step.
+pub fn stepping(s: &[u8], from: usize) -> bool
+    requires { ⌜ from ≤ length (now s) ⌝ }
+    ensures { λ r. ⌜ r ≡ eqb (getD (now (s .entry)) (from + 1) 0) 115 ⌝ }
+{
+    if s.len() - from < 2 {
+        return false;
+    }
+    let w = texts::STEP;
+    s[from + 1] == w[1]
+}
+
+pub fn step(s: &[u8], from: usize) -> StepLine
+    requires { ⌜ from ≤ length (now s) ⌝ }
+    ensures { λ r. ⌜ StepOn (now (s .entry)) from r ⌝ }
+{
+    let step = texts::STEP;
+    let inn = texts::IN;
+    let out = texts::OUT;
+    let read = texts::READ;
+    let write = texts::WRITE;
+    let end = texts::END;
+    let a = text(s, from, true, &step);
+    let n = number(s, a.at, a.ok);
+    let b = text(s, n.at, n.ok, &inn);
+    let i = list(s, b.at, b.ok);
+    let c = text(s, i.at, i.ok, &out);
+    let o = list(s, c.at, c.ok);
+    let d = text(s, o.at, o.ok, &read);
+    let r = list(s, d.at, d.ok);
+    let e = text(s, r.at, r.ok, &write);
+    let w = list(s, e.at, e.ok);
+    let f = text(s, w.at, w.ok, &end);
+    let ins = i.entries;
+    let outs = o.entries;
+    let reads = r.entries;
+    let writes = w.entries;
+    StepLine {
+        at: f.at,
+        ok: f.ok,
+        name: n.value,
+        ins,
+        outs,
+        reads,
+        writes,
+    }
+}

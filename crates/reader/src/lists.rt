@@ -1,0 +1,56 @@
+// Reading a sheet into lent lists.
+use crate::Counts;
+use crate::parts;
+ghost use mathlib.Core.Path.{_≡_};
+ghost use lib.ListN.{replicate};
+ghost use Rattle.reader.specs.Read.{noCounts, ReadTo};
+
+fn refused(number: u32, second: u64) -> Counts
+    ensures { λ r. ⌜ r ≡ noCounts number second ⌝ }
+{
+    Counts {
+        number,
+        second,
+        old_places: 0,
+        old_len: 0,
+        new_places: 0,
+        new_len: 0,
+        done_len: 0,
+    }
+}
+
+// The lists hold 0 throughout.
+pub fn read_lists(
+    sheet: &[u8],
+    old: &mut [u64; 256],
+    new: &mut [u64; 256],
+    done: &mut [u32; 64],
+) -> Counts
+    requires { ⌜ now old ≡ replicate 256 0 ⌝ }
+    requires { ⌜ now new ≡ replicate 256 0 ⌝ }
+    requires { ⌜ now done ≡ replicate 64 0 ⌝ }
+    ensures { λ r. ⌜ ReadTo (now (sheet .entry)) r (now (old .exit)) (now (new .exit)) (now (done .exit)) ⌝ }
+{
+    let a = parts::old_head(sheet);
+    let b = parts::steps(sheet, a.pass, a.places, old);
+    let c = parts::new_head(sheet, b.pass, b.len);
+    let d = parts::steps(sheet, c.pass, c.places, new);
+    let e = parts::job_head(sheet, d.pass, d.len);
+    let f = parts::dones(sheet, e, done);
+    let end = f.pass;
+    if !end.ok {
+        return refused(1, end.at as u64);
+    }
+    if end.outcome.number != 0 {
+        return refused(end.outcome.number, end.outcome.second);
+    }
+    Counts {
+        number: 0,
+        second: 0,
+        old_places: a.places,
+        old_len: b.len,
+        new_places: c.places,
+        new_len: d.len,
+        done_len: f.len,
+    }
+}

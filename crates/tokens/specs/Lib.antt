@@ -1,0 +1,2 @@
+-- What the readers of tokens tell.
+pub mod Tokens

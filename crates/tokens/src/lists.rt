@@ -1,0 +1,89 @@
+// Lists: a space and a number for each entry, and the bracket that ends the list.
+use crate::Entries;
+use crate::Listed;
+use crate::numbers::digits;
+ghost use mathlib.Core.Path.{_≡_};
+ghost use mathlib.Core.Bool.{true};
+ghost use Prim.Native.Nat.{_≤_};
+ghost use lib.ListN.{length};
+ghost use Rattle.tokens.specs.Tokens.{noEntries, ListOn};
+
+fn none() -> Entries
+    ensures { λ r. ⌜ r ≡ noEntries ⌝ }
+{
+    Entries {
+        mask: 0,
+        top: 0,
+        count: 0,
+        falls: false,
+    }
+}
+
+fn entries(s: &[u8], from: usize) -> Listed
+    requires { ⌜ from ≤ length (now s) ⌝ }
+    ensures { λ r. ⌜ ListOn (now (s .entry)) from true r ⌝ }
+{
+    let mut mask = 0u64;
+    let mut top = 0u64;
+    let mut count = 0u64;
+    let mut falls = false;
+    let mut i = from;
+    while i < s.len() {
+        let b = s[i];
+        if b == b')' {
+            return Listed {
+                at: i + 1,
+                ok: true,
+                entries: Entries {
+                    mask,
+                    top,
+                    count,
+                    falls,
+                },
+            };
+        }
+        if b != b' ' {
+            return Listed {
+                at: i,
+                ok: false,
+                entries: none(),
+            };
+        }
+        let n = digits(s, i + 1);
+        i = n.at;
+        if !n.ok {
+            return Listed {
+                at: i,
+                ok: false,
+                entries: none(),
+            };
+        }
+        let v = n.value;
+        mask = mask | mask::bit64((v % 64) as usize);
+        count += 1;
+        if v < top {
+            falls = true;
+            continue;
+        }
+        top = v + 1;
+    }
+    Listed {
+        at: i,
+        ok: false,
+        entries: none(),
+    }
+}
+
+pub fn list(s: &[u8], from: usize, ok: bool) -> Listed
+    requires { ⌜ from ≤ length (now s) ⌝ }
+    ensures { λ r. ⌜ ListOn (now (s .entry)) from ok r ⌝ }
+{
+    if !ok {
+        return Listed {
+            at: from,
+            ok: false,
+            entries: none(),
+        };
+    }
+    entries(s, from)
+}
