@@ -1,9 +1,7 @@
--- Laws on what emitters write, and on the listing's length.
-pub mod Runs
-pub mod Number
-pub mod Numbered
-pub mod Walking
+-- Laws on the listing: its lines as they are written, the answers, and how long it is.
 pub mod Line
 pub mod EachLine
+pub mod Lengths
+pub mod AnyRecord
 pub mod Longest
-pub mod Whole
+pub mod ListingText

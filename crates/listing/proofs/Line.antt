@@ -1,5 +1,6 @@
--- Each line is its word, its entries and its end, in whatever pieces it is written.
-use mathlib.Core.Path.{_≡_, sym, _∙_}
+-- Each line in the parts that its calls write.
+-- Assumes nothing.
+use mathlib.Core.Path.{_≡_, refl, sym, ap, _∙_}
 use mathlib.Core.List.{List, [], _∷_, _++_, append-assoc, append-nil, map}
 use Prim.Native.Nat.{ℕ, suc, _+_, _≤_, min}
 use native.Mathlib.Omega.{arith}
@@ -9,63 +10,129 @@ use lib.ListN.{length, take}
 use lib.Seq.{take-all}
 use borrow.Author.Tests.{eq-eqb, ne-eqb}
 use Rattle.mask.specs.Mask.{members, count}
-use Rattle.listing.specs.Listing.{over, entry, close, line, movedWord, droppedWord, movedEnd, movedLine, afterWord, afterLine, orderWord, orderLine, markingWord, markingLine, valueWord, valueLine}
-use Rattle.listing.specs.Emit.{Wrote, numbered}
-use Rattle.listing.proofs.Runs.{none, then, same}
-use Rattle.listing.proofs.Numbered.{members-are, occurrences-are}
+use Rattle.emit.specs.Emit.{Emits}
+use Rattle.emit.specs.Numbers.{entry, over}
+use Rattle.emit.proofs.Chains.{parts, First, Second, Third, Three, first-room, second-room, third-room, three-emits, room-as, emits-none}
+use Rattle.emit.proofs.Over.{from-zero, from-one}
+use Rattle.listing.specs.Listing.{close, line, movedWord, droppedWord, movedEnd, movedLine, afterWord, afterLine, orderWord, orderLine, markingWord, markingLine, valueWord, valueLine}
 
--- the word, the entries, the end; or the word with the first entry, the others, the end
-module _ (w l : List ℕ) {o p q r : List ℕ} {n m k j : ℕ} where
-  line-wrote : Wrote w o n p m → Wrote (over entry l) p m q k → Wrote close q k r j → Wrote (line w l) o n r j
-  unfolding line
-  line-wrote x y z = then x (then y z)
+module _ (w : List ℕ) where
+  line-parts : (l : List ℕ) → line w l ≡ parts (w ∷ over entry l ∷ close ∷ [])
+  unfolding line parts
+  line-parts l = refl
 
-  line-first : (a : ℕ) → Wrote (w ++ entry a) o n p m → Wrote (over entry l) p m q k → Wrote close q k r j → Wrote (line w (a ∷ l)) o n r j
-  unfolding line over
-  line-first a x y z = same (simp append-assoc) (then x (then y z))
+  -- the word with the first entry
+  first-parts : (a : ℕ) (l : List ℕ) → line w (a ∷ l) ≡ parts ((w ++ entry a) ∷ over entry l ∷ close ∷ [])
+  unfolding line parts over
+  first-parts a l = simp append-assoc
 
-pub line-two : (w : List ℕ) (a b : ℕ) {o p q r : List ℕ} {n m k j : ℕ} → Wrote (w ++ entry a) o n p m → Wrote (entry b) p m q k → Wrote close q k r j → Wrote (line w (a ∷ b ∷ [])) o n r j
-line-two w a b x y z = line-first w (b ∷ []) a x (same one y) z
+  pair-parts : (a b : ℕ) → line w (a ∷ b ∷ []) ≡ parts ((w ++ entry a) ∷ entry b ∷ close ∷ [])
+  unfolding over
+  pair-parts a b = first-parts a (b ∷ []) ∙ ap (λ (t : List ℕ). parts ((w ++ entry a) ∷ t ∷ close ∷ [])) (append-nil (entry b))
+
+moved-parts : (kept dropped c : ℕ) → c ≡ count 64 kept → movedLine kept dropped ≡ parts ((movedWord ++ entry c) ∷ (droppedWord ++ entry dropped) ∷ movedEnd ∷ [])
+unfolding movedLine parts
+moved-parts kept dropped c e = rw e
+
+after-parts : (i row : ℕ) → (row ≡ 0 → ⊥) → afterLine i row ≡ parts ((afterWord ++ entry (i + 1)) ∷ over (λ (v : ℕ). entry (1 + v)) (members 64 row) ∷ close ∷ [])
+unfolding afterLine
+after-parts i row some =
+    rw (ne-eqb row 0 some) (first-parts afterWord (suc i) (map suc (members 64 row)))
+    ∙ (λ j. parts ((afterWord ++ entry (sym (add-one i) j)) ∷ sym (from-one (members 64 row)) j ∷ close ∷ []))
+
+-- an order that is longer than its list has the list's entries
+order-parts : (len c : ℕ) (order : List ℕ) → c ≡ min len 64 → length order ≡ 64 → orderLine len order ≡ parts (orderWord ∷ over entry (take c order) ∷ close ∷ [])
+unfolding orderLine
+order-parts len c order e full = line-parts orderWord (take len order) ∙ ap (λ (l : List ℕ). parts (orderWord ∷ over entry l ∷ close ∷ [])) (cut (decLe len 64))
   where
-    one : entry b ≡ over entry (b ∷ [])
-    one = unfold over in sym (append-nil (entry b))
+    cut : Dec (len ≤ 64) → take len order ≡ take c order
+    cut (yes h) = let all : len ≡ c = omega arith in rw all
+    cut (no h) = take-all len order (omega arith) ∙ sym (take-all c order (omega arith))
 
-module _ {o p q r : List ℕ} {n m k j : ℕ} where
-  pub moved-wrote : (kept dropped c : ℕ) → c ≡ count 64 kept → Wrote (movedWord ++ entry c) o n p m → Wrote (droppedWord ++ entry dropped) p m q k → Wrote movedEnd q k r j → Wrote (movedLine kept dropped) o n r j
-  unfolding movedLine
-  moved-wrote kept dropped c e x y z = then (rw e at x) (then y z)
+marking-parts : (m : ℕ) → markingLine m ≡ parts (markingWord ∷ over (λ (v : ℕ). entry (0 + v)) (members 64 m) ∷ close ∷ [])
+unfolding markingLine
+marking-parts m = line-parts markingWord (members 64 m) ∙ ap (λ (t : List ℕ). parts (markingWord ∷ t ∷ close ∷ [])) (sym (from-zero (members 64 m)))
 
-  pub marking-wrote : (mark : ℕ) → Wrote markingWord o n p m → Wrote (over entry (numbered 0 64 mark)) p m q k → Wrote close q k r j → Wrote (markingLine mark) o n r j
-  unfolding markingLine
-  marking-wrote mark x y z = line-wrote markingWord (members 64 mark) x (rw (members-are mark) at y) z
+pub value-is : (v writer : ℕ) → (writer ≡ 0 → ⊥) → valueLine v writer ≡ line valueWord (v ∷ writer ∷ [])
+unfolding valueLine
+value-is v writer some = rw (ne-eqb writer 0 some)
 
-  -- an order that is longer than its list has the list's entries
-  pub order-wrote : (len c : ℕ) (order : List ℕ) → c ≡ min len 64 → length order ≡ 64 → Wrote orderWord o n p m → Wrote (over entry (take c order)) p m q k → Wrote close q k r j → Wrote (orderLine len order) o n r j
-  unfolding orderLine
-  order-wrote len c order e full x y z = line-wrote orderWord (take len order) x (rw cut at y) z
-    where
-      cut : take c order ≡ take len order
-      cut = go (decLe len 64)
-        where
-          go : Dec (len ≤ 64) → take c order ≡ take len order
-          go (yes h) = let all : c ≡ len = omega arith in rw all
-          go (no h) = take-all c order (omega arith) ∙ sym (take-all len order (omega arith))
+-- ---- the room that their calls have
 
-  pub after-wrote : (i row : ℕ) → (row ≡ 0 → ⊥) → Wrote (afterWord ++ entry (i + 1)) o n p m → Wrote (over entry (numbered 1 64 row)) p m q k → Wrote close q k r j → Wrote (afterLine i row) o n r j
-  after-wrote i row some x y z = same is (line-first afterWord (map suc (members 64 row)) (i + 1) x (rw (occurrences-are row) at y) z)
-    where
-      is : line afterWord ((i + 1) ∷ map suc (members 64 row)) ≡ afterLine i row
-      is = unfold afterLine in rw (ne-eqb row 0 some, add-one i)
+module _ (w : List ℕ) (a b : ℕ) where
+  pub pair-first : First (line w (a ∷ b ∷ [])) (w ++ entry a)
+  pair-first = first-room _ _ _ (pair-parts w a b)
+
+  pub pair-second : Second (line w (a ∷ b ∷ [])) (w ++ entry a) (entry b)
+  pair-second = second-room _ _ _ _ (pair-parts w a b)
+
+  pub pair-third : Third (line w (a ∷ b ∷ [])) (w ++ entry a) (entry b) close
+  pair-third = third-room _ _ _ _ _ (pair-parts w a b)
+
+  pub pair-whole : Three (line w (a ∷ b ∷ [])) (w ++ entry a) (entry b) close
+  pair-whole = three-emits _ _ _ _ (pair-parts w a b)
+
+module _ (kept dropped c : ℕ) (e : c ≡ count 64 kept) where
+  pub moved-first : First (movedLine kept dropped) (movedWord ++ entry c)
+  moved-first = first-room _ _ _ (moved-parts kept dropped c e)
+
+  pub moved-second : Second (movedLine kept dropped) (movedWord ++ entry c) (droppedWord ++ entry dropped)
+  moved-second = second-room _ _ _ _ (moved-parts kept dropped c e)
+
+  pub moved-third : Third (movedLine kept dropped) (movedWord ++ entry c) (droppedWord ++ entry dropped) movedEnd
+  moved-third = third-room _ _ _ _ _ (moved-parts kept dropped c e)
+
+  pub moved-whole : Three (movedLine kept dropped) (movedWord ++ entry c) (droppedWord ++ entry dropped) movedEnd
+  moved-whole = three-emits _ _ _ _ (moved-parts kept dropped c e)
+
+module _ (i row : ℕ) (some : row ≡ 0 → ⊥) where
+  pub after-first : First (afterLine i row) (afterWord ++ entry (i + 1))
+  after-first = first-room _ _ _ (after-parts i row some)
+
+  pub after-second : Second (afterLine i row) (afterWord ++ entry (i + 1)) (over (λ (v : ℕ). entry (1 + v)) (members 64 row))
+  after-second = second-room _ _ _ _ (after-parts i row some)
+
+  pub after-third : Third (afterLine i row) (afterWord ++ entry (i + 1)) (over (λ (v : ℕ). entry (1 + v)) (members 64 row)) close
+  after-third = third-room _ _ _ _ _ (after-parts i row some)
+
+  pub after-whole : Three (afterLine i row) (afterWord ++ entry (i + 1)) (over (λ (v : ℕ). entry (1 + v)) (members 64 row)) close
+  after-whole = three-emits _ _ _ _ (after-parts i row some)
+
+module _ (len c : ℕ) (order : List ℕ) (e : c ≡ min len 64) (full : length order ≡ 64) where
+  pub order-first : First (orderLine len order) orderWord
+  order-first = first-room _ _ _ (order-parts len c order e full)
+
+  pub order-second : Second (orderLine len order) orderWord (over entry (take c order))
+  order-second = second-room _ _ _ _ (order-parts len c order e full)
+
+  pub order-third : Third (orderLine len order) orderWord (over entry (take c order)) close
+  order-third = third-room _ _ _ _ _ (order-parts len c order e full)
+
+  pub order-whole : Three (orderLine len order) orderWord (over entry (take c order)) close
+  order-whole = three-emits _ _ _ _ (order-parts len c order e full)
+
+module _ (m : ℕ) where
+  pub marking-first : First (markingLine m) markingWord
+  marking-first = first-room _ _ _ (marking-parts m)
+
+  pub marking-second : Second (markingLine m) markingWord (over (λ (v : ℕ). entry (0 + v)) (members 64 m))
+  marking-second = second-room _ _ _ _ (marking-parts m)
+
+  pub marking-third : Third (markingLine m) markingWord (over (λ (v : ℕ). entry (0 + v)) (members 64 m)) close
+  marking-third = third-room _ _ _ _ _ (marking-parts m)
+
+  pub marking-whole : Three (markingLine m) markingWord (over (λ (v : ℕ). entry (0 + v)) (members 64 m)) close
+  marking-whole = three-emits _ _ _ _ (marking-parts m)
+
+pub value-room : (v writer : ℕ) → (writer ≡ 0 → ⊥) → First (valueLine v writer) (line valueWord (v ∷ writer ∷ []))
+value-room v writer some o n r = room-as r (value-is v writer some)
 
 -- an empty row, and a variable that is blank, have no line
-pub after-none : (i row : ℕ) (o : List ℕ) (n : ℕ) → row ≡ 0 → Wrote (afterLine i row) o n o n
-unfolding afterLine
-after-none i row o n e = rw (eq-eqb row 0 e) (none o n)
+module _ {o : List ℕ} {n : ℕ} where
+  pub after-none : (i row : ℕ) → row ≡ 0 → Emits (afterLine i row) o n o n
+  unfolding afterLine
+  after-none i row e = rw (eq-eqb row 0 e) (emits-none o n)
 
-pub value-none : (v writer : ℕ) (o : List ℕ) (n : ℕ) → writer ≡ 0 → Wrote (valueLine v writer) o n o n
-unfolding valueLine
-value-none v writer o n e = rw (eq-eqb writer 0 e) (none o n)
-
-pub value-wrote : (v writer : ℕ) {o p : List ℕ} {n m : ℕ} → (writer ≡ 0 → ⊥) → Wrote (line valueWord (v ∷ writer ∷ [])) o n p m → Wrote (valueLine v writer) o n p m
-unfolding valueLine
-value-wrote v writer some x = rw (ne-eqb writer 0 some) x
+  pub value-none : (v writer : ℕ) → writer ≡ 0 → Emits (valueLine v writer) o n o n
+  unfolding valueLine
+  value-none v writer e = rw (eq-eqb writer 0 e) (emits-none o n)

@@ -1,4 +1,3 @@
 -- The listing of judge's answer, and the operation that writes it.
 pub mod Listing
 pub mod Written
-pub mod Emit

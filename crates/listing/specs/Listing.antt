@@ -1,30 +1,13 @@
 -- The listing: the text of judge's answer, as bytes.
 use mathlib.Core.Bool.{cond}
 use mathlib.Core.List.{List, [], _∷_, _++_, map}
-use Prim.Native.Nat.{ℕ, zero, suc, _+_, _/_, _%_}
-use lib.Dec.{eqb, ltb}
+use Prim.Native.Nat.{ℕ, suc}
+use lib.Dec.{eqb}
 use lib.ListN.{getD, take}
 use Rattle.mask.specs.Mask.{members, count}
+use Rattle.emit.specs.Numbers.{entry, over}
 use Rattle.slice.specs.Order.{inTurn}
 use Rattle.judging.specs.declared.Judged.{Judged}
-
--- "Numbers are written in base ten": the last digit of n stands after those of its tenth, k digits at most
-unfoldable pub digits : ℕ → ℕ → List ℕ
-digits zero n = []
-digits (suc k) n = cond (ltb n 10) ((48 + n) ∷ []) (digits k (n / 10) ++ ((48 + n % 10) ∷ []))
-
--- no number of 64 bits has more than 20
-unfoldable pub decimal : ℕ → List ℕ
-decimal n = digits 20 n
-
--- an entry of a list: one space, and the number
-unfoldable pub entry : ℕ → List ℕ
-entry n = 32 ∷ decimal n
-
--- the texts of all in turn
-unfoldable pub over : (ℕ → List ℕ) → List ℕ → List ℕ
-over f [] = []
-over f (x ∷ l) = f x ++ over f l
 
 -- the fixed texts: `(moved (kept`, `) (dropped`, `))` and LF, `(after`, `(order`, `(marking`, `(value`, `(refused`, `)` and LF
 abbrev pub movedWord : List ℕ
@@ -96,7 +79,7 @@ refusedLine number second = line refusedWord (number ∷ second ∷ [])
 unfoldable pub movedText : Judged → List ℕ
 movedText a =
     (movedLine (a .kept) (a .dropped) ++ afterLines (a .kept) (a .after))
-    ++ (orderLine (a .len) (a .order) ++ (markingLine (a .marking) ++ valueLines (a .writers)))
+    ++ (orderLine (a .len) (a .order) ++ (markingLine (a .marking .tokens) ++ valueLines (a .writers)))
 
 unfoldable pub listing : Judged → List ℕ
 listing a = cond (eqb (a .number) 0) (movedText a) (refusedLine (a .number) (a .second))

@@ -1,54 +1,67 @@
 // The lines of the listing.
-use crate::emit::entry;
-use crate::emit::figure;
-use crate::emit::word;
-use crate::lists::mask_entries;
-use crate::lists::order_entries;
+use emit::entries;
+use emit::entry;
+use emit::text;
 ghost use mathlib.Core.Path.{_≡_};
-ghost use mathlib.Core.List.{[], _∷_};
+ghost use mathlib.Core.List.{[], _∷_, _++_};
 ghost use Prim.Native.Nat.{_<_, min};
+ghost use Rattle.emit.specs.Emit.{Room, Emits};
+ghost use Rattle.emit.specs.Numbers.{over, entry as entryText};
 ghost use Rattle.listing.specs.Listing.{line, refusedLine, movedLine, afterLine, afterLines, orderLine, markingLine, valueLine, valueLines};
-ghost use Rattle.listing.specs.Emit.{Wrote};
+
+// A word and an entry.
+fn figure(out: &mut [u8], at: usize, w: &[u8], n: u64) -> usize
+    requires { ⌜ Room (now w ++ entryText n) (now out) at ⌝ }
+    ensures { λ r. ⌜ Emits (now (w .entry) ++ entryText n) (now (out .entry)) at (now (out .exit)) r ⌝ }
+{
+    let end = text(out, at, w);
+    entry(out, end, n)
+}
 
 fn pair_line(out: &mut [u8], at: usize, w: &[u8], a: u64, b: u64) -> usize
-    ensures { λ r. ⌜ Wrote (line (now (w .entry)) (a ∷ b ∷ [])) (now (out .entry)) at (now (out .exit)) r ⌝ }
+    requires { ⌜ Room (line (now w) (a ∷ b ∷ [])) (now out) at ⌝ }
+    ensures { λ r. ⌜ Emits (line (now (w .entry)) (a ∷ b ∷ [])) (now (out .entry)) at (now (out .exit)) r ⌝ }
 {
     let first = figure(out, at, w, a);
     let second = entry(out, first, b);
-    word(out, second, b")\n")
+    text(out, second, b")\n")
 }
 
 pub fn refused_line(out: &mut [u8], at: usize, number: u32, second: u64) -> usize
-    ensures { λ r. ⌜ Wrote (refusedLine number second) (now (out .entry)) at (now (out .exit)) r ⌝ }
+    requires { ⌜ Room (refusedLine number second) (now out) at ⌝ }
+    ensures { λ r. ⌜ Emits (refusedLine number second) (now (out .entry)) at (now (out .exit)) r ⌝ }
 {
     pair_line(out, at, b"(refused", number as u64, second)
 }
 
 pub fn moved_line(out: &mut [u8], at: usize, kept: u64, dropped: u32) -> usize
-    ensures { λ r. ⌜ Wrote (movedLine kept dropped) (now (out .entry)) at (now (out .exit)) r ⌝ }
+    requires { ⌜ Room (movedLine kept dropped) (now out) at ⌝ }
+    ensures { λ r. ⌜ Emits (movedLine kept dropped) (now (out .entry)) at (now (out .exit)) r ⌝ }
 {
     let n = mask::count64(kept);
     let middle = figure(out, at, b"(moved (kept", n as u64);
     let last = figure(out, middle, b") (dropped", dropped as u64);
-    word(out, last, b"))\n")
+    text(out, last, b"))\n")
 }
 
 // The line of the occurrence at bit i, where its row has a bit.
 fn after_line(out: &mut [u8], at: usize, i: u64, row: u64) -> usize
     requires { ⌜ i < 64 ⌝ }
-    ensures { λ r. ⌜ Wrote (afterLine i row) (now (out .entry)) at (now (out .exit)) r ⌝ }
+    requires { ⌜ Room (afterLine i row) (now out) at ⌝ }
+    ensures { λ r. ⌜ Emits (afterLine i row) (now (out .entry)) at (now (out .exit)) r ⌝ }
 {
     if row == 0 {
         return at;
     }
     let first = figure(out, at, b"(after", i + 1);
-    let last = mask_entries(out, first, row, 1);
-    word(out, last, b")\n")
+    let last = entries(out, first, row, 1);
+    text(out, last, b")\n")
 }
 
 // From one kept occurrence to the next.
-pub fn after_lines(out: &mut [u8], at: usize, kept: u64, rows: [u64; 64]) -> usize
-    ensures { λ r. ⌜ Wrote (afterLines kept rows) (now (out .entry)) at (now (out .exit)) r ⌝ }
+pub fn after_lines(out: &mut [u8], at: usize, kept: u64, rows: &[u64; 64]) -> usize
+    requires { ⌜ Room (afterLines kept (now rows)) (now out) at ⌝ }
+    ensures { λ r. ⌜ Emits (afterLines kept (now (rows .entry))) (now (out .entry)) at (now (out .exit)) r ⌝ }
 {
     let mut end = at;
     let mut left = kept;
@@ -56,6 +69,20 @@ pub fn after_lines(out: &mut [u8], at: usize, kept: u64, rows: [u64; 64]) -> usi
         let z = u64::trailing_zeros(left);
         left = left & (left - 1);
         end = after_line(out, end, z as u64, rows[z as usize]);
+    }
+    end
+}
+
+// The entries of a list.
+fn list_entries(out: &mut [u8], at: usize, l: &[u8]) -> usize
+    requires { ⌜ Room (over entryText (now l)) (now out) at ⌝ }
+    ensures { λ r. ⌜ Emits (over entryText (now (l .entry))) (now (out .entry)) at (now (out .exit)) r ⌝ }
+{
+    let mut end = at;
+    let mut i = 0;
+    while i < l.len() {
+        end = entry(out, end, l[i] as u64);
+        i += 1;
     }
     end
 }
@@ -71,25 +98,28 @@ fn order_len(len: u32) -> usize
 }
 
 pub fn order_line(out: &mut [u8], at: usize, len: u32, order: [u8; 64]) -> usize
-    ensures { λ r. ⌜ Wrote (orderLine len order) (now (out .entry)) at (now (out .exit)) r ⌝ }
+    requires { ⌜ Room (orderLine len order) (now out) at ⌝ }
+    ensures { λ r. ⌜ Emits (orderLine len order) (now (out .entry)) at (now (out .exit)) r ⌝ }
 {
     let n = order_len(len);
-    let first = word(out, at, b"(order");
-    let last = order_entries(out, first, &order[..n]);
-    word(out, last, b")\n")
+    let first = text(out, at, b"(order");
+    let last = list_entries(out, first, &order[..n]);
+    text(out, last, b")\n")
 }
 
 pub fn marking_line(out: &mut [u8], at: usize, m: u64) -> usize
-    ensures { λ r. ⌜ Wrote (markingLine m) (now (out .entry)) at (now (out .exit)) r ⌝ }
+    requires { ⌜ Room (markingLine m) (now out) at ⌝ }
+    ensures { λ r. ⌜ Emits (markingLine m) (now (out .entry)) at (now (out .exit)) r ⌝ }
 {
-    let first = word(out, at, b"(marking");
-    let last = mask_entries(out, first, m, 0);
-    word(out, last, b")\n")
+    let first = text(out, at, b"(marking");
+    let last = entries(out, first, m, 0);
+    text(out, last, b")\n")
 }
 
 // The line of a variable that has a writer.
 fn value_line(out: &mut [u8], at: usize, v: u64, writer: u8) -> usize
-    ensures { λ r. ⌜ Wrote (valueLine v writer) (now (out .entry)) at (now (out .exit)) r ⌝ }
+    requires { ⌜ Room (valueLine v writer) (now out) at ⌝ }
+    ensures { λ r. ⌜ Emits (valueLine v writer) (now (out .entry)) at (now (out .exit)) r ⌝ }
 {
     if writer == 0 {
         return at;
@@ -97,8 +127,9 @@ fn value_line(out: &mut [u8], at: usize, v: u64, writer: u8) -> usize
     pair_line(out, at, b"(value", v, writer as u64)
 }
 
-pub fn value_lines(out: &mut [u8], at: usize, writers: [u8; 32]) -> usize
-    ensures { λ r. ⌜ Wrote (valueLines writers) (now (out .entry)) at (now (out .exit)) r ⌝ }
+pub fn value_lines(out: &mut [u8], at: usize, writers: &[u8; 32]) -> usize
+    requires { ⌜ Room (valueLines (now writers)) (now out) at ⌝ }
+    ensures { λ r. ⌜ Emits (valueLines (now (writers .entry))) (now (out .entry)) at (now (out .exit)) r ⌝ }
 {
     let mut end = at;
     let mut v = 0;

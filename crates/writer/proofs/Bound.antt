@@ -2,7 +2,7 @@
 -- Assumes nothing.
 use mathlib.Core.Path.{_≡_, refl, sym, ap, _∙_, subst}
 use mathlib.Core.Bool.{Bool, true, false, not, cond, _&&_}
-use mathlib.Core.List.{List, [], _∷_, _++_}
+use mathlib.Core.List.{List, [], _∷_}
 use Prim.Native.Nat.{ℕ, zero, suc, _+_, _*_, _^_, _/_, _%_, _≤_, _<_}
 use native.Mathlib.Nat.{pow-suc}
 use native.Mathlib.Omega.{arith}
@@ -14,21 +14,19 @@ use Rattle.refusal.specs.Rows.{first}
 use Rattle.refusal.specs.declared.Outcome.{Outcome}
 use Rattle.job.specs.Lines.{nameFits, lineRows}
 use Rattle.layout.specs.Words.{spelling}
-use Rattle.layout.specs.Text.{Form, Lines, digits, number, entries, listed, stepLine, wordLine, jobLine, stepLines, doneLines, jobText, text, Shorts}
-use Rattle.layout.specs.Parse.{Parsed, parse}
-use Rattle.layout.specs.declared.Word.{Word}
-use Rattle.layout.specs.declared.Word.the-variants.{Old, New, Job, Done, Step, In, Out, Read, Write}
+use Rattle.layout.specs.Text.{Form, Lines, digits, number, entries, listed, stepLine, wordLine, jobLine, stepLines, doneLines, jobText, text, Shorts, ShortLines}
+use Rattle.layout.specs.declared.Word.the-variants.{New, Job, In, Out, Read, Write}
 use Rattle.layout.proofs.Sound.{sound}
 use Rattle.facts.specs.Forms.{allBelow, rising, listFits, formFits, formLists}
-use Rattle.facts.specs.Facts.{factsOf, answered, readOf}
-use Rattle.facts.specs.declared.Sheet.{Sheet}
-use Rattle.facts.proofs.Stand.{reads-facts}
+use Rattle.facts.specs.Facts.{readOf}
+use Rattle.facts.specs.SheetRows.{sheetRows}
 use Rattle.job.specs.Job as J
-use Rattle.facts.specs.Back.{linesOf, AllWide}
+use Rattle.facts.specs.Back.{linesOf, AllWide, asRecords}
 use Rattle.writer.specs.Written.{written}
-use Rattle.facts.proofs.Fine.{Passes, Fine, AllFine, AllLines, lines-fine}
+use Rattle.facts.proofs.PassingLines.{Passes, Fine, AllFine, AllLines, lines-fine, lines-short}
 use Rattle.facts.proofs.Ties.{tie}
-use Rattle.facts.proofs.Records.{read-is}
+use Rattle.facts.proofs.Records.{reads-as}
+use Rattle.facts.proofs.Widths.{lines-same, rows-as-records, rows-wide}
 
 long-digits : (f k n : ℕ) (s : List ℕ) → n < 10 ^ suc k → length (digits f n s) ≤ suc k + length s
 unfolding digits
@@ -116,12 +114,22 @@ long-text x h =
     )
 
 -- no sheet that reads is longer
-pub bounded : (s : List ℕ) (x : Lines) → parse s ≡ Parsed.read x → readOf s .number ≡ 0 → length s ≤ 18136
-bounded s x e z =
-    let passed = reads-facts x (ap (λ (y : Sheet). y .number) (sym (read-is s x e)) ∙ z) in
-    subst (λ (l : List ℕ). length l ≤ 18136) (sym (sound s x e .same)) (long-text x (lines-fine x (passed .0)))
+pub bounded : (s : List ℕ) → readOf s .number ≡ 0 → length s ≤ 18136
+bounded s z =
+    let r = reads-as s z in
+    subst (λ (l : List ℕ). length l ≤ 18136) (sym (sound s (r .lines) (r .parsed) .same)) (long-text (r .lines) (lines-fine (r .lines) (r .passes)))
 
 -- nor is a text that is written
-pub written-bounded : (j : J.Job) → AllWide (j .old) → AllWide (j .new) → Passes (lineRows j) → length (written j) ≤ 18136
+pub written-length : (j : J.Job) → Passes (lineRows j) → length (written j) ≤ 18136
 unfolding written
-written-bounded j old new h = long-text (linesOf j) (lines-fine (linesOf j) (ap (λ (rows : List Outcome). eqb (first rows .number) 0) (tie j old new) ∙ h))
+written-length j h =
+    let (old, new) = rows-wide j h in
+    let passes : Passes (sheetRows (linesOf (asRecords j))) = ap (λ (rows : List Outcome). eqb (first rows .number) 0) (tie (asRecords j) old new ∙ rows-as-records j) ∙ h in
+    subst (λ (x : Lines). length (text x) ≤ 18136) (lines-same j) (long-text (linesOf (asRecords j)) (lines-fine (linesOf (asRecords j)) passes))
+
+pub written-bounded : (j : J.Job) → AllWide (j .old) → AllWide (j .new) → Passes (lineRows j) → length (written j) ≤ 18136
+written-bounded j old new h = written-length j h
+
+module _ (j : J.Job) (old : AllWide (j .old)) (new : AllWide (j .new)) (h : Passes (lineRows j)) where
+  pub lines-shorts : ShortLines (linesOf j)
+  lines-shorts = lines-short (linesOf j) (lines-fine (linesOf j) (ap (λ (rows : List Outcome). eqb (first rows .number) 0) (tie j old new) ∙ h))

@@ -2,8 +2,10 @@
 pub mod Round
 pub mod Bound
 pub mod Longest
-pub mod Emitting
-pub mod Digits
+pub mod InParts
+pub mod EachLine
 pub mod Widths
 pub mod Answers
 pub mod Trips
+pub mod TextsInFront
+pub mod WrittenText

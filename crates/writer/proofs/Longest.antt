@@ -14,7 +14,7 @@ use Rattle.facts.specs.Forms.{allBelow, rising, listFits, formFits, formLists, 
 use Rattle.facts.specs.Facts.{readOf}
 use Rattle.facts.specs.SheetRows.{formRows, routeFormRows, sheetRows, factsRecord}
 use Rattle.facts.specs.declared.Sheet.{Sheet}
-use Rattle.facts.proofs.Fine.{Passes, lines-fine, lines-short}
+use Rattle.facts.proofs.PassingLines.{Passes, lines-fine, lines-short}
 use Rattle.writer.proofs.Round.{standing}
 use Rattle.facts.proofs.Records.{read-is}
 
@@ -48,5 +48,5 @@ it-reads =
     ap (λ (y : Sheet). y .number) (read-is longest longLines parsed ∙ standing longLines no-row-refuses)
 
 -- a sheet as long as `bounded` allows reads
-pub longest-reads : (length longest ≡ 18136) × (readOf longest .number ≡ 0)
-longest-reads = (its-length, it-reads)
+pub longest-reads : (s : List ℕ) × (length s ≡ 18136) × (readOf s .number ≡ 0)
+longest-reads = (longest, its-length, it-reads)

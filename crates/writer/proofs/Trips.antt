@@ -10,14 +10,15 @@ use lib.Seq.{take-append-seam}
 use borrow.Author.Tests.{eq-eqb}
 use Rattle.job.specs.Job.{Job}
 use Rattle.job.specs.Lines.{lineRows}
-use Rattle.layout.specs.Parse.{Parsed, parse}
 use Rattle.facts.specs.Facts.{readOf, jobRead}
-use Rattle.facts.specs.Back.{AllWide}
-use Rattle.facts.proofs.Fine.{Passes, rows-split}
-use Rattle.facts.proofs.Records.{not-broken, read-lines}
+use Rattle.facts.specs.Back.{asRecords}
+use Rattle.refusal.proofs.Rows.{rows-passed}
+use Rattle.facts.proofs.PassingLines.{Passes}
+use Rattle.facts.proofs.Records.{read-lines}
 use Rattle.writer.specs.Written.{written}
 use Rattle.writer.specs.Writes.{writeRow, wrote, outAfter}
-use Rattle.writer.proofs.Round.{sheetOf, read-then-write, write-then-read}
+use Rattle.facts.specs.SheetRows.{sheetOf}
+use Rattle.writer.proofs.Round.{read-then-write, write-then-read}
 use Rattle.writer.proofs.Answers.{passed-answer, passed-out}
 
 module _ (j : Job) (o : List ℕ) (ok : wrote j (length o) .number ≡ 0) where
@@ -27,7 +28,7 @@ module _ (j : Job) (o : List ℕ) (ok : wrote j (length o) .number ≡ 0) where
 
   lines-pass : Passes (lineRows j)
   unfolding writeRow
-  lines-pass = rows-split (lineRows j) _ row-zero .0
+  lines-pass = rows-passed (lineRows j) _ row-zero .0
 
   bytes-written : wrote j (length o) .written ≡ length (written j)
   unfolding wrote
@@ -42,18 +43,15 @@ module _ (j : Job) (o : List ℕ) (ok : wrote j (length o) .number ≡ 0) where
       ∙ take-append-seam (written j) (drop (length (written j)) o)
 
   -- reading them gives the records
-  pub write-reads : AllWide (j .old) → AllWide (j .new) → readOf (take (wrote j (length o) .written) (outAfter j o)) ≡ sheetOf j
-  write-reads old new = ap readOf text-stands ∙ write-then-read j old new lines-pass
+  pub write-reads : readOf (take (wrote j (length o) .written) (outAfter j o)) ≡ sheetOf (asRecords j)
+  write-reads = ap readOf text-stands ∙ write-then-read j lines-pass
 
 -- write gives a sheet that reads back byte for byte, where there is room
-pub read-writes : (s o : List ℕ) → readOf s .number ≡ 0 → length s ≤ length o → (wrote (jobRead (readOf s)) (length o) ≡ record { number = 0; second = 0; written = length s }) × (outAfter (jobRead (readOf s)) o ≡ s ++ drop (length s) o)
-read-writes s o z room = go (parse s) refl
-  where
-    go : (p : Parsed) → parse s ≡ p → (wrote (jobRead (readOf s)) (length o) ≡ record { number = 0; second = 0; written = length s }) × (outAfter (jobRead (readOf s)) o ≡ s ++ drop (length s) o)
-    go (Parsed.read x) e =
-        let j : Job = jobRead (readOf s) in
-        let same : written j ≡ s = read-then-write s x e z in
-        let rows : Passes (lineRows j) = eq-eqb _ 0 (read-lines s z) in
-        let long : length s ≡ length (written j) = ap length (sym same) in
-        (sym (passed-answer j _ refl rows o (length s) long room), sym (passed-out j _ refl rows o (length s) long room _ (ap (λ (t : List ℕ). t ++ drop (length t) o) (sym same))))
-    go (Parsed.broken r) e = absurd (not-broken s r z e)
+pub read-writes : (s o : List ℕ) → readOf s .number ≡ 0 → length s ≤ length o
+    → (wrote (jobRead (readOf s)) (length o) ≡ record { number = 0; second = 0; written = length s }) × (outAfter (jobRead (readOf s)) o ≡ s ++ drop (length s) o)
+read-writes s o z room =
+    let j : Job = jobRead (readOf s) in
+    let same : written j ≡ s = read-then-write s z in
+    let rows : Passes (lineRows j) = eq-eqb _ 0 (read-lines s z) in
+    let long : length s ≡ length (written j) = ap length (sym same) in
+    (sym (passed-answer j _ refl rows o (length s) long room), sym (passed-out j _ refl rows o (length s) long room _ (ap (λ (t : List ℕ). t ++ drop (length t) o) (sym same))))

@@ -1,5 +1,5 @@
 -- What writing a job gives.
 pub mod Written
-pub mod Runs
 pub mod Parts
+pub mod Fits
 pub mod Writes

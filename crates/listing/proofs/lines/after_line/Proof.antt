@@ -1,6 +1,6 @@
--- `listing::lines::after_line`: a row with no bit has no line.
+-- `listing::lines::after_line`: the word with the occurrence, its row, the end; an empty row has no line.
 use borrow.Author.Needs.{needs}
-use Rattle.listing.proofs.Line.{after-none, after-wrote}
+use Rattle.listing.proofs.Line.{after-first, after-second, after-third, after-whole, after-none}
 use Rattle.listing.proofs.lines.after_line.Statement.{statement}
 use Rattle.listing.proofs.lines.after_line.Tie as tie
 
@@ -14,22 +14,22 @@ add-figure : tie.Need-add-figure
 add-figure c = search needs
 
 figure-requires : tie.Need-figure-requires
-figure-requires c κs = search needs
+figure-requires c κs = search (needs, after-first)
 
-mask-entries-requires : tie.Need-mask-entries-requires
-mask-entries-requires c κs = search needs
+entries-requires : tie.Need-entries-requires
+entries-requires c κs = (search needs, search (needs, after-second))
 
-slice-aggregate-word : tie.Need-slice-aggregate-word
-slice-aggregate-word c = search needs
+slice-aggregate-text : tie.Need-slice-aggregate-text
+slice-aggregate-text c = search needs
 
-word-requires : tie.Need-word-requires
-word-requires c κs = search needs
+text-requires : tie.Need-text-requires
+text-requires c κs = search (needs, after-third)
 
 same-length : tie.Need-same-length
 same-length c = search needs
 
 returns-2 : tie.Need-returns-2
-returns-2 c = search (needs, after-wrote)
+returns-2 c = search (needs, after-whole)
 
 pub after-line-spec : {M : Type 1} → statement M
-after-line-spec = tie.close (tie.spec returns slice-aggregate-figure add-figure figure-requires mask-entries-requires slice-aggregate-word word-requires same-length returns-2)
+after-line-spec = tie.close (tie.spec returns slice-aggregate-figure add-figure figure-requires entries-requires slice-aggregate-text text-requires same-length returns-2)

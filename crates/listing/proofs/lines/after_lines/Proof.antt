@@ -1,29 +1,31 @@
--- `listing::lines::after_lines`: from one set bit of the kept mask to the next.
-use native.Mathlib.Omega.{arith}
+-- `listing::lines::after_lines`: from one kept occurrence to the next.
 use mathlib.Core.Path.{_≡_}
-use Prim.Native.Nat.{_<_}
-use lib.ListN.{length}
+use Prim.Native.Nat.{_^_, _<_}
+use native.Mathlib.Omega.{arith}
 use lib.Count.{trailingZeros}
+use lib.ListN.{length}
 use borrow.Author.Needs.{needs}
-use Rattle.listing.proofs.EachLine.{rowLine, after-all}
-use Rattle.listing.specs.Listing.{over}
-use Rattle.listing.specs.Emit.{numbered}
-use Rattle.listing.proofs.Walking.{Walking, walk-start, walk-on, walk-inside, walk-less, walk-end}
+use Rattle.mask.specs.Mask.{members}
+use Rattle.mask.proofs.LowestFirst.{lowest-inside, rest-less, rest-fits}
+use Rattle.emit.specs.Numbers.{over}
+use Rattle.emit.proofs.Loops.{Left, mask-end}
+use Rattle.listing.specs.Listing.{afterLines}
+use Rattle.listing.proofs.EachLine.{lineOf, after-start, row-room, row-turn}
 use Rattle.listing.proofs.lines.after_lines.Statement.{statement}
 use Rattle.listing.proofs.lines.after_lines.Tie as tie
 
 abbrev Inv-loop : tie.InvT-loop
-Inv-loop out₀ at kept rows end₀ left₀ out end left = (length out ≡ length out₀) × Walking (rowLine rows) 0 left out end (over (rowLine rows) (numbered 0 64 kept)) out₀ at
+Inv-loop out₀ at kept rows end₀ left₀ out end left = (left < 2 ^ 64) × ((length out ≡ length out₀) × Left (over (lineOf rows) (members 64 left)) out end (afterLines kept rows) out₀ at)
 
 abbrev μ-loop : tie.MeasureT-loop
 μ-loop out₀ at kept rows end₀ left₀ out end left = left
 
-loop-holds : tie.Need-loop-holds Inv-loop μ-loop
-loop-holds c = (search needs, walk-start (rowLine (c .before .args .t4)) 0 _ _ _ (c .before .fits .kept .fits))
-
 -- the lowest member left is below 64
 inside : (c : tie.In-loop Inv-loop μ-loop) → trailingZeros 64 (c .before .loop .left) < 64
-inside c = walk-inside (rowLine (c .before .before .before .args .t4)) 0 _ (c .before .loop .inv .1) (c .loop-test .taken)
+inside c = search (needs, lowest-inside)
+
+loop-holds : tie.Need-loop-holds Inv-loop μ-loop
+loop-holds c = (search needs, (search needs, search (needs, after-start)))
 
 sub-left : tie.Need-sub-left Inv-loop μ-loop
 sub-left c = search needs
@@ -37,23 +39,23 @@ cast-after-line-2 c = omega (arith, inside (c .before))
 mul-after-line : tie.Need-mul-after-line Inv-loop μ-loop
 mul-after-line c = omega (arith, inside (c .before))
 
-array-read-after-line : tie.Need-array-read-after-line Inv-loop μ-loop
-array-read-after-line c = omega (arith, inside (c .before))
+element-copy-out-after-line : tie.Need-element-copy-out-after-line Inv-loop μ-loop
+element-copy-out-after-line c = omega (arith, inside (c .before))
 
 after-line-requires : tie.Need-after-line-requires Inv-loop μ-loop
-after-line-requires c κs = omega (arith, inside (c .before))
+after-line-requires c κs = (omega (arith, inside (c .before .before)), search (needs, row-room))
 
 loop-less : tie.Need-loop-less Inv-loop μ-loop
-loop-less c = search (needs, walk-less)
+loop-less c = search (needs, rest-less)
 
 loop-again : tie.Need-loop-again Inv-loop μ-loop
-loop-again c = (search needs, search (needs, walk-on))
+loop-again c = (search (needs, rest-fits), (search needs, search (needs, row-turn)))
 
 same-length : tie.Need-same-length Inv-loop μ-loop
 same-length c = search needs
 
 returns : tie.Need-returns Inv-loop μ-loop
-returns c = search (needs, walk-end, after-all)
+returns c = search (needs, mask-end)
 
 pub after-lines-spec : {M : Type 1} → statement M
-after-lines-spec = tie.close (tie.spec Inv-loop μ-loop loop-holds sub-left cast-after-line cast-after-line-2 mul-after-line array-read-after-line after-line-requires loop-less loop-again same-length returns)
+after-lines-spec = tie.close (tie.spec Inv-loop μ-loop loop-holds sub-left cast-after-line cast-after-line-2 mul-after-line element-copy-out-after-line after-line-requires loop-less loop-again same-length returns)

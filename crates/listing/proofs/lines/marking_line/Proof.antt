@@ -1,29 +1,29 @@
 -- `listing::lines::marking_line`: the word, the members, the end.
 use borrow.Author.Needs.{needs}
-use Rattle.listing.proofs.Line.{marking-wrote}
+use Rattle.listing.proofs.Line.{marking-first, marking-second, marking-third, marking-whole}
 use Rattle.listing.proofs.lines.marking_line.Statement.{statement}
 use Rattle.listing.proofs.lines.marking_line.Tie as tie
 
-slice-aggregate-word : tie.Need-slice-aggregate-word
-slice-aggregate-word c = search needs
+slice-aggregate-text : tie.Need-slice-aggregate-text
+slice-aggregate-text c = search needs
 
-word-requires : tie.Need-word-requires
-word-requires c κs = search needs
+text-requires : tie.Need-text-requires
+text-requires c κs = search (needs, marking-first)
 
-mask-entries-requires : tie.Need-mask-entries-requires
-mask-entries-requires c κs = search needs
+entries-requires : tie.Need-entries-requires
+entries-requires c κs = (search needs, search (needs, marking-second))
 
-slice-aggregate-word-2 : tie.Need-slice-aggregate-word-2
-slice-aggregate-word-2 c = search needs
+slice-aggregate-text-2 : tie.Need-slice-aggregate-text-2
+slice-aggregate-text-2 c = search needs
 
-word-requires-2 : tie.Need-word-requires-2
-word-requires-2 c κs = search needs
+text-requires-2 : tie.Need-text-requires-2
+text-requires-2 c κs = search (needs, marking-third)
 
 same-length : tie.Need-same-length
 same-length c = search needs
 
 returns : tie.Need-returns
-returns c = search (needs, marking-wrote)
+returns c = search (needs, marking-whole)
 
 pub marking-line-spec : {M : Type 1} → statement M
-marking-line-spec = tie.close (tie.spec slice-aggregate-word word-requires mask-entries-requires slice-aggregate-word-2 word-requires-2 same-length returns)
+marking-line-spec = tie.close (tie.spec slice-aggregate-text text-requires entries-requires slice-aggregate-text-2 text-requires-2 same-length returns)

@@ -8,6 +8,7 @@ slice-aggregate-pair-line : tie.Need-slice-aggregate-pair-line
 slice-aggregate-pair-line c = search needs
 
 pair-line-requires : tie.Need-pair-line-requires
+unfolding refusedLine
 pair-line-requires c κs = search needs
 
 same-length : tie.Need-same-length

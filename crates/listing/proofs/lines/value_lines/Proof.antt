@@ -1,11 +1,11 @@
 -- `listing::lines::value_lines`: the variables in turn.
 use mathlib.Core.Path.{_≡_}
-use lib.ListN.{length}
 use Prim.Native.Nat.{_-_, _≤_}
+use lib.ListN.{length}
 use borrow.Author.Needs.{needs}
-use Rattle.listing.proofs.Runs.{Left}
+use Rattle.emit.proofs.Loops.{Left}
 use Rattle.listing.specs.Listing.{valueLines}
-use Rattle.listing.proofs.EachLine.{valuesFrom, values-start, values-turn, values-end}
+use Rattle.listing.proofs.EachLine.{valuesFrom, values-start, values-room, values-turn, values-end}
 use Rattle.listing.proofs.lines.value_lines.Statement.{statement}
 use Rattle.listing.proofs.lines.value_lines.Tie as tie
 
@@ -16,13 +16,13 @@ abbrev μ-loop : tie.MeasureT-loop
 μ-loop out₀ at writers end₀ v₀ out end v = 32 - v
 
 loop-holds : tie.Need-loop-holds Inv-loop μ-loop
-loop-holds c = (search needs, (search needs, values-start _))
+loop-holds c = (search needs, (search needs, search (needs, values-start)))
 
-array-read-value-line : tie.Need-array-read-value-line Inv-loop μ-loop
-array-read-value-line c = search needs
+element-copy-out-value-line : tie.Need-element-copy-out-value-line Inv-loop μ-loop
+element-copy-out-value-line c = search needs
 
 value-line-requires : tie.Need-value-line-requires Inv-loop μ-loop
-value-line-requires c κs = search needs
+value-line-requires c κs = search (needs, values-room)
 
 add-v : tie.Need-add-v Inv-loop μ-loop
 add-v c = search needs
@@ -40,4 +40,4 @@ returns : tie.Need-returns Inv-loop μ-loop
 returns c = search (needs, values-end)
 
 pub value-lines-spec : {M : Type 1} → statement M
-value-lines-spec = tie.close (tie.spec Inv-loop μ-loop loop-holds array-read-value-line value-line-requires add-v loop-less loop-again same-length returns)
+value-lines-spec = tie.close (tie.spec Inv-loop μ-loop loop-holds element-copy-out-value-line value-line-requires add-v loop-less loop-again same-length returns)

@@ -1,20 +1,20 @@
--- `listing::printing::first_lines`: one text after another.
+-- `listing::printing::first_lines`: one after another.
 use borrow.Author.Needs.{needs}
-use Rattle.listing.proofs.Runs.{then}
+use Rattle.emit.proofs.Chains.{two-first, two-second, two-whole}
 use Rattle.listing.proofs.printing.first_lines.Statement.{statement}
 use Rattle.listing.proofs.printing.first_lines.Tie as tie
 
 moved-line-requires : tie.Need-moved-line-requires
-moved-line-requires c κs = search needs
+moved-line-requires c κs = search (needs, two-first)
 
 after-lines-requires : tie.Need-after-lines-requires
-after-lines-requires c κs = search needs
+after-lines-requires c κs = search (needs, two-second)
 
 same-length : tie.Need-same-length
 same-length c = search needs
 
 returns : tie.Need-returns
-returns c = search (needs, then)
+returns c = search (needs, two-whole)
 
 pub first-lines-spec : {M : Type 1} → statement M
 first-lines-spec = tie.close (tie.spec moved-line-requires after-lines-requires same-length returns)

@@ -1,29 +1,30 @@
--- `listing::printing::text`: the refusal, or all lines.
+-- `listing::printing::text`: a refusal, or the first lines and the last.
 use borrow.Author.Needs.{needs}
-use Rattle.listing.proofs.Whole.{refusal-wrote, success-wrote}
+use Rattle.emit.proofs.Chains.{emits-as}
+use Rattle.listing.proofs.ListingText.{refusal-is, refusal-room, success-first, success-second, success-whole}
 use Rattle.listing.proofs.printing.text.Statement.{statement}
 use Rattle.listing.proofs.printing.text.Tie as tie
 
 refused-line-requires : tie.Need-refused-line-requires
-refused-line-requires c κs = search needs
+refused-line-requires c κs = search (needs, refusal-room)
 
 same-length : tie.Need-same-length
 same-length c = search needs
 
 returns : tie.Need-returns
-returns c = search (needs, refusal-wrote)
+returns c = search (needs, emits-as, refusal-is)
 
 first-lines-requires : tie.Need-first-lines-requires
-first-lines-requires c κs = search needs
+first-lines-requires c κs = search (needs, success-first)
 
 last-lines-requires : tie.Need-last-lines-requires
-last-lines-requires c κs = search needs
+last-lines-requires c κs = search (needs, success-second)
 
 same-length-2 : tie.Need-same-length-2
 same-length-2 c = search needs
 
 returns-2 : tie.Need-returns-2
-returns-2 c = search (needs, success-wrote)
+returns-2 c = search (needs, success-whole)
 
 pub text-spec : {M : Type 1} → statement M
 text-spec = tie.close (tie.spec refused-line-requires same-length returns first-lines-requires last-lines-requires same-length-2 returns-2)

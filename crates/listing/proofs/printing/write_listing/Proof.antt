@@ -1,23 +1,26 @@
--- `listing::printing::write_listing`: refused where bytes are lacking, and else the text.
+-- `listing::printing::write_listing`: at once where there is room for any listing, and else apart.
 use borrow.Author.Needs.{needs}
-use Rattle.listing.proofs.Whole.{short-answer, short-out, whole-answer, whole-end, whole-out}
+use Rattle.listing.proofs.ListingText.{any-room, direct-answer, direct-out}
 use Rattle.listing.proofs.printing.write_listing.Statement.{statement}
 use Rattle.listing.proofs.printing.write_listing.Tie as tie
 
-lacking-requires : tie.Need-lacking-requires
-lacking-requires c κs = search needs
-
-returns : tie.Need-returns
-returns c = (search (needs, short-answer), search (needs, short-out))
-
-text-requires : tie.Need-text-requires
-text-requires c κs = search needs
+write-copied-requires : tie.Need-write-copied-requires
+write-copied-requires c κs = search needs
 
 same-length : tie.Need-same-length
 same-length c = search needs
 
+returns : tie.Need-returns
+returns c = search needs
+
+text-requires : tie.Need-text-requires
+text-requires c κs = search (needs, any-room)
+
+same-length-2 : tie.Need-same-length-2
+same-length-2 c = search needs
+
 returns-2 : tie.Need-returns-2
-returns-2 c = (search (needs, whole-answer, whole-end), search (needs, whole-out))
+returns-2 c = (search (needs, direct-answer), search (needs, direct-out))
 
 pub write-listing-spec : {M : Type 1} → statement M
-write-listing-spec = tie.close (tie.spec lacking-requires returns text-requires same-length returns-2)
+write-listing-spec = tie.close (tie.spec write-copied-requires same-length returns text-requires same-length-2 returns-2)

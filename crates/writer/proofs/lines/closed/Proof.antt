@@ -1,6 +1,6 @@
--- `writing::lines::closed`: the two bytes in turn.
+-- `writer::lines::closed`: the two bytes in turn.
 use borrow.Author.Needs.{needs}
-use Rattle.writer.proofs.Emitting.{next}
+use Rattle.writer.proofs.InParts.{closing-whole}
 use Rattle.writer.proofs.lines.closed.Statement.{statement}
 use Rattle.writer.proofs.lines.closed.Tie as tie
 
@@ -14,10 +14,7 @@ same-length : tie.Need-same-length
 same-length c = search needs
 
 returns : tie.Need-returns
-returns c =
-    let b = c .before .before in
-    let a = b .before .before .before .before in
-    next (a .put .ensures) (b .put2 .ensures)
+returns c = search (needs, closing-whole)
 
 pub closed-spec : {M : Type 1} → statement M
 closed-spec = tie.close (tie.spec put-requires put-requires-2 same-length returns)

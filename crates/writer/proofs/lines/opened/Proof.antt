@@ -1,23 +1,20 @@
--- `writing::lines::opened`: the bracket, then the word.
+-- `writer::lines::opened`: the bracket, then the word.
 use borrow.Author.Needs.{needs}
-use Rattle.writer.proofs.Emitting.{next}
+use Rattle.writer.proofs.InParts.{opening-first, opening-second, opening-whole}
 use Rattle.writer.proofs.lines.opened.Statement.{statement}
 use Rattle.writer.proofs.lines.opened.Tie as tie
 
 put-requires : tie.Need-put-requires
-put-requires c κs = search needs
+put-requires c κs = search (needs, opening-first)
 
 word-requires : tie.Need-word-requires
-word-requires c κs = search needs
+word-requires c κs = search (needs, opening-second)
 
 same-length : tie.Need-same-length
 same-length c = search needs
 
 returns : tie.Need-returns
-returns c =
-    let b = c .before .before in
-    let a = b .before .before .before .before in
-    next (a .put .ensures) (b .word .ensures)
+returns c = search (needs, opening-whole)
 
 pub opened-spec : {M : Type 1} → statement M
 opened-spec = tie.close (tie.spec put-requires word-requires same-length returns)

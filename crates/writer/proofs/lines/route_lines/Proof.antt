@@ -1,23 +1,20 @@
--- `writing::lines::route_lines`: the head, then the steps.
+-- `writer::lines::route_lines`: the head, then the steps.
 use borrow.Author.Needs.{needs}
-use Rattle.writer.proofs.Emitting.{next}
+use Rattle.writer.proofs.InParts.{route-first, route-second, route-whole}
 use Rattle.writer.proofs.lines.route_lines.Statement.{statement}
 use Rattle.writer.proofs.lines.route_lines.Tie as tie
 
 word-line-requires : tie.Need-word-line-requires
-word-line-requires c κs = search needs
+word-line-requires c κs = (search needs, search (needs, route-first))
 
 step-lines-requires : tie.Need-step-lines-requires
-step-lines-requires c κs = search needs
+step-lines-requires c κs = (search needs, (search needs, search (needs, route-second)))
 
 same-length : tie.Need-same-length
 same-length c = search needs
 
 returns : tie.Need-returns
-returns c =
-    let b = c .before .before in
-    let a = b .before .before .before .before in
-    next (a .word-line .ensures) (b .step-lines .ensures)
+returns c = search (needs, route-whole)
 
 pub route-lines-spec : {M : Type 1} → statement M
 route-lines-spec = tie.close (tie.spec word-line-requires step-lines-requires same-length returns)

@@ -1,37 +1,29 @@
--- `writing::lines::step_line`: its parts in turn.
+-- `writer::lines::step_line`: its parts in turn.
 use borrow.Author.Needs.{needs}
-use Rattle.layout.specs.Text.{stepLine}
-use Rattle.facts.specs.Back.{formOf}
-use Rattle.writer.proofs.Emitting.{next}
+use Rattle.writer.proofs.InParts.{step-first, step-second, step-third, step-fourth, step-whole}
 use Rattle.writer.proofs.lines.step_line.Statement.{statement}
 use Rattle.writer.proofs.lines.step_line.Tie as tie
 
 opened-requires : tie.Need-opened-requires
-opened-requires c κs = search needs
+opened-requires c κs = search (needs, step-first)
 
-cast-spaced : tie.Need-cast-spaced
-cast-spaced c = search needs
+cast-entry : tie.Need-cast-entry
+cast-entry c = search needs
 
-spaced-requires : tie.Need-spaced-requires
-spaced-requires c κs = search needs
+entry-requires : tie.Need-entry-requires
+entry-requires c κs = search (needs, step-second)
 
 four-requires : tie.Need-four-requires
-four-requires c κs = search needs
+four-requires c κs = search (needs, step-third)
 
 closed-requires : tie.Need-closed-requires
-closed-requires c κs = search needs
+closed-requires c κs = search (needs, step-fourth)
 
 same-length : tie.Need-same-length
 same-length c = search needs
 
 returns : tie.Need-returns
-unfolding stepLine formOf
-returns c =
-    let e = c .before .before in
-    let d = e .before .before .before .before in
-    let b = d .before .before .before .before in
-    let a = b .before .before .before .before .before in
-    next (a .opened .ensures) (next (b .spaced .ensures) (next (d .four .ensures) (e .closed .ensures)))
+returns c = search (needs, step-whole)
 
 pub step-line-spec : {M : Type 1} → statement M
-step-line-spec = tie.close (tie.spec opened-requires cast-spaced spaced-requires four-requires closed-requires same-length returns)
+step-line-spec = tie.close (tie.spec opened-requires cast-entry entry-requires four-requires closed-requires same-length returns)

@@ -1,29 +1,23 @@
--- `writing::lines::word_line`: its parts in turn.
+-- `writer::lines::word_line`: its parts in turn.
 use borrow.Author.Needs.{needs}
-use Rattle.layout.specs.Text.{wordLine}
-use Rattle.writer.proofs.Emitting.{next}
+use Rattle.writer.proofs.InParts.{word-first, word-second, word-third, word-whole}
 use Rattle.writer.proofs.lines.word_line.Statement.{statement}
 use Rattle.writer.proofs.lines.word_line.Tie as tie
 
 opened-requires : tie.Need-opened-requires
-opened-requires c κs = search needs
+opened-requires c κs = search (needs, word-first)
 
-spaced-requires : tie.Need-spaced-requires
-spaced-requires c κs = search needs
+entry-requires : tie.Need-entry-requires
+entry-requires c κs = search (needs, word-second)
 
 closed-requires : tie.Need-closed-requires
-closed-requires c κs = search needs
+closed-requires c κs = search (needs, word-third)
 
 same-length : tie.Need-same-length
 same-length c = search needs
 
 returns : tie.Need-returns
-unfolding wordLine
-returns c =
-    let d = c .before .before in
-    let b = d .before .before .before .before in
-    let a = b .before .before .before .before in
-    next (a .opened .ensures) (next (b .spaced .ensures) (d .closed .ensures))
+returns c = search (needs, word-whole)
 
 pub word-line-spec : {M : Type 1} → statement M
-word-line-spec = tie.close (tie.spec opened-requires spaced-requires closed-requires same-length returns)
+word-line-spec = tie.close (tie.spec opened-requires entry-requires closed-requires same-length returns)

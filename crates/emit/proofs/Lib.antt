@@ -1,0 +1,5 @@
+-- Laws on what emitters write.
+pub mod Chains
+pub mod Decimals
+pub mod Over
+pub mod Loops

@@ -1,0 +1,20 @@
+-- `listing::lines::figure`: the word, then the entry.
+use borrow.Author.Needs.{needs}
+use Rattle.emit.proofs.Chains.{two-first, two-second, two-whole}
+use Rattle.listing.proofs.lines.figure.Statement.{statement}
+use Rattle.listing.proofs.lines.figure.Tie as tie
+
+text-requires : tie.Need-text-requires
+text-requires c κs = search (needs, two-first)
+
+entry-requires : tie.Need-entry-requires
+entry-requires c κs = search (needs, two-second)
+
+same-length : tie.Need-same-length
+same-length c = search needs
+
+returns : tie.Need-returns
+returns c = search (needs, two-whole)
+
+pub figure-spec : {M : Type 1} → statement M
+figure-spec = tie.close (tie.spec text-requires entry-requires same-length returns)
