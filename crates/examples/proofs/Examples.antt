@@ -6,10 +6,10 @@ use Rattle.route.specs.Firing.{canFire, fire, start}
 use Rattle.refusal.specs.Rows.{unless, first}
 use Rattle.route.specs.Net.{netRow}
 use Rattle.job.specs.Lines.{nameFits, placesFit, stepFits, variableList, placeList, listsFit, among, stepRow, stepRows, routeRows, doneRow, doneRows, lineRows, checked}
-use Rattle.job.specs.Run.{runStep, runFrom, ran}
+use Rattle.job.specs.Run.{runStep, runFrom, ran, performed}
 use Rattle.slice.specs.Order.{inTurn}
 use Rattle.slice.specs.Precedence.{clash, comesAfter, row}
-use Rattle.slice.specs.Slice.{performed, variables, sweepStep, sweep, keptMask}
+use Rattle.slice.specs.Slice.{variables, sweepStep, sweep, keptMask}
 use Rattle.search.specs.Search.{isSome, orElse, onwards, tryEach, search, fireNext}
 use Rattle.matching.specs.Straight.{sameData, sameStep, allOf, fireStep, fireAll, stepsOn, runsStraight}
 use Rattle.matching.specs.Fit.{keptOf}
@@ -21,7 +21,8 @@ use Rattle.layout.specs.Points.{digit, alive, expect, chosen, spelt, inList, pa
 use Rattle.layout.specs.Parse.{stored, took, putStep, putLine, keep, atEnd, run, parse}
 use Rattle.facts.specs.Forms.{allBelow, rising, formFits, listFits, formLists, formRow, masked, recordOf}
 use Rattle.facts.specs.Facts.{failed, settled, headed, stepped, oldHead, newHead, jobHead, doneIn, stepIn, more, moreSteps, moreDones, factsOf, answered, readOf}
-use Rattle.listing.specs.Listing.{digits, decimal, entry, over, line, movedLine, afterLine, afterLines, orderLine, markingLine, valueLine, valueLines, refusedLine, movedText, listing}
+use Rattle.emit.specs.Numbers.{digits, decimal, entry, over}
+use Rattle.listing.specs.Listing.{line, movedLine, afterLine, afterLines, orderLine, markingLine, valueLine, valueLines, refusedLine, movedText, listing}
 use Rattle.ops.specs.Print.{sheetAnswer, listingOf}
 use Rattle.examples.specs.Table.{codes, bytes, AllPrint, table}
 

@@ -22,34 +22,33 @@ use Rattle.matching.specs.KeptRows.{keptRows}
 use Rattle.trying.specs.Try.{tryStopped, tryAccepted, sameList, listRow, tryFrom, tryList, tryRows, tried}
 use Rattle.trying.specs.declared.Tried.{Tried}
 use Rattle.theorems.specs.Demand3.{Runs, stepsDone, positions, FitFor}
-use Rattle.refusal.proofs.Passing.{passed, passes}
-use Rattle.theorems.proofs.Turn.{whole-steps}
-use Rattle.theorems.proofs.Ran.{steps-short}
-use Rattle.theorems.proofs.Entries.{entry-member, each-all}
+use Rattle.refusal.proofs.Rows.{cond-zero, cond-zero-elim}
+use Rattle.theorems.proofs.Runs.{steps-short}
+use Rattle.theorems.proofs.Entries.{eachOnce-has, allOf-stepsOn-intro, stepsOn-inTurn}
 use Rattle.theorems.proofs.FitList.{endOf, straight-fires, fit-fires}
-use Rattle.theorems.proofs.KeptPass.{KeptPass, fit-pass, rows-ask, rows-pass}
-use Rattle.theorems.proofs.ListRow.{row-once, once-row}
-use Rattle.theorems.proofs.EntryRows.{try-accepts, accepts-try}
+use Rattle.theorems.proofs.KeptRows.{KeptPass, fit-pass, keptRows-elim, keptRows-intro}
+use Rattle.theorems.proofs.ListRow.{listRow-elim, listRow-intro}
+use Rattle.theorems.proofs.EntryRows.{tryFrom-intro, tryFrom-elim}
 
 -- ---- lists of numbers
 
-list-same : (a b : List ℕ) → sameList a b ≡ true → a ≡ b
+sameList-elim : (a b : List ℕ) → sameList a b ≡ true → a ≡ b
 unfolding sameList
-list-same [] [] e = refl
-list-same [] (y ∷ b) e = cc
-list-same (x ∷ a) [] e = cc
-list-same (x ∷ a) (y ∷ b) e =
+sameList-elim [] [] e = refl
+sameList-elim [] (y ∷ b) e = cc
+sameList-elim (x ∷ a) [] e = cc
+sameList-elim (x ∷ a) (y ∷ b) e =
     let (h, r) = both (eqb x y) (sameList a b) e in
-    ap₂ (λ (z : ℕ) (l : List ℕ). z ∷ l) (eqb-true x y h) (list-same a b r)
+    ap₂ (λ (z : ℕ) (l : List ℕ). z ∷ l) (eqb-true x y h) (sameList-elim a b r)
 
-same-list : (a : List ℕ) → sameList a a ≡ true
+sameList-refl : (a : List ℕ) → sameList a a ≡ true
 unfolding sameList
-same-list [] = refl
-same-list (x ∷ a) = ap₂ (λ (s t : Bool). s && t) (eq-eqb x x refl) (same-list a)
+sameList-refl [] = refl
+sameList-refl (x ∷ a) = ap₂ (λ (s t : Bool). s && t) (eq-eqb x x refl) (sameList-refl a)
 
-pub positions-of : (p : List ℕ) → positions (map suc p) ≡ p
-positions-of [] = refl
-positions-of (i ∷ p) = let own : suc i - 1 ≡ i = omega arith in ap₂ (λ (x : ℕ) (l : List ℕ). x ∷ l) own (positions-of p)
+pub positions-suc : (p : List ℕ) → positions (map suc p) ≡ p
+positions-suc [] = refl
+positions-suc (i ∷ p) = let own : suc i - 1 ≡ i = omega arith in ap₂ (λ (x : ℕ) (l : List ℕ). x ∷ l) own (positions-suc p)
 
 -- ---- all rows
 
@@ -57,19 +56,20 @@ positions-of (i ∷ p) = let own : suc i - 1 ≡ i = omega arith in ap₂ (λ (x
 record Taken (from : ℕ) (new l : List Step) (o : List ℕ) (t : Tried) : Type 0 where
   fits : Fit from new l o
   second : t .second ≡ 0
-  fires : fireAll new from (stepsOn l (positions o)) ≡ some (t .marking)
+  fires : fireAll new from (stepsOn l (positions o)) ≡ some (t .marking .tokens)
 
 module _ (from : ℕ) (new l : List Step) (o : List ℕ) where
   abbrev straight : List ℕ
   straight = inTurn 0 (length l)
 
-  straight-taken : runsStraight from new l ≡ true → o ≡ map suc straight → Taken from new l o (tryAccepted (endOf from new l))
+  straight-taken : runsStraight from new l ≡ true → o ≡ map suc straight
+      → Taken from new l o (tryAccepted (endOf from new l))
   straight-taken h e =
       record {
         fits = record { positions = straight; numbered = e; fits = inl (record { whole = refl; runs = h }) };
         second = refl;
         fires =
-            ap (fireAll new from) (ap (λ (x : List ℕ). stepsOn l (positions x)) e ∙ ap (stepsOn l) (positions-of straight) ∙ whole-steps l)
+            ap (fireAll new from) (ap (λ (x : List ℕ). stepsOn l (positions x)) e ∙ ap (stepsOn l) (positions-suc straight) ∙ stepsOn-inTurn l)
             ∙ straight-fires from new l h;
       }
 
@@ -80,12 +80,12 @@ module _ (from : ℕ) (new l : List Step) (o : List ℕ) where
   rows-taken : KeptPass from new l → byRows .number ≡ 0 → Taken from new l o byRows
   unfolding isSome
   rows-taken k e =
-      let (row, is) = passed (λ (t : Tried). t .number) (listRow (keptOf new l) 0 1 o .number) _ _ refl e in
-      let (n, c) = row-once (keptOf new l) o row in
-      let a = accepts-try new l from 1 (positions o) (rw is at e) in
+      let (row, is) = cond-zero-elim (λ (t : Tried). t .number) (listRow (keptOf new l) 0 1 o .number) _ _ refl e in
+      let (n, c) = listRow-elim (keptOf new l) o row in
+      let a = tryFrom-elim new l from 1 (positions o) (rw is at e) in
       rw is
       (record {
-        fits = record { positions = positions o; numbered = n; fits = inr (record { once = c; order = a .order; same = each-all (sameStep new) l (positions o) (λ i h. k .same i (entry-member (keptOf new l) (positions o) c i h)); fires = rw (a .fires); limit = k .limit }) };
+        fits = record { positions = positions o; numbered = n; fits = inr (record { once = c; order = a .order; same = allOf-stepsOn-intro (sameStep new) l (positions o) (λ i h. k .same i (eachOnce-has (keptOf new l) (positions o) c i h)); fires = rw (a .fires); limit = k .limit }) };
         second = a .second;
         fires = a .fires;
       })
@@ -94,36 +94,39 @@ module _ (from : ℕ) (new l : List Step) (o : List ℕ) where
   unfolding tryList
   list-taken k e = go (runsStraight from new l && sameList o (map suc straight)) refl e
     where
-      go : (t : Bool) → (runsStraight from new l && sameList o (map suc straight)) ≡ t → cond t (tryAccepted (endOf from new l)) byRows .number ≡ 0 → Taken from new l o (cond t (tryAccepted (endOf from new l)) byRows)
-      go true h e = let (a, b) = both (runsStraight from new l) (sameList o (map suc straight)) h in straight-taken a (list-same o (map suc straight) b)
+      go : (t : Bool) → (runsStraight from new l && sameList o (map suc straight)) ≡ t
+          → cond t (tryAccepted (endOf from new l)) byRows .number ≡ 0
+          → Taken from new l o (cond t (tryAccepted (endOf from new l)) byRows)
+      go true h e = let (a, b) = both (runsStraight from new l) (sameList o (map suc straight)) h in straight-taken a (sameList-elim o (map suc straight) b)
       go false h e = rows-taken k e
 
   taken-rows : (p : List ℕ) → o ≡ map suc p → KeptFit from new l p → byRows .number ≡ 0
   taken-rows p e f =
-      let own : positions o ≡ p = ap positions e ∙ positions-of p in
-      let row : listRow (keptOf new l) 0 1 o .number ≡ 0 = once-row (keptOf new l) o (e ∙ ap (map suc) (sym own)) (rw own (f .once)) in
-      let runs = try-accepts new l from 1 _ p (f .order) (fit-fires from new l p (inr f)) in
-      ap (λ (t : Tried). t .number) (passes (listRow (keptOf new l) 0 1 o .number) _ _ row ∙ ap (tryFrom new l from 1) own ∙ runs)
+      let own : positions o ≡ p = ap positions e ∙ positions-suc p in
+      let row : listRow (keptOf new l) 0 1 o .number ≡ 0 = listRow-intro (keptOf new l) o (e ∙ ap (map suc) (sym own)) (rw own (f .once)) in
+      let runs = tryFrom-intro new l from 1 _ p (f .order) (fit-fires from new l p (inr f)) in
+      ap (λ (t : Tried). t .number) (cond-zero (listRow (keptOf new l) 0 1 o .number) _ _ row ∙ ap (tryFrom new l from 1) own ∙ runs)
 
   taken-list : Fit from new l o → tryList from new l o .number ≡ 0
   unfolding tryList
   taken-list f = go (runsStraight from new l && sameList o (map suc straight)) refl (f .fits)
     where
-      go : (t : Bool) → (runsStraight from new l && sameList o (map suc straight)) ≡ t → FitAt from new l (f .positions) → cond t (tryAccepted (endOf from new l)) byRows .number ≡ 0
+      go : (t : Bool) → (runsStraight from new l && sameList o (map suc straight)) ≡ t
+          → FitAt from new l (f .positions) → cond t (tryAccepted (endOf from new l)) byRows .number ≡ 0
       go true h a = refl
-      go false h (inl s) = let is : o ≡ map suc straight = f .numbered ∙ ap (map suc) (s .whole) in absurd (true≢false (sym (ap₂ (λ (x y : Bool). x && y) (s .runs) (rw is (same-list (map suc straight)))) ∙ h))
+      go false h (inl s) = let is : o ≡ map suc straight = f .numbered ∙ ap (map suc) (s .whole) in absurd (true≢false (sym (ap₂ (λ (x y : Bool). x && y) (s .runs) (rw is (sameList-refl (map suc straight)))) ∙ h))
       go false h (inr k) = taken-rows (f .positions) (f .numbered) k
 
   module _ (short : length l ≤ 64) (line : ℕ) where
     try-taken : tryRows line from new l o .number ≡ 0 → Taken from new l o (tryRows line from new l o)
     unfolding tryRows
     try-taken e =
-        let (row, is) = passed (λ (t : Tried). t .number) (keptRows line from new l .number) _ _ refl e in
-        rw is (list-taken (rows-ask from new l short line row) (rw is at e))
+        let (row, is) = cond-zero-elim (λ (t : Tried). t .number) (keptRows line from new l .number) _ _ refl e in
+        rw is (list-taken (keptRows-elim from new l short line row) (rw is at e))
 
     taken-try : Fit from new l o → tryRows line from new l o .number ≡ 0
     unfolding tryRows
-    taken-try f = rw (passes (keptRows line from new l .number) _ _ (rows-pass from new l short line (fit-pass from new l (f .positions) (f .fits)))) (taken-list f)
+    taken-try f = rw (cond-zero (keptRows line from new l .number) _ _ (keptRows-intro from new l short line (fit-pass from new l (f .positions) (f .fits)))) (taken-list f)
 
 -- ---- the operation
 
@@ -133,7 +136,7 @@ module _ (j : Job) (ok : Runs j) (o : List ℕ) where
 
   tried-rest : tried j o ≡ rest
   unfolding tried rest
-  tried-rest = passes (ran j .number) rest (tryStopped (ran j .number) (ran j .second)) ok
+  tried-rest = cond-zero (ran j .number) rest (tryStopped (ran j .number) (ran j .second)) ok
 
   taken : tried j o .number ≡ 0 → Taken (newStart j) (j .new) (stepsDone j) o (tried j o)
   unfolding rest
@@ -146,5 +149,6 @@ module _ (j : Job) (ok : Runs j) (o : List ℕ) where
   pub try-second : tried j o .number ≡ 0 → tried j o .second ≡ 0
   try-second e = taken e .second
 
-  pub try-marking : tried j o .number ≡ 0 → fireAll (j .new) (newStart j) (stepsOn (stepsDone j) (positions o)) ≡ some (tried j o .marking)
+  pub try-marking : tried j o .number ≡ 0
+      → fireAll (j .new) (newStart j) (stepsOn (stepsDone j) (positions o)) ≡ some (tried j o .marking .tokens)
   try-marking e = taken e .fires

@@ -11,20 +11,20 @@ use lib.ListN.{length, getD}
 use borrow.Author.Tests.{eq-eqb, ne-eqb}
 use Rattle.mask.specs.Mask.{has, membersFrom, members}
 use Rattle.slice.specs.Order.{times}
-use Rattle.theorems.proofs.Entries.{once, each-entry}
+use Rattle.theorems.proofs.Entries.{times-head, times-cons-elim}
 
 -- ---- the entries of a list, by their positions in it
 
 pub entry-at : (o : List ℕ) (k : ℕ) → k < length o → 0 < times (getD o k 0) o
 unfolding times
 entry-at [] k h = absurd (omega arith)
-entry-at (x ∷ o) zero h = once x (times x o)
+entry-at (x ∷ o) zero h = times-head x (times x o)
 entry-at (x ∷ o) (suc k) h = let n : 0 < times (getD o k 0) o = entry-at o k (omega arith) in omega arith
 
 pub at-entry : (o : List ℕ) (i : ℕ) → 0 < times i o → (k : ℕ) × (k < length o) × (getD o k 0 ≡ i)
 unfolding times
 at-entry [] i n = absurd (omega arith)
-at-entry (x ∷ o) i n = each-entry (λ i. (k : ℕ) × (k < suc (length o)) × (getD (x ∷ o) k 0 ≡ i)) x o (0, omega arith, refl) (λ i n. let (k, h, e) = at-entry o i n in (suc k, omega arith, e)) i n
+at-entry (x ∷ o) i n = times-cons-elim (λ i. (k : ℕ) × (k < suc (length o)) × (getD (x ∷ o) k 0 ≡ i)) x o (0, omega arith, refl) (λ i n. let (k, h, e) = at-entry o i n in (suc k, omega arith, e)) i n
 
 -- every entry is below n
 abbrev pub Below : ℕ → List ℕ → Type 0
@@ -34,7 +34,7 @@ Below n o = (k : ℕ) → 0 < times k o → k < n
 pub map-entry : (f : ℕ → ℕ) (o : List ℕ) (i : ℕ) → 0 < times i (map f o) → (x : ℕ) × (0 < times x o) × (f x ≡ i)
 unfolding times
 map-entry f [] i n = absurd (omega arith)
-map-entry f (x ∷ o) i n = each-entry (λ i. (y : ℕ) × (0 < times y (x ∷ o)) × (f y ≡ i)) (f x) (map f o) (x, once x (times x o), refl) (λ i n. let (y, h, e) = map-entry f o i n in (y, omega arith, e)) i n
+map-entry f (x ∷ o) i n = times-cons-elim (λ i. (y : ℕ) × (0 < times y (x ∷ o)) × (f y ≡ i)) (f x) (map f o) (x, times-head x (times x o), refl) (λ i n. let (y, h, e) = map-entry f o i n in (y, omega arith, e)) i n
 
 -- ---- rising lists
 
@@ -49,7 +49,8 @@ from-low (suc c) v m k h = go (has m v) k h (from-low c (suc v) m)
     rest : List ℕ
     rest = membersFrom (suc v) c m
 
-    go : (t : Bool) (k : ℕ) → k < length (cond t (v ∷ rest) rest) → ((k : ℕ) → k < length rest → suc v ≤ getD rest k 0) → v ≤ getD (cond t (v ∷ rest) rest) k 0
+    go : (t : Bool) (k : ℕ) → k < length (cond t (v ∷ rest) rest)
+        → ((k : ℕ) → k < length rest → suc v ≤ getD rest k 0) → v ≤ getD (cond t (v ∷ rest) rest) k 0
     go true zero h ih = omega arith
     go true (suc k) h ih = omega (arith, ih k (omega arith))
     go false k h ih = omega (arith, ih k h)
@@ -62,7 +63,8 @@ from-rises (suc c) v m j k l h = go (has m v) j k l h (from-rises c (suc v) m)
     rest : List ℕ
     rest = membersFrom (suc v) c m
 
-    go : (t : Bool) (j k : ℕ) → j < k → k < length (cond t (v ∷ rest) rest) → Rises rest → getD (cond t (v ∷ rest) rest) j 0 < getD (cond t (v ∷ rest) rest) k 0
+    go : (t : Bool) (j k : ℕ) → j < k → k < length (cond t (v ∷ rest) rest) → Rises rest
+        → getD (cond t (v ∷ rest) rest) j 0 < getD (cond t (v ∷ rest) rest) k 0
     go true zero (suc k) l h ih = from-low c (suc v) m k (omega arith)
     go true (suc j) (suc k) l h ih = ih j k (omega arith) (omega arith)
     go true j zero l h ih = absurd (omega arith)
@@ -91,13 +93,14 @@ module _ (ks : List ℕ) (up : Rises ks) where
     where
       go : Dec (x ≡ k) → eqb (at x) (at k) ≡ eqb x k
       go (yes e) = rw e (eq-eqb (at k) (at k) refl ∙ sym (eq-eqb k k refl))
-      go (no n) = ne-eqb (at x) (at k) (λ e. n (at-one x k (b x (once x (times x o))) h e)) ∙ sym (ne-eqb x k n)
+      go (no n) = ne-eqb (at x) (at k) (λ e. n (at-one x k (b x (times-head x (times x o))) h e)) ∙ sym (ne-eqb x k n)
 
   -- positions that are all candidates'
-  pub find-at : (p : List ℕ) → ((i : ℕ) → 0 < times i p → 0 < times i ks) → (q : List ℕ) × (p ≡ map at q) × Below (length ks) q
+  pub find-at : (p : List ℕ) → ((i : ℕ) → 0 < times i p → 0 < times i ks)
+      → (q : List ℕ) × (p ≡ map at q) × Below (length ks) q
   unfolding times
   find-at [] h = ([], refl, λ k n. absurd (omega arith))
   find-at (i ∷ p) h =
-      let (k, low, e) = at-entry ks i (h i (once i (times i p))) in
+      let (k, low, e) = at-entry ks i (h i (times-head i (times i p))) in
       let (q, is, b) = find-at p (λ i n. h i (omega arith)) in
-      (k ∷ q, ap₂ (λ (x : ℕ) (l : List ℕ). x ∷ l) (sym e) is, each-entry (λ x. x < length ks) k q low b)
+      (k ∷ q, ap₂ (λ (x : ℕ) (l : List ℕ). x ∷ l) (sym e) is, times-cons-elim (λ x. x < length ks) k q low b)

@@ -37,14 +37,17 @@ spares s t h = record { read = λ v r. free v (has-or (t .reads) (t .writes) v �
 
 module _ {T : Type 0} (f : Work T) where
   -- in a variable that s does not write
-  commute-at : (i j : ℕ) (s t : Step) (σ : Store T) (v : ℕ) → Spares s t → has (s .writes) v ≡ false → perform f i s (perform f j t σ) v ≡ perform f j t (perform f i s σ) v
+  commute-at : (i j : ℕ) (s t : Step) (σ : Store T) (v : ℕ) → Spares s t → has (s .writes) v ≡ false
+      → perform f i s (perform f j t σ) v ≡ perform f j t (perform f i s σ) v
   commute-at i j s t σ v p w =
       unwritten f i s (perform f j t σ) v w
       ∙ sym (perform-agree f j t (perform f i s σ) σ v (λ u r. unwritten f i s σ u (p .read u r)) (λ e. unwritten f i s σ v w))
 
-  pub commute : (i j : ℕ) (s t : Step) (σ : Store T) → clash s t ≡ false → perform f i s (perform f j t σ) ≡ perform f j t (perform f i s σ)
+  pub commute : (i j : ℕ) (s t : Step) (σ : Store T) → clash s t ≡ false
+      → perform f i s (perform f j t σ) ≡ perform f j t (perform f i s σ)
   commute i j s t σ h = fun-ext (λ v. go v (has (t .writes) v) refl)
     where
-      go : (v : ℕ) (b : Bool) → has (t .writes) v ≡ b → perform f i s (perform f j t σ) v ≡ perform f j t (perform f i s σ) v
+      go : (v : ℕ) (b : Bool) → has (t .writes) v ≡ b
+          → perform f i s (perform f j t σ) v ≡ perform f j t (perform f i s σ) v
       go v true w = commute-at i j s t σ v (spares s t h) (spares s t h .written v w)
       go v false w = sym (commute-at j i t s σ v (spares t s (clash-comm t s ∙ h)) w)

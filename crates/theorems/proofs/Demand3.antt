@@ -14,11 +14,11 @@ use Rattle.matching.specs.Straight.{fireAll, stepsOn}
 use Rattle.trying.specs.Try.{tried}
 use Rattle.judging.specs.Judge.{judged}
 use Rattle.theorems.specs.Demand3.{Runs, stepsDone, nameAt, positions, Accepted, FitFor, ordered, Own, Demand3}
-use Rattle.theorems.proofs.Ran.{done-named}
+use Rattle.theorems.proofs.Runs.{done-named}
 use Rattle.theorems.proofs.Accepts.{try-fit, try-second, try-marking}
 use Rattle.theorems.proofs.Judge.{judge-given, judge-marking}
 use Rattle.theorems.proofs.Markings.{same-marking}
-use Rattle.theorems.proofs.Carried.{carried}
+use Rattle.theorems.proofs.AcceptedReplay.{carried}
 
 accepted-fit : (j : Job) (o : List ℕ) → Runs j → Accepted j o ↔ FitFor j o
 accepted-fit j o ok = (
@@ -32,9 +32,12 @@ unfolding names stepsOn
 names-on j ok [] = refl
 names-on j ok (i ∷ p) = ap₂ (λ (n : ℕ) (l : List ℕ). n ∷ l) (done-named j ok i) (names-on j ok p)
 
-same-places : (j j′ : Job) (o o′ : List ℕ) → j .newPlaces ≡ j′ .newPlaces → j .new ≡ j′ .new → Runs j → Runs j′ → Accepted j o → Accepted j′ o′ → ((n : ℕ) → times n (map (nameAt j) (positions o)) ≡ times n (map (nameAt j′) (positions o′))) → tried j o .marking ≡ tried j′ o′ .marking
+same-places : (j j′ : Job) (o o′ : List ℕ) → j .newPlaces ≡ j′ .newPlaces → j .new ≡ j′ .new → Runs j → Runs j′
+    → Accepted j o → Accepted j′ o′
+    → ((n : ℕ) → times n (map (nameAt j) (positions o)) ≡ times n (map (nameAt j′) (positions o′)))
+    → tried j o .marking .tokens ≡ tried j′ o′ .marking .tokens
 same-places j j′ o o′ places new ok ok′ a a′ c =
-    same-marking (j .new) (newStart j) (tried j o .marking) (tried j′ o′ .marking) (stepsOn (stepsDone j) (positions o)) (stepsOn (stepsDone j′) (positions o′))
+    same-marking (j .new) (newStart j) (tried j o .marking .tokens) (tried j′ o′ .marking .tokens) (stepsOn (stepsDone j) (positions o)) (stepsOn (stepsDone j′) (positions o′))
     (try-marking j ok o (a .0))
     (ap₂ (λ (n : ℕ) (s : List Step). fireAll s (start n s) (stepsOn (stepsDone j′) (positions o′))) places new ∙ try-marking j′ ok′ o′ (a′ .0))
     (λ n. ap (times n) (names-on j ok (positions o)) ∙ c n ∙ sym (ap (times n) (names-on j′ ok′ (positions o′))))
@@ -42,7 +45,7 @@ same-places j j′ o o′ places new ok ok′ a a′ c =
 own-accepted : (j : Job) (room : ℕ) → Runs j → judged j room .number ≡ 0 → Own j room
 own-accepted j room ok e =
     let a = accepted-fit j (ordered j room) ok .1 (judge-given j room ok e .fit) in
-    let same : tried j (ordered j room) .marking ≡ judged j room .marking = Option·some-injective _ _ (sym (try-marking j ok (ordered j room) (a .0)) ∙ judge-marking j room ok e) in
+    let same : tried j (ordered j room) .marking .tokens ≡ judged j room .marking .tokens = Option·some-injective _ _ (sym (try-marking j ok (ordered j room) (a .0)) ∙ judge-marking j room ok e) in
     record { accepted = a; marking = same; replayed = λ T f. let r = carried j ok (ordered j room) (a .0) f in (r .whole, r .marking ∙ same) }
 
 pub demand3 : Demand3

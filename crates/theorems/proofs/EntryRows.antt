@@ -15,27 +15,28 @@ use Rattle.matching.specs.Straight.{fireStep, fireAll, stepsOn}
 use Rattle.trying.specs.Try.{tryStopped, tryAccepted, tryFire, tryFrom}
 use Rattle.trying.specs.declared.Tried.{Tried}
 use Rattle.theorems.proofs.Fires.{fire-on}
-use Rattle.theorems.proofs.Entries.{head-order}
+use Rattle.theorems.proofs.Entries.{inOrder-cons}
 
 module _ (new l : List Step) where
-  pub try-accepts : (m at e : ℕ) (p : List ℕ) → inOrder l p ≡ true → fireAll new m (stepsOn l p) ≡ some e → tryFrom new l m at p ≡ tryAccepted e
+  pub tryFrom-intro : (m at e : ℕ) (p : List ℕ) → inOrder l p ≡ true → fireAll new m (stepsOn l p) ≡ some e
+      → tryFrom new l m at p ≡ tryAccepted e
   unfolding tryFrom tryFire fireAll stepsOn
-  try-accepts m at e [] a h = ap tryAccepted (Option·some-injective m e h)
-  try-accepts m at e (i ∷ p) a h =
-      let (n, b) = head-order l i p a in
+  tryFrom-intro m at e [] a h = ap tryAccepted (Option·some-injective m e h)
+  tryFrom-intro m at e (i ∷ p) a h =
+      let (n, b) = inOrder-cons l i p a in
       let r = fire-on m (lookup (getD l i blank .name) new) (λ m′. fireAll new m′ (stepsOn l p)) e h in
-      rw (n, r .there, r .fires) (try-accepts (fire m (r .step)) (at + 1) e p b (r .onward))
+      rw (n, r .there, r .fires) (tryFrom-intro (fire m (r .step)) (at + 1) e p b (r .onward))
 
   -- what a list has that no row refuses
   pub record InTurn (m : ℕ) (p : List ℕ) (t : Tried) : Type 0 where
     pub second : t .second ≡ 0
     pub order : inOrder l p ≡ true
-    pub fires : fireAll new m (stepsOn l p) ≡ some (t .marking)
+    pub fires : fireAll new m (stepsOn l p) ≡ some (t .marking .tokens)
 
-  pub accepts-try : (m at : ℕ) (p : List ℕ) → tryFrom new l m at p .number ≡ 0 → InTurn m p (tryFrom new l m at p)
+  pub tryFrom-elim : (m at : ℕ) (p : List ℕ) → tryFrom new l m at p .number ≡ 0 → InTurn m p (tryFrom new l m at p)
   unfolding tryFrom tryFire fireAll fireStep stepsOn inOrder
-  accepts-try m at [] e = record { second = refl; order = refl; fires = refl }
-  accepts-try m at (i ∷ p) e = go (noneOf (comesAfter l i) p) refl (lookup (getD l i blank .name) new) refl e (λ m′. accepts-try m′ (at + 1) p)
+  tryFrom-elim m at [] e = record { second = refl; order = refl; fires = refl }
+  tryFrom-elim m at (i ∷ p) e = go (noneOf (comesAfter l i) p) refl (lookup (getD l i blank .name) new) refl e (λ m′. tryFrom-elim m′ (at + 1) p)
     where
       next : ℕ → Tried
       next m′ = tryFrom new l m′ (at + 1) p
@@ -43,11 +44,13 @@ module _ (new l : List Step) where
       Goes : Tried → Type 0
       Goes t = t .number ≡ 0 → ((m′ : ℕ) → next m′ .number ≡ 0 → InTurn m′ p (next m′)) → InTurn m (i ∷ p) t
 
-      fired : noneOf (comesAfter l i) p ≡ true → (s : Step) → lookup (getD l i blank .name) new ≡ some s → (c : Bool) → canFire m s ≡ c → Goes (cond c (next (fire m s)) (tryStopped 18 at))
+      fired : noneOf (comesAfter l i) p ≡ true → (s : Step) → lookup (getD l i blank .name) new ≡ some s → (c : Bool)
+          → canFire m s ≡ c → Goes (cond c (next (fire m s)) (tryStopped 18 at))
       fired n s h true c e ih = let r = ih (fire m s) e in record { second = r .second; order = ap₂ (λ (x y : Bool). x && y) n (r .order); fires = rw (h, c) (r .fires) }
       fired n s h false c e ih = absurd (omega arith)
 
-      go : (b : Bool) → noneOf (comesAfter l i) p ≡ b → (q : Option Step) → lookup (getD l i blank .name) new ≡ q → Goes (cond b (tryFire m at q next) (tryStopped 17 at))
+      go : (b : Bool) → noneOf (comesAfter l i) p ≡ b → (q : Option Step) → lookup (getD l i blank .name) new ≡ q
+          → Goes (cond b (tryFire m at q next) (tryStopped 17 at))
       go true n (some s) h e ih = fired n s h (canFire m s) refl e ih
       go true n none h e ih = absurd (omega arith)
       go false n q h e ih = absurd (omega arith)

@@ -32,7 +32,8 @@ fires-to : (m : ℕ) (q : Option Step) (s : Step) → q ≡ some s → canFire m
 fires-to m q s e c = subst (λ (x : Option Step). FiresTo m x (fire m s)) (sym e) (c, refl)
 
 module _ {T : Type 0} (f : Work T) (steps : List Step) (name : ℕ → ℕ) (l : List Step) (named : (i : ℕ) → getD l i blank .name ≡ name i) where
-  pub replay-fires : (m e : ℕ) (σ : Store T) (o : List ℕ) → fireAll steps m (stepsOn l o) ≡ some e → (replayFrom f steps name m σ o .whole ≡ true) × (replayFrom f steps name m σ o .marking ≡ e)
+  pub replay-fires : (m e : ℕ) (σ : Store T) (o : List ℕ) → fireAll steps m (stepsOn l o) ≡ some e
+      → (replayFrom f steps name m σ o .whole ≡ true) × (replayFrom f steps name m σ o .marking ≡ e)
   unfolding fireAll stepsOn replayFrom replayStep
   replay-fires m e σ [] h = (refl, Option·some-injective m e h)
   replay-fires m e σ (i ∷ o) h =
@@ -41,7 +42,8 @@ module _ {T : Type 0} (f : Work T) (steps : List Step) (name : ℕ → ℕ) (l :
       rw (there, r .fires) (replay-fires (fire m (r .step)) e (perform f i (r .step) σ) o (r .onward))
 
   -- a marking after each entry, by firing its step on the one before
-  pub replay-turns : (m e : ℕ) (σ : Store T) (o : List ℕ) → fireAll steps m (stepsOn l o) ≡ some e → InTurn steps name m o (replayFrom f steps name m σ o .passed)
+  pub replay-turns : (m e : ℕ) (σ : Store T) (o : List ℕ) → fireAll steps m (stepsOn l o) ≡ some e
+      → InTurn steps name m o (replayFrom f steps name m σ o .passed)
   unfolding fireAll stepsOn replayFrom replayStep
   replay-turns m e σ [] h = tt
   replay-turns m e σ (i ∷ o) h =

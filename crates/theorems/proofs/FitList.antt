@@ -14,9 +14,10 @@ use Rattle.route.specs.declared.Step.{Step}
 use Rattle.slice.specs.Order.{times}
 use Rattle.search.specs.Search.{isSome}
 use Rattle.matching.specs.Straight.{allOf, sameStep, fireAll, stepsOn, runsStraight}
+use Rattle.matching.proofs.AllOf.{allOf-elim}
 use Rattle.matching.specs.Fit.{KeptFit, FitAt}
-use Rattle.theorems.proofs.Entries.{all-at, all-each}
-use Rattle.theorems.proofs.Turn.{turn-below, whole-steps}
+use Rattle.slice.proofs.InTurn.{times-inTurn}
+use Rattle.theorems.proofs.Entries.{allOf-stepsOn-elim, stepsOn-inTurn}
 
 some-of : (q : Option ℕ) → isSome q ≡ true → q ≡ some (Option·getD q 0)
 unfolding isSome
@@ -30,18 +31,19 @@ endOf from new s = Option·getD (fireAll new from s) 0
 module _ (from : ℕ) (new l : List Step) where
   pub straight-same : runsStraight from new l ≡ true → (i : ℕ) → i < length l → sameStep new (getD l i blank) ≡ true
   unfolding runsStraight
-  straight-same h = all-at (sameStep new) l (both (allOf (sameStep new) l) (isSome (fireAll new from l)) h .0)
+  straight-same h = allOf-elim (sameStep new) l (both (allOf (sameStep new) l) (isSome (fireAll new from l)) h .0)
 
   pub straight-fires : runsStraight from new l ≡ true → fireAll new from l ≡ some (endOf from new l)
   unfolding runsStraight
   straight-fires h = some-of (fireAll new from l) (both (allOf (sameStep new) l) (isSome (fireAll new from l)) h .1)
 
   pub fit-same : (p : List ℕ) → FitAt from new l p → (i : ℕ) → 0 < times i p → sameStep new (getD l i blank) ≡ true
-  fit-same p (inl s) i n = straight-same (s .runs) i (omega (arith, turn-below (length l) 0 i (rw (s .whole) at n)))
-  fit-same p (inr k) i n = all-each (sameStep new) l p (k .same) i n
+  fit-same p (inl s) i n = straight-same (s .runs) i (omega (arith, times-inTurn 0 (length l) i (rw (s .whole) at n)))
+  fit-same p (inr k) i n = allOf-stepsOn-elim (sameStep new) l p (k .same) i n
 
-  pub fit-fires : (p : List ℕ) → FitAt from new l p → fireAll new from (stepsOn l p) ≡ some (endOf from new (stepsOn l p))
-  fit-fires p (inl s) = let all : stepsOn l p ≡ l = ap (stepsOn l) (s .whole) ∙ whole-steps l in rw all (straight-fires (s .runs))
+  pub fit-fires : (p : List ℕ) → FitAt from new l p
+      → fireAll new from (stepsOn l p) ≡ some (endOf from new (stepsOn l p))
+  fit-fires p (inl s) = let all : stepsOn l p ≡ l = ap (stepsOn l) (s .whole) ∙ stepsOn-inTurn l in rw all (straight-fires (s .runs))
   fit-fires p (inr k) = some-of (fireAll new from (stepsOn l p)) (k .fires)
 
   -- in a job that doesn't run straight only a list of the kept is fit

@@ -1,29 +1,33 @@
--- Values: the order does not matter, and neither does what is not kept. Try and judge: what they accept and give. Main states it all.
+-- Values: the order does not matter, and neither does what is not kept. Try and judge: what they accept and give. Bytes: what print leaves
+-- and what comes back. Main states it all.
 pub mod Perform
 pub mod Drop
 pub mod Entries
 pub mod Commute
-pub mod Put
+pub mod Insertion
 pub mod Reorder
-pub mod Own
-pub mod Same
+pub mod MembersOrder
+pub mod KeptValues
 pub mod Replayed
 pub mod Fires
-pub mod Turn
-pub mod Ran
-pub mod Fresh
+pub mod Runs
+pub mod EachOnce
 pub mod FitList
-pub mod KeptPass
+pub mod Dictionary
+pub mod Candidates
+pub mod KeptRows
 pub mod ListRow
 pub mod EntryRows
 pub mod Accepts
-pub mod Dictionary
-pub mod Candidates
 pub mod Placed
-pub mod First
+pub mod FirstFit
 pub mod Judge
 pub mod Markings
-pub mod Carried
+pub mod AcceptedReplay
 pub mod Demand3
-pub mod Listing
+pub mod LastWriter
+pub mod Shown
+pub mod Printed
+pub mod ListingLength
+pub mod RoundTrip
 pub mod Main

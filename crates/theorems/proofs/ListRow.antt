@@ -14,7 +14,7 @@ use Rattle.refusal.specs.Rows.{pass, refuse}
 use Rattle.slice.specs.Order.{EachOnce}
 use Rattle.trying.specs.Try.{isKept, listRow}
 use Rattle.theorems.specs.Demand3.{positions}
-use Rattle.theorems.proofs.Fresh.{marks, fresh, marks-old, once-fresh, fresh-once}
+use Rattle.theorems.proofs.EachOnce.{marks, fresh, marks-old, eachOnce-elim, eachOnce-intro}
 use Rattle.mask.proofs.Count.{has-new}
 
 -- a list of numbers from 1 on is that of its positions
@@ -36,7 +36,10 @@ module _ (kept : ℕ) where
       go false h e = absurd (omega arith)
   row-lists seen at (b ∷ o) e = go (isKept kept b && not (has seen (b - 1))) refl e (row-lists (bitOr seen (bit (b - 1))) (at + 1) o)
     where
-      go : (t : Bool) → (isKept kept b && not (has seen (b - 1))) ≡ t → cond t (listRow kept (bitOr seen (bit (b - 1))) (at + 1) o) (refuse 16 at) .number ≡ 0 → (listRow kept (bitOr seen (bit (b - 1))) (at + 1) o .number ≡ 0 → Listed (bitOr seen (bit (b - 1))) o) → Listed seen (b ∷ o)
+      go : (t : Bool) → (isKept kept b && not (has seen (b - 1))) ≡ t
+          → cond t (listRow kept (bitOr seen (bit (b - 1))) (at + 1) o) (refuse 16 at) .number ≡ 0
+          → (listRow kept (bitOr seen (bit (b - 1))) (at + 1) o .number ≡ 0 → Listed (bitOr seen (bit (b - 1))) o)
+          → Listed seen (b ∷ o)
       go true h e ih =
           let r = ih e in
           let (k, n) = both (isKept kept b) (not (has seen (b - 1))) h in
@@ -55,10 +58,10 @@ module _ (kept : ℕ) where
       let k : has kept (b - 1) ≡ true = rw (← r .all) (marks-old (positions o) (bitOr seen (bit (b - 1))) f (b - 1) (has-new seen (b - 1))) in
       rw (le-leb 1 b (omega arith), k, n) (lists-row (bitOr seen (bit (b - 1))) (at + 1) o (record { numbered = rest; new = f; all = r .all }))
 
-  pub row-once : (o : List ℕ) → listRow kept 0 1 o .number ≡ 0 → Numbered o × EachOnce kept (positions o)
-  row-once o e = let r = row-lists 0 1 o e in (r .numbered, fresh-once (positions o) kept (r .new) (r .all))
+  pub listRow-elim : (o : List ℕ) → listRow kept 0 1 o .number ≡ 0 → Numbered o × EachOnce kept (positions o)
+  listRow-elim o e = let r = row-lists 0 1 o e in (r .numbered, eachOnce-intro (positions o) kept (r .new) (r .all))
 
-  pub once-row : (o : List ℕ) → Numbered o → EachOnce kept (positions o) → listRow kept 0 1 o .number ≡ 0
-  once-row o n c =
-      let (f, a) = once-fresh (positions o) kept c in
+  pub listRow-intro : (o : List ℕ) → Numbered o → EachOnce kept (positions o) → listRow kept 0 1 o .number ≡ 0
+  listRow-intro o n c =
+      let (f, a) = eachOnce-elim (positions o) kept c in
       lists-row 0 1 o (record { numbered = n; new = f; all = a })

@@ -1,12 +1,13 @@
--- The whole promise on one page: what is kept, what the table says, which lists are accepted, which list is given, and demand 3. Each is
--- proved in the file that its name is cited from.
+-- The whole promise on one page, in 01's order: the sheet, its bytes both ways, slice and precedence, fit orders, what judge gives and its
+-- listing shows, and demand 3. Each is proved in the file that its name is cited from. Code meets it through the contracts, which are
+-- equalities with the definitions that these theorems speak of.
 use mathlib.Core.Path.{_≡_}
 use mathlib.Core.Logic.{_↔_}
 use mathlib.Core.Bool.{true, false}
-use mathlib.Core.List.{List}
+use mathlib.Core.List.{List, _++_, map}
 use mathlib.Core.Option.{some}
 use Prim.Native.Nat.{ℕ, _≤_}
-use lib.ListN.{length, getD}
+use lib.ListN.{length, getD, drop}
 use Rattle.mask.specs.Mask.{has}
 use Rattle.route.specs.Steps.{blank}
 use Rattle.route.specs.declared.Step.{Step}
@@ -14,23 +15,109 @@ use Rattle.job.specs.Job.{Job, jobLine, newStart}
 use Rattle.slice.specs.Slice.{Kept, keptMask}
 use Rattle.slice.specs.Precedence.{comesAfter, row}
 use Rattle.slice.specs.Order.{inTurn, EachOnce, inOrder}
-use Rattle.slice.proofs.Closure.{kept-sound, kept-complete}
+use Rattle.slice.proofs.Closure.{kept-iff}
 use Rattle.slice.proofs.Laws.{silent-not-kept, row-exact}
 use Rattle.matching.specs.Straight.{fireAll, stepsOn}
 use Rattle.matching.specs.KeptRows.{keptRows}
 use Rattle.trying.specs.Try.{tried}
 use Rattle.judging.specs.Judge.{judged}
+use Rattle.layout.specs.Text.{jobText}
+use Rattle.layout.specs.Begins.{IsSheet, FirstBroken}
+use Rattle.facts.specs.Facts.{factsOf, readOf}
+use Rattle.facts.specs.JobPart.{jobPart}
+use Rattle.facts.specs.SheetRows.{sheetOf}
+use Rattle.facts.specs.Back.{AllWide, asRecord, asRecords}
+use Rattle.facts.proofs.RowOne.{row-1-iff, row-1-offset, read-sheet, sheet-facts}
+use Rattle.facts.proofs.PartText.{job-part-text}
+use Rattle.facts.proofs.Widths.{records-own}
+use Rattle.writer.specs.Writes.{wrote}
+use Rattle.writer.proofs.Trips.{write-reads}
+use Rattle.writer.proofs.Bound.{bounded}
+use Rattle.writer.proofs.Longest.{longest-reads}
+use Rattle.ops.specs.Print.{sheetAnswer, listingOf, printed, outPrinted}
+use Rattle.ops.specs.SheetTry.{triedSheet}
+use Rattle.examples.specs.Table.{AllPrint, table}
+use Rattle.examples.proofs.Examples.{examples}
 use Rattle.theorems.specs.Values.{Work, allBlank, performAll}
 use Rattle.theorems.specs.Demand3.{Runs, stepsDone, positions, FitFor, ordered, Demand3}
 use Rattle.theorems.specs.Given.{Given}
-use Rattle.theorems.proofs.Same.{same-values}
+use Rattle.theorems.specs.Sheets.{jobOn, SheetRuns, Movable, Moved, Refused}
+use Rattle.theorems.specs.Shows.{Shows}
+use Rattle.theorems.specs.RoundTrip.{bytesWritten, WritesBytes, countsRead, jobInto, ReadsInto}
+use Rattle.theorems.proofs.KeptValues.{kept-values}
 use Rattle.theorems.proofs.Accepts.{try-fit, try-second, try-marking}
 use Rattle.theorems.proofs.Judge.{judge-moves, judge-second, judge-given, judge-marking, judge-refuses, given-one}
+use Rattle.theorems.proofs.Shown.{judge-shows}
+use Rattle.theorems.proofs.Printed.{print-answer, print-leaves, print-moves, print-refuses, print-shows, try-sheet}
+use Rattle.theorems.proofs.ListingLength.{listing-length}
+use Rattle.theorems.proofs.RoundTrip.{read-then-write, write-then-read-lent, read-lent, read-then-write-lent}
 use Rattle.theorems.proofs.Demand3.{demand3}
 
--- the kept are "the last writer in the done list of each new-route variable, and all that these need, over and over"
+-- ---- "1: layout broken": "offset of the first byte where no sheet begins so, or the length if it ends early"
+
+-- reading answers 1 exactly where the bytes are no sheet
+pub row-1-exactly : (s : List ℕ) → (readOf s .number ≡ 1) ↔ (IsSheet s → ⊥)
+row-1-exactly = row-1-iff
+
+-- and its second number is that offset
+pub row-1-second : (s : List ℕ) → readOf s .number ≡ 1 → FirstBroken s (readOf s .second)
+row-1-second = row-1-offset
+
+-- sound: what isn't answered with 1 is a sheet
+pub reading-is-sound : (s : List ℕ) → (readOf s .number ≡ 1 → ⊥) → IsSheet s
+reading-is-sound = read-sheet
+
+-- complete: a sheet is answered by the rows of its lines
+pub reading-is-complete : (s : List ℕ) (x : IsSheet s) → readOf s ≡ factsOf (x .lines)
+reading-is-complete = sheet-facts
+
+-- ---- "A sheet that reads also has its job part lent back": "the caller's own bytes from `(job)` to the end"
+
+pub job-part-is-its-text : (s : List ℕ) → readOf s .number ≡ 0 → jobPart s ≡ jobText (jobOn s .done)
+job-part-is-its-text = job-part-text
+
+-- ---- "No sheet that reads is longer than 18,136 bytes."
+
+pub no-sheet-is-longer : (s : List ℕ) → readOf s .number ≡ 0 → length s ≤ 18136
+no-sheet-is-longer = bounded
+
+pub one-is-as-long : (s : List ℕ) × (length s ≡ 18136) × (readOf s .number ≡ 0)
+one-is-as-long = longest-reads
+
+-- ---- "Writing takes the same facts as records: each route is a lent list of step records"
+
+-- what write leaves is read as the records that it took
+pub written-is-read : (j : Job) (out : List ℕ) → wrote j (length out) .number ≡ 0
+    → readOf (bytesWritten j out) ≡ sheetOf (asRecords j)
+written-is-read = write-reads
+
+-- (and these are the same records, where their masks have the widths that they have in the code)
+pub records-are-their-own : (l : List Step) → AllWide l → map asRecord l ≡ l
+records-are-their-own = records-own
+
+-- what read takes, write gives back byte for byte
+pub read-is-written : (s out : List ℕ) → readOf s .number ≡ 0 → length s ≤ length out → WritesBytes (jobOn s) s out
+read-is-written = read-then-write
+
+-- the same over lent lists: what is written is read back into any lists long enough, and "entries past those filled keep their contents"
+pub written-is-read-into-lists : (j : Job) (out : List ℕ) → wrote j (length out) .number ≡ 0
+    → (old new : List Step) (done : List ℕ) → length (j .old) ≤ length old → length (j .new) ≤ length new
+    → length (j .done) ≤ length done → ReadsInto (bytesWritten j out) (asRecords j) old new done
+written-is-read-into-lists = write-then-read-lent
+
+-- what is read into lists is the sheet's job, and written again it gives the same bytes
+pub lists-hold-the-sheet : (s : List ℕ) (old new : List Step) (done : List ℕ) → countsRead s old new done .number ≡ 0
+    → ReadsInto s (jobOn s) old new done
+lists-hold-the-sheet = read-lent
+
+pub lists-are-written : (s : List ℕ) (old new : List Step) (done : List ℕ) → countsRead s old new done .number ≡ 0
+    → (out : List ℕ) → length s ≤ length out → WritesBytes (jobInto s old new done) s out
+lists-are-written = read-then-write-lent
+
+-- ---- "Kept: the last writer in the done list of each new-route variable, and all that these need, over and over."
+
 pub kept-is-the-closure : (l : List Step) (vars i : ℕ) → (has (keptMask l vars) i ≡ true) ↔ Kept l vars i
-kept-is-the-closure l vars i = (kept-sound l vars i, kept-complete l vars i)
+kept-is-the-closure = kept-iff
 
 -- "An occurrence that writes nothing is never kept."
 pub silent-is-not-kept : (l : List Step) (vars i : ℕ) → getD l i blank .writes ≡ 0 → has (keptMask l vars) i ≡ false
@@ -41,8 +128,12 @@ pub table-is-precedence : (l : List Step) (i j : ℕ) → has (row l i) j ≡ co
 table-is-precedence = row-exact
 
 -- the kept in any order that precedence allows leave in each wanted variable what all leave in their own order
-pub kept-carry-the-values : (T : Type 0) (f : Work T) (l : List Step) (vars : ℕ) (o : List ℕ) → EachOnce (keptMask l vars) o → inOrder l o ≡ true → (v : ℕ) → has vars v ≡ true → performAll f (λ i. getD l i blank) o allBlank v ≡ performAll f (λ i. getD l i blank) (inTurn 0 (length l)) allBlank v
-kept-carry-the-values T = same-values
+pub kept-carry-the-values : (T : Type 0) (f : Work T) (l : List Step) (vars : ℕ) (o : List ℕ)
+    → EachOnce (keptMask l vars) o → inOrder l o ≡ true → (v : ℕ) → has vars v ≡ true
+    → performAll f (λ i. getD l i blank) o allBlank v ≡ performAll f (λ i. getD l i blank) (inTurn 0 (length l)) allBlank v
+kept-carry-the-values T = kept-values
+
+-- ---- "Accepted: try answers it with 0, 0."
 
 -- try answers 0, 0 exactly when the list is fit, and gives the marking at the end of its firing
 pub try-accepts-the-fit : (j : Job) → Runs j → (o : List ℕ) → (tried j o .number ≡ 0) ↔ FitFor j o
@@ -51,17 +142,25 @@ try-accepts-the-fit = try-fit
 pub try-accepts-with-0 : (j : Job) → Runs j → (o : List ℕ) → tried j o .number ≡ 0 → tried j o .second ≡ 0
 try-accepts-with-0 = try-second
 
-pub try-gives-the-end : (j : Job) → Runs j → (o : List ℕ) → tried j o .number ≡ 0 → fireAll (j .new) (newStart j) (stepsOn (stepsDone j) (positions o)) ≡ some (tried j o .marking)
+pub try-gives-the-end : (j : Job) → Runs j → (o : List ℕ) → tried j o .number ≡ 0
+    → fireAll (j .new) (newStart j) (stepsOn (stepsDone j) (positions o)) ≡ some (tried j o .marking .tokens)
 try-gives-the-end = try-marking
 
+-- "the C form of try" takes sheet bytes, and accepts exactly the fit orders of the sheet's job
+pub try-on-bytes-accepts-the-fit : (s o : List ℕ) → (triedSheet s o .number ≡ 0) ↔ SheetRuns s × FitFor (jobOn s) o
+try-on-bytes-accepts-the-fit = try-sheet
+
+-- ---- "The engine gives the straight list if there is one; else, of all fit lists, the first in dictionary order of occurrence numbers."
+
 -- with room enough judge moves a job exactly when a fit list exists, and answers 13 exactly when the rows to 12 pass and none does
-pub judge-moves-where-one-fits : (j : Job) (room : ℕ) → Runs j → 8192 ≤ room → (judged j room .number ≡ 0) ↔ ((o : List ℕ) × FitFor j o)
+pub judge-moves-where-one-fits : (j : Job) (room : ℕ) → Runs j → 8192 ≤ room
+    → (judged j room .number ≡ 0) ↔ ((o : List ℕ) × FitFor j o)
 judge-moves-where-one-fits = judge-moves
 
-pub judge-refuses-where-none-fits : (j : Job) (room : ℕ) → Runs j → 8192 ≤ room → (judged j room .number ≡ 13) ↔ (keptRows (jobLine j) (newStart j) (j .new) (stepsDone j) .number ≡ 0) × ((o : List ℕ) → FitFor j o → ⊥)
+pub judge-refuses-where-none-fits : (j : Job) (room : ℕ) → Runs j → 8192 ≤ room
+    → (judged j room .number ≡ 13) ↔ (keptRows (jobLine j) (newStart j) (j .new) (stepsDone j) .number ≡ 0) × ((o : List ℕ) → FitFor j o → ⊥)
 judge-refuses-where-none-fits = judge-refuses
 
--- it gives the straight list, or else the first of all fit lists in dictionary order, with the marking at the end of its firing
 pub judge-moves-with-0 : (j : Job) (room : ℕ) → Runs j → judged j room .number ≡ 0 → judged j room .second ≡ 0
 judge-moves-with-0 = judge-second
 
@@ -71,9 +170,52 @@ judge-gives-the-first = judge-given
 pub judge-gives-the-only : (j : Job) (o q : List ℕ) → Given j o → Given j q → o ≡ q
 judge-gives-the-only = given-one
 
-pub judge-gives-the-end : (j : Job) (room : ℕ) → Runs j → judged j room .number ≡ 0 → fireAll (j .new) (newStart j) (stepsOn (stepsDone j) (positions (ordered j room))) ≡ some (judged j room .marking)
+-- with the marking at the end of its firing
+pub judge-gives-the-end : (j : Job) (room : ℕ) → Runs j → judged j room .number ≡ 0
+    → fireAll (j .new) (newStart j) (stepsOn (stepsDone j) (positions (ordered j room))) ≡ some (judged j room .marking .tokens)
 judge-gives-the-end = judge-marking
 
--- demand 3, whole
+-- ---- "A success gives 0, 0 and the facts that the listing shows"
+
+pub judge-shows-the-facts : (j : Job) (room : ℕ) → Runs j → judged j room .number ≡ 0 → Shows j (judged j room)
+judge-shows-the-facts = judge-shows
+
+-- ---- "For print, a refusal up to 13 is itself the listing and counts as success; success returns the bytes written."
+
+-- with a work slice of 8,192 bytes and room for it, print leaves the listing at the front of the out slice, and the rest as it was
+pub print-counts-the-listing : (s out : List ℕ) (work : ℕ) → 8192 ≤ work → length (listingOf s) ≤ length out
+    → printed s work (length out) ≡ record { number = 0; second = 0; written = length (listingOf s) }
+print-counts-the-listing = print-answer
+
+pub print-leaves-the-listing : (s out : List ℕ) (work : ℕ) → 8192 ≤ work → length (listingOf s) ≤ length out
+    → outPrinted s work out ≡ listingOf s ++ drop (length (listingOf s)) out
+print-leaves-the-listing = print-leaves
+
+-- (7,053 bytes are room for any)
+pub no-listing-is-longer : (s : List ℕ) → length (listingOf s) ≤ 7053
+no-listing-is-longer = listing-length
+
+-- demand 2 from bytes to bytes: it begins `(moved` exactly when the sheet reads, its old route runs its job and a fit order exists, and
+-- else `(refused`
+pub print-moves-where-one-fits : (s out : List ℕ) (work : ℕ) → 8192 ≤ work → length (listingOf s) ≤ length out
+    → Moved (outPrinted s work out) ↔ Movable s
+print-moves-where-one-fits = print-moves
+
+pub print-refuses-where-none-fits : (s out : List ℕ) (work : ℕ) → 8192 ≤ work → length (listingOf s) ≤ length out
+    → Refused (outPrinted s work out) ↔ (Movable s → ⊥)
+print-refuses-where-none-fits = print-refuses
+
+-- and what a `(moved` listing is made from means what 01 says
+pub print-shows-the-facts : (s out : List ℕ) (work : ℕ) → 8192 ≤ work → length (listingOf s) ≤ length out
+    → Moved (outPrinted s work out) → Shows (jobOn s) (sheetAnswer s)
+print-shows-the-facts = print-shows
+
+-- ---- "To be proved": examples A to L, from bytes to bytes
+
+pub every-example : AllPrint table
+every-example = examples
+
+-- ---- "All this is a single claim about the whole order, for all routes, done lists and functions, and not one for each firing."
+
 pub demand-3 : Demand3
 demand-3 = demand3

@@ -13,8 +13,8 @@ use Rattle.route.specs.declared.Step.{Step}
 use Rattle.route.proofs.Toggle.{fire-toggles}
 use Rattle.slice.specs.Order.{times}
 use Rattle.matching.specs.Straight.{fireAll}
-use Rattle.theorems.proofs.Entries.{once}
-use Rattle.theorems.proofs.Put.{Put, here, there, put-times, take-out}
+use Rattle.theorems.proofs.Entries.{times-head}
+use Rattle.theorems.proofs.Insertion.{Insertion, here, there, insertion-times, take-out}
 use Rattle.theorems.proofs.Fires.{fire-on}
 
 -- the places that a step toggles
@@ -41,7 +41,7 @@ module _ (steps : List Step) where
       ∙ ap (λ (q : Option Step). bitXor m (bitXor (toggleOf q) (toggles (names l)))) (sym (r .there))
 
   -- the one put in comes to the front
-  put-toggles : {x : ℕ} {r k : List ℕ} → Put x r k → toggles k ≡ bitXor (toggleOf (lookup x steps)) (toggles r)
+  put-toggles : {x : ℕ} {r k : List ℕ} → Insertion x r k → toggles k ≡ bitXor (toggleOf (lookup x steps)) (toggles r)
   unfolding toggles
   put-toggles here = refl
   put-toggles {x = x} (there {y = y} {r = r} p) = ap (bitXor (toggleOf (lookup y steps))) (put-toggles p) ∙ swap (toggleOf (lookup y steps)) (toggleOf (lookup x steps)) (toggles r)
@@ -49,10 +49,11 @@ module _ (steps : List Step) where
   same-toggles : (a b : List ℕ) → ((n : ℕ) → times n a ≡ times n b) → toggles a ≡ toggles b
   unfolding toggles times
   same-toggles [] [] c = refl
-  same-toggles [] (y ∷ b) c = absurd (omega (arith, c y, once y (times y b)))
+  same-toggles [] (y ∷ b) c = absurd (omega (arith, c y, times-head y (times y b)))
   same-toggles (x ∷ a) b c =
-      let (r, p) = take-out x b (omega (arith, c x, once x (times x a))) in
-      ap (bitXor (toggleOf (lookup x steps))) (same-toggles a r (λ i. omega (arith, c i, put-times p i))) ∙ sym (put-toggles p)
+      let (r, p) = take-out x b (omega (arith, c x, times-head x (times x a))) in
+      ap (bitXor (toggleOf (lookup x steps))) (same-toggles a r (λ i. omega (arith, c i, insertion-times p i))) ∙ sym (put-toggles p)
 
-  pub same-marking : (m e e′ : ℕ) (a b : List Step) → fireAll steps m a ≡ some e → fireAll steps m b ≡ some e′ → ((n : ℕ) → times n (names a) ≡ times n (names b)) → e ≡ e′
+  pub same-marking : (m e e′ : ℕ) (a b : List Step) → fireAll steps m a ≡ some e → fireAll steps m b ≡ some e′
+      → ((n : ℕ) → times n (names a) ≡ times n (names b)) → e ≡ e′
   same-marking m e e′ a b h k c = fires-toggle m e a h ∙ ap (bitXor m) (same-toggles (names a) (names b) c) ∙ sym (fires-toggle m e′ b k)

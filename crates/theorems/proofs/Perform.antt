@@ -24,7 +24,8 @@ module _ {T : Type 0} where
   map-members zero w m σ τ a = refl
   map-members (suc k) w m σ τ a = go (has m w) refl (map-members k (suc w) m σ τ a)
     where
-      go : (t : Bool) → has m w ≡ t → map σ (membersFrom (suc w) k m) ≡ map τ (membersFrom (suc w) k m) → map σ (cond t (w ∷ membersFrom (suc w) k m) (membersFrom (suc w) k m)) ≡ map τ (cond t (w ∷ membersFrom (suc w) k m) (membersFrom (suc w) k m))
+      go : (t : Bool) → has m w ≡ t → map σ (membersFrom (suc w) k m) ≡ map τ (membersFrom (suc w) k m)
+          → map σ (cond t (w ∷ membersFrom (suc w) k m) (membersFrom (suc w) k m)) ≡ map τ (cond t (w ∷ membersFrom (suc w) k m) (membersFrom (suc w) k m))
       go true h ih = ap₂ (λ (x : Option T) (y : List (Option T)). x ∷ y) (a w h) ih
       go false h ih = ih
 
@@ -34,10 +35,12 @@ module _ {T : Type 0} where
     unwritten σ v w = rw w
 
     -- the same readings, and the same in v unless it is written: the same in v afterwards
-    pub perform-agree : (σ τ : Store T) (v : ℕ) → Agree (s .reads) σ τ → (has (s .writes) v ≡ false → σ v ≡ τ v) → perform f i s σ v ≡ perform f i s τ v
+    pub perform-agree : (σ τ : Store T) (v : ℕ) → Agree (s .reads) σ τ → (has (s .writes) v ≡ false → σ v ≡ τ v)
+        → perform f i s σ v ≡ perform f i s τ v
     unfolding perform readings members
     perform-agree σ τ v a same = go (has (s .writes) v) same
       where
-        go : (t : Bool) → (t ≡ false → σ v ≡ τ v) → cond t (some (f i v (readings (s .reads) σ))) (σ v) ≡ cond t (some (f i v (readings (s .reads) τ))) (τ v)
+        go : (t : Bool) → (t ≡ false → σ v ≡ τ v)
+            → cond t (some (f i v (readings (s .reads) σ))) (σ v) ≡ cond t (some (f i v (readings (s .reads) τ))) (τ v)
         go true h = ap (λ (r : List (Option T)). some (f i v r)) (map-members 32 0 (s .reads) σ τ a)
         go false h = h refl

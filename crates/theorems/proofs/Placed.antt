@@ -23,10 +23,10 @@ use Rattle.matching.specs.Straight.{fireStep, fireAll, stepsOn}
 use Rattle.search.specs.Search.{fireNext}
 use Rattle.judging.specs.Placing.{before, placeNext}
 use Rattle.search.proofs.Finds.{Allowed, done, then}
-use Rattle.theorems.proofs.Entries.{once, each-entry, none-each, each-none, head-order}
-use Rattle.theorems.proofs.Own.{not-after}
+use Rattle.theorems.proofs.Entries.{times-head, times-cons-elim, noneOf-elim, noneOf-intro, inOrder-cons}
+use Rattle.theorems.proofs.MembersOrder.{comesAfter-le}
 use Rattle.mask.proofs.Count.{one, one-some, one-same, has-more}
-use Rattle.theorems.proofs.Fresh.{fresh, fresh-out, one-more}
+use Rattle.theorems.proofs.EachOnce.{fresh, fresh-out, one-more}
 use Rattle.theorems.proofs.Fires.{FireOn, fire-on}
 use Rattle.theorems.proofs.Candidates.{Below, Rises, map-entry, times-at}
 
@@ -40,7 +40,8 @@ next-fires m m′ (some s) next e = go (canFire m s) e
     go true e = ap next (Option·some-injective (fire m s) m′ e)
     go false e = absurd (Option·none-ne-some m′ e)
 
-fires-next : (m e : ℕ) (q : Option Step) (next : ℕ → Option ℕ) (r : FireOn m q next e) → fireNext m q ≡ some (fire m (r .step))
+fires-next : (m e : ℕ) (q : Option Step) (next : ℕ → Option ℕ) (r : FireOn m q next e)
+    → fireNext m q ≡ some (fire m (r .step))
 unfolding fireNext
 fires-next m e q next r = rw (r .there, r .fires)
 
@@ -65,7 +66,8 @@ module _ (new l : List Step) (ks : List ℕ) (up : Rises ks) where
   unfolding placeNext
   next-one placed m k m′ e = go (not (has placed k) && within (before l ks k) placed) refl e
     where
-      go : (t : Bool) → (not (has placed k) && within (before l ks k) placed) ≡ t → cond t (fireNext m (stepOf k)) none ≡ some m′ → Next placed m k m′
+      go : (t : Bool) → (not (has placed k) && within (before l ks k) placed) ≡ t
+          → cond t (fireNext m (stepOf k)) none ≡ some m′ → Next placed m k m′
       go true h e = let (a, b) = both (not (has placed k)) (within (before l ks k) placed) h in record { fresh-one = not-true (has placed k) a; after = b; fires = e }
       go false h e = absurd (Option·none-ne-some m′ e)
 
@@ -82,8 +84,9 @@ module _ (new l : List Step) (ks : List ℕ) (up : Rises ks) where
     pub fires : fireAll new m (stepsOn l (map at o)) ≡ some end
 
   -- none of those that stand after k are placed when k is, so k comes after none of them
-  none-after : (placed m k m′ : ℕ) (o : List ℕ) → Next placed m k m′ → Below (length ks) o → fresh (bitOr placed (bit k)) o ≡ true → noneOf (comesAfter l (at k)) (map at o) ≡ true
-  none-after placed m k m′ o r b f = each-none (comesAfter l (at k)) (map at o) (λ i n. let (x, h, e) = map-entry at o i n in rw (← e) (go x h (comesAfter l (at k) (at x)) refl))
+  none-after : (placed m k m′ : ℕ) (o : List ℕ) → Next placed m k m′ → Below (length ks) o
+      → fresh (bitOr placed (bit k)) o ≡ true → noneOf (comesAfter l (at k)) (map at o) ≡ true
+  none-after placed m k m′ o r b f = noneOf-intro (comesAfter l (at k)) (map at o) (λ i n. let (x, h, e) = map-entry at o i n in rw (← e) (go x h (comesAfter l (at k) (at x)) refl))
     where
       go : (x : ℕ) → 0 < times x o → (t : Bool) → comesAfter l (at k) (at x) ≡ t → t ≡ false
       go x h true e =
@@ -93,14 +96,15 @@ module _ (new l : List Step) (ks : List ℕ) (up : Rises ks) where
           sym more ∙ fresh-out o (bitOr placed (bit k)) f x h
       go x h false e = refl
 
-  pub allowed-placed : {placed m : ℕ} {o : List ℕ} → Allowed (placeNext new l ks) (length ks) placed m o → Placed placed m o
+  pub allowed-placed : {placed m : ℕ} {o : List ℕ} → Allowed (placeNext new l ks) (length ks) placed m o
+      → Placed placed m o
   unfolding fresh inOrder fireAll stepsOn times
   allowed-placed {placed} {m} done = record { low = λ k n. absurd (omega arith); each = refl; order = refl; end = m; fires = refl }
   allowed-placed {placed} {m} (then {k = k} {m′ = m′} {o = o} low a r) =
       let p = allowed-placed r in
       let s = next-one placed m k m′ a in
       record {
-        low = each-entry (λ x. x < length ks) k o low (p .low);
+        low = times-cons-elim (λ x. x < length ks) k o low (p .low);
         each = rw (s .fresh-one) (p .each);
         order = ap₂ (λ (x y : Bool). x && y) (none-after placed m k m′ o s (p .low) (p .each)) (p .order);
         end = p .end;
@@ -112,24 +116,27 @@ module _ (new l : List Step) (ks : List ℕ) (up : Rises ks) where
   Rest placed q = (k : ℕ) → k < length ks → one (has placed k) + times k q ≡ 1
 
   -- those that k comes after don't stand after it, so they are placed
-  all-before : (placed k : ℕ) (q : List ℕ) → Below (length ks) q → Rest placed (k ∷ q) → noneOf (comesAfter l (at k)) (map at q) ≡ true → within (before l ks k) placed ≡ true
+  all-before : (placed k : ℕ) (q : List ℕ) → Below (length ks) q → Rest placed (k ∷ q)
+      → noneOf (comesAfter l (at k)) (map at q) ≡ true → within (before l ks k) placed ≡ true
   all-before placed k q b rest h = all-within (before l ks k) placed (λ v e. let (a, c) = both (ltb v (length ks)) (comesAfter l (at k) (at v)) (sym (has-before k v) ∙ e) in go v (ltb-true v (length ks) a) c (decLt 0 (times v (k ∷ q))))
     where
       none : (v : ℕ) → 0 < times v (k ∷ q) → comesAfter l (at k) (at v) ≡ false
-      none = each-entry (λ v. comesAfter l (at k) (at v) ≡ false) k q (not-after l (at k) (at k) (omega arith)) (λ v n. none-each (comesAfter l (at k)) (map at q) h (at v) (rw (times-at ks up q b v (b v n)) n))
+      none = times-cons-elim (λ v. comesAfter l (at k) (at v) ≡ false) k q (comesAfter-le l (at k) (at k) (omega arith)) (λ v n. noneOf-elim (comesAfter l (at k)) (map at q) h (at v) (rw (times-at ks up q b v (b v n)) n))
 
       go : (v : ℕ) → v < length ks → comesAfter l (at k) (at v) ≡ true → Dec (0 < times v (k ∷ q)) → has placed v ≡ true
       go v a c (yes n) = absurd (false≢true (sym (none v n) ∙ c))
       go v a c (no n) = one-some (has placed v) (omega (arith, rest v a))
 
-  pub placed-allowed : (q : List ℕ) (placed m e : ℕ) → Below (length ks) q → Rest placed q → inOrder l (map at q) ≡ true → fireAll new m (stepsOn l (map at q)) ≡ some e → Allowed (placeNext new l ks) (length ks) placed m q
+  pub placed-allowed : (q : List ℕ) (placed m e : ℕ) → Below (length ks) q → Rest placed q
+      → inOrder l (map at q) ≡ true → fireAll new m (stepsOn l (map at q)) ≡ some e
+      → Allowed (placeNext new l ks) (length ks) placed m q
   unfolding fireAll stepsOn times
   placed-allowed [] placed m e b rest h f = done
   placed-allowed (k ∷ q) placed m e b rest h f =
-      let (n, i) = head-order l (at k) (map at q) h in
+      let (n, i) = inOrder-cons l (at k) (map at q) h in
       let r = fire-on m (stepOf k) (λ m′. fireAll new m′ (stepsOn l (map at q))) e f in
-      let low : k < length ks = b k (once k (times k q)) in
+      let low : k < length ks = b k (times-head k (times k q)) in
       let below : Below (length ks) q = λ x c. b x (omega arith) in
-      let out : has placed k ≡ false = one-same (has placed k) false (omega (arith, rest k low, once k (times k q))) in
+      let out : has placed k ≡ false = one-same (has placed k) false (omega (arith, rest k low, times-head k (times k q))) in
       let s : Next placed m k (fire m (r .step)) = record { fresh-one = out; after = all-before placed k q below rest n; fires = fires-next m e (stepOf k) _ r } in
       then low (one-next placed m k (fire m (r .step)) s) (placed-allowed q (bitOr placed (bit k)) (fire m (r .step)) e below (λ v c. omega (arith, rest v c, one-more placed k v out)) i (r .onward))

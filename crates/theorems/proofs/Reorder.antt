@@ -14,50 +14,56 @@ use Rattle.slice.specs.Order.{times, EachOnce, noneOf, inOrder}
 use Rattle.mask.proofs.Truth.{both}
 use Rattle.theorems.specs.Values.{Store, Work, perform, performAll}
 use Rattle.theorems.proofs.Perform.{stepAt}
-use Rattle.theorems.proofs.Entries.{once, none-each, none-within, head-order}
-use Rattle.theorems.proofs.Put.{Put, here, there, put-times, put-in, take-out}
+use Rattle.theorems.proofs.Entries.{times-head, noneOf-elim, noneOf-mono, inOrder-cons}
+use Rattle.theorems.proofs.Insertion.{Insertion, here, there, insertion-times, insertion-in, take-out}
 use Rattle.theorems.proofs.Commute.{clash-comm, commute}
 
 -- what is left of a list in order is in order
-put-order : (l : List Step) {x : ℕ} {r k : List ℕ} → Put x r k → inOrder l k ≡ true → inOrder l r ≡ true
+put-order : (l : List Step) {x : ℕ} {r k : List ℕ} → Insertion x r k → inOrder l k ≡ true → inOrder l r ≡ true
 unfolding inOrder
-put-order l {x = x} (here {r = r}) h = head-order l x r h .1
+put-order l {x = x} (here {r = r}) h = inOrder-cons l x r h .1
 put-order l (there {y = y} {r = r} {k = k} p) h =
-    let o = head-order l y k h in
-    ap₂ (λ (a b : Bool). a && b) (none-within (comesAfter l y) k r (λ i. omega (arith, put-times p i)) (o .0)) (put-order l p (o .1))
+    let o = inOrder-cons l y k h in
+    ap₂ (λ (a b : Bool). a && b) (noneOf-mono (comesAfter l y) k r (λ i. omega (arith, insertion-times p i)) (o .0)) (put-order l p (o .1))
 
 module _ {T : Type 0} (f : Work T) (l : List Step) where
   -- of two occurrences neither comes after the other
-  swap : (x y : ℕ) (σ : Store T) → comesAfter l x y ≡ false → comesAfter l y x ≡ false → perform f x (stepAt l x) (perform f y (stepAt l y) σ) ≡ perform f y (stepAt l y) (perform f x (stepAt l x) σ)
+  swap : (x y : ℕ) (σ : Store T) → comesAfter l x y ≡ false → comesAfter l y x ≡ false
+      → perform f x (stepAt l x) (perform f y (stepAt l y) σ) ≡ perform f y (stepAt l y) (perform f x (stepAt l x) σ)
   unfolding comesAfter
   swap x y σ p q = go (ltb y x) (ltb x y) refl refl p q
     where
-      go : (a b : Bool) → ltb y x ≡ a → ltb x y ≡ b → (a && clash (stepAt l x) (stepAt l y)) ≡ false → (b && clash (stepAt l y) (stepAt l x)) ≡ false → perform f x (stepAt l x) (perform f y (stepAt l y) σ) ≡ perform f y (stepAt l y) (perform f x (stepAt l x) σ)
+      go : (a b : Bool) → ltb y x ≡ a → ltb x y ≡ b → (a && clash (stepAt l x) (stepAt l y)) ≡ false
+          → (b && clash (stepAt l y) (stepAt l x)) ≡ false
+          → perform f x (stepAt l x) (perform f y (stepAt l y) σ) ≡ perform f y (stepAt l y) (perform f x (stepAt l x) σ)
       go true b d e p q = commute f x y (stepAt l x) (stepAt l y) σ p
       go false true d e p q = commute f x y (stepAt l x) (stepAt l y) σ (clash-comm (stepAt l x) (stepAt l y) ∙ q)
       go false false d e p q = let same : x ≡ y = omega (arith, ltb-false y x d, ltb-false x y e) in rw same
 
   -- the one put in comes to the front
-  to-front : {x : ℕ} {r k : List ℕ} → Put x r k → noneOf (comesAfter l x) r ≡ true → inOrder l k ≡ true → (σ : Store T) → performAll f (stepAt l) k σ ≡ performAll f (stepAt l) r (perform f x (stepAt l x) σ)
+  to-front : {x : ℕ} {r k : List ℕ} → Insertion x r k → noneOf (comesAfter l x) r ≡ true → inOrder l k ≡ true
+      → (σ : Store T) → performAll f (stepAt l) k σ ≡ performAll f (stepAt l) r (perform f x (stepAt l x) σ)
   unfolding performAll noneOf
   to-front here n h σ = refl
   to-front {x = x} (there {y = y} {r = r} {k = k} p) n h σ =
-      let o = head-order l y k h in
+      let o = inOrder-cons l y k h in
       let a = both (not (comesAfter l x y)) (noneOf (comesAfter l x) r) n in
       to-front p (a .1) (o .1) (perform f y (stepAt l y) σ)
-      ∙ ap (performAll f (stepAt l) r) (swap x y σ (not-true (comesAfter l x y) (a .0)) (none-each (comesAfter l y) k (o .0) x (put-in p)))
+      ∙ ap (performAll f (stepAt l) r) (swap x y σ (not-true (comesAfter l x y) (a .0)) (noneOf-elim (comesAfter l y) k (o .0) x (insertion-in p)))
 
   -- equal counts are enough
-  same-times : (o k : List ℕ) → ((i : ℕ) → times i o ≡ times i k) → inOrder l o ≡ true → inOrder l k ≡ true → (σ : Store T) → performAll f (stepAt l) o σ ≡ performAll f (stepAt l) k σ
+  same-times : (o k : List ℕ) → ((i : ℕ) → times i o ≡ times i k) → inOrder l o ≡ true → inOrder l k ≡ true
+      → (σ : Store T) → performAll f (stepAt l) o σ ≡ performAll f (stepAt l) k σ
   unfolding performAll times
   same-times [] [] c h g σ = refl
-  same-times [] (y ∷ k) c h g σ = absurd (omega (arith, c y, once y (times y k)))
+  same-times [] (y ∷ k) c h g σ = absurd (omega (arith, c y, times-head y (times y k)))
   same-times (x ∷ o) k c h g σ =
-      let (r, p) = take-out x k (omega (arith, c x, once x (times x o))) in
-      let e : (i : ℕ) → times i o ≡ times i r = λ i. omega (arith, c i, put-times p i) in
-      let a = head-order l x o h in
+      let (r, p) = take-out x k (omega (arith, c x, times-head x (times x o))) in
+      let e : (i : ℕ) → times i o ≡ times i r = λ i. omega (arith, c i, insertion-times p i) in
+      let a = inOrder-cons l x o h in
       same-times o r e (a .1) (put-order l p g) (perform f x (stepAt l x) σ)
-      ∙ sym (to-front p (none-within (comesAfter l x) o r (λ i. omega (arith, e i)) (a .0)) g σ)
+      ∙ sym (to-front p (noneOf-mono (comesAfter l x) o r (λ i. omega (arith, e i)) (a .0)) g σ)
 
-  pub reorder : (kept : ℕ) (o k : List ℕ) → EachOnce kept o → EachOnce kept k → inOrder l o ≡ true → inOrder l k ≡ true → (σ : Store T) → performAll f (stepAt l) o σ ≡ performAll f (stepAt l) k σ
+  pub reorder : (kept : ℕ) (o k : List ℕ) → EachOnce kept o → EachOnce kept k → inOrder l o ≡ true
+      → inOrder l k ≡ true → (σ : Store T) → performAll f (stepAt l) o σ ≡ performAll f (stepAt l) k σ
   reorder kept o k c d h g σ = same-times o k (λ i. c i ∙ sym (d i)) h g σ

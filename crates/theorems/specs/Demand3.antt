@@ -11,8 +11,8 @@ use Rattle.route.specs.Firing.{canFire, fire}
 use Rattle.route.specs.Steps.{lookup}
 use Rattle.route.specs.declared.Step.{Step}
 use Rattle.job.specs.Job.{Job, oldStart, newStart}
-use Rattle.job.specs.Run.{ran}
-use Rattle.slice.specs.Slice.{performed, variables}
+use Rattle.job.specs.Run.{ran, performed}
+use Rattle.slice.specs.Slice.{variables}
 use Rattle.slice.specs.Order.{inTurn, times}
 use Rattle.matching.specs.Fit.{Fit}
 use Rattle.trying.specs.Try.{tried}
@@ -72,15 +72,16 @@ InTurn steps name m (i ∷ o) (m′ ∷ ms) = FiresTo m (lookup (name i) steps) 
 pub record Carried {T : Type 0} (f : Work T) (j : Job) (o : List ℕ) : Type 0 where
   pub whole : moved f j o .whole ≡ true
   pub turns : InTurn (j .new) (nameAt j) (newStart j) (positions o) (moved f j o .passed)
-  pub marking : moved f j o .marking ≡ tried j o .marking
+  pub marking : moved f j o .marking ≡ tried j o .marking .tokens
   pub job : wholeJob f j .whole ≡ true
   pub values : (v : ℕ) → has (variables (j .new)) v ≡ true → moved f j o .store v ≡ wholeJob f j .store v
 
 -- "When judge answers 0, 0, try accepts the order that judge gives, and both give the marking at the end of its replay on the new route."
 pub record Own (j : Job) (room : ℕ) : Type 1 where
   pub accepted : Accepted j (ordered j room)
-  pub marking : tried j (ordered j room) .marking ≡ judged j room .marking
-  pub replayed : (T : Type 0) (f : Work T) → (moved f j (ordered j room) .whole ≡ true) × (moved f j (ordered j room) .marking ≡ judged j room .marking)
+  pub marking : tried j (ordered j room) .marking .tokens ≡ judged j room .marking .tokens
+  pub replayed : (T : Type 0) (f : Work T)
+      → (moved f j (ordered j room) .whole ≡ true) × (moved f j (ordered j room) .marking ≡ judged j room .marking .tokens)
 
 -- "All this is a single claim about the whole order, for all routes, done lists and functions, and not one for each firing."
 pub record Demand3 : Type 1 where
@@ -92,4 +93,7 @@ pub record Demand3 : Type 1 where
   pub values : (j : Job) (o : List ℕ) → Runs j → Accepted j o → (T : Type 0) (f : Work T) → Carried f j o
   -- "Whichever two accepted orders hold the same done steps, each as often, they end on the same places." "Done steps are counted by name,
   -- and the two orders may be of two jobs with the same new route."
-  pub places : (j j′ : Job) (o o′ : List ℕ) → j .newPlaces ≡ j′ .newPlaces → j .new ≡ j′ .new → Runs j → Runs j′ → Accepted j o → Accepted j′ o′ → ((n : ℕ) → times n (map (nameAt j) (positions o)) ≡ times n (map (nameAt j′) (positions o′))) → tried j o .marking ≡ tried j′ o′ .marking
+  pub places : (j j′ : Job) (o o′ : List ℕ) → j .newPlaces ≡ j′ .newPlaces → j .new ≡ j′ .new → Runs j → Runs j′
+      → Accepted j o → Accepted j′ o′
+      → ((n : ℕ) → times n (map (nameAt j) (positions o)) ≡ times n (map (nameAt j′) (positions o′)))
+      → tried j o .marking .tokens ≡ tried j′ o′ .marking .tokens

@@ -6,38 +6,28 @@ use mathlib.Core.List.{List, [], _∷_}
 use mathlib.Core.Option.{Option, none, some, Option·getD, Option·none-ne-some, Option·some-injective}
 use Prim.Native.Nat.{ℕ, zero, suc, _+_, _≤_, _<_}
 use native.Mathlib.Omega.{arith}
-use lib.Dec.{eqb, ltb}
-use lib.ListN.{length, getD, length-map}
-use borrow.Author.Tests.{eqb-true, ltb-true}
+use lib.Dec.{eqb}
+use lib.ListN.{length, getD}
+use borrow.Author.Tests.{eqb-true}
 use Rattle.route.specs.Firing.{canFire, fire}
-use Rattle.refusal.specs.Rows.{first}
 use Rattle.route.specs.Steps.{blank, lookup}
 use Rattle.route.specs.declared.Step.{Step}
-use Rattle.job.specs.Job.{Job, jobLine, newLine, oldStart}
-use Rattle.job.specs.Lines.{doneRow, doneRows, routeRows, lineRows, checked}
-use Rattle.job.specs.Run.{stopped, runStep, runFrom, ran}
+use Rattle.job.specs.Job.{Job, jobLine, oldStart}
+use Rattle.job.specs.Lines.{checked}
+use Rattle.job.specs.Run.{stopped, runStep, runFrom, ran, performed}
 use Rattle.job.specs.declared.Ran.{Ran}
-use Rattle.slice.specs.Slice.{performed}
 use Rattle.slice.specs.Order.{inTurn, times}
 use Rattle.matching.specs.Straight.{fireStep, fireAll}
 use Rattle.theorems.specs.Values.{Work, allBlank, replay, performAll}
 use Rattle.theorems.specs.Demand3.{Runs, stepsDone, nameAt, wholeJob}
-use Rattle.refusal.proofs.Passing.{passed, row-holds, rows-hold, both-hold}
+use Rattle.refusal.proofs.Rows.{cond-zero-elim}
 use Rattle.theorems.proofs.Fires.{replay-fires}
-use Rattle.theorems.proofs.Turn.{turn-below, whole-steps}
+use Rattle.job.proofs.Performed.{length-performed}
+use Rattle.job.proofs.RunLine.{ran-fits}
+use Rattle.slice.proofs.InTurn.{times-inTurn}
+use Rattle.theorems.proofs.Entries.{stepsOn-inTurn}
 use Rattle.theorems.proofs.Perform.{stepAt}
 use Rattle.theorems.proofs.Replayed.{SameData, replay-store}
-
--- ---- the bound
-
-done-short : (line above : ℕ) (done : List ℕ) → above ≤ 64 → first (doneRows line above done) .number ≡ 0 → above + length done ≤ 64
-unfolding doneRows doneRow
-done-short line above [] h e = omega arith
-done-short line above (n ∷ d) h e =
-    let (own, rest) = rows-hold (doneRow line above n) (doneRows (line + 1) (above + 1) d) e in
-    let low : above < 64 = ltb-true above 64 (row-holds (ltb above 64) 3 line (rows-hold _ _ own .0)) in
-    let ih : above + 1 + length d ≤ 64 = done-short (line + 1) (above + 1) d (omega arith) rest in
-    omega arith
 
 -- ---- the names
 
@@ -46,7 +36,8 @@ unfolding lookup
 lookup-name n [] s e = absurd (Option·none-ne-some s e)
 lookup-name n (t ∷ l) s e = go (eqb (t .name) n) refl e (lookup-name n l s)
   where
-    go : (b : Bool) → eqb (t .name) n ≡ b → cond b (some t) (lookup n l) ≡ some s → (lookup n l ≡ some s → s .name ≡ n) → s .name ≡ n
+    go : (b : Bool) → eqb (t .name) n ≡ b → cond b (some t) (lookup n l) ≡ some s
+        → (lookup n l ≡ some s → s .name ≡ n) → s .name ≡ n
     go true h e ih = ap (λ (x : Step). x .name) (sym (Option·some-injective t s e)) ∙ eqb-true (t .name) n h
     go false h e ih = ih e
 
@@ -62,7 +53,8 @@ unfolding runStep
 run-on m line none next e = absurd (omega arith)
 run-on m line (some s) next e = go (canFire m s) refl e
   where
-    go : (t : Bool) → canFire m s ≡ t → cond t (next (fire m s)) (stopped 9 line) .number ≡ 0 → RunOn m line (some s) next
+    go : (t : Bool) → canFire m s ≡ t → cond t (next (fire m s)) (stopped 9 line) .number ≡ 0
+        → RunOn m line (some s) next
     go true c e = record { step = s; there = refl; fires = c; onward = rw c }
     go false c e = absurd (omega arith)
 
@@ -79,7 +71,8 @@ module _ (steps : List Step) where
       let r = run-on m line (lookup n steps) (λ m′. runFrom steps m′ (line + 1) d) e in
       run-known (fire m (r .step)) (line + 1) d (sym (ap (λ (x : Ran). x .number) (r .onward)) ∙ e) i (omega arith)
 
-  run-fires : (m line : ℕ) (done : List ℕ) → runFrom steps m line done .number ≡ 0 → fireAll steps m (performed steps done) ≡ some (runFrom steps m line done .marking .tokens)
+  run-fires : (m line : ℕ) (done : List ℕ) → runFrom steps m line done .number ≡ 0
+      → fireAll steps m (performed steps done) ≡ some (runFrom steps m line done .marking .tokens)
   unfolding runFrom fireAll performed fireStep
   run-fires m line [] e = refl
   run-fires m line (n ∷ d) e =
@@ -88,7 +81,8 @@ module _ (steps : List Step) where
       rw (own, r .fires) (run-fires (fire m (r .step)) (line + 1) d (sym (ap (λ (x : Ran). x .number) (r .onward)) ∙ e) ∙ ap (λ (x : Ran). some (x .marking .tokens)) (sym (r .onward)))
 
   -- the step done at a position: the one of its name, and past the end a blank one
-  step-done : (done : List ℕ) (i : ℕ) (s : Step) → i < length done → lookup (getD done i 0) steps ≡ some s → getD (performed steps done) i blank ≡ s
+  step-done : (done : List ℕ) (i : ℕ) (s : Step) → i < length done → lookup (getD done i 0) steps ≡ some s
+      → getD (performed steps done) i blank ≡ s
   unfolding performed
   step-done [] i s h e = absurd (omega arith)
   step-done (n ∷ d) zero s h e = rw e
@@ -103,8 +97,7 @@ module _ (steps : List Step) where
 -- ---- the job
 
 pub done-length : (j : Job) → length (stepsDone j) ≡ length (j .done)
-unfolding performed
-done-length j = length-map (j .done) (λ (n : ℕ). Option·getD (lookup n (j .old)) blank)
+done-length j = length-performed (j .old) (j .done)
 
 module _ (j : Job) (ok : Runs j) where
   abbrev run : Ran
@@ -112,20 +105,13 @@ module _ (j : Job) (ok : Runs j) where
 
   lines-pass : (checked j .number ≡ 0) × (ran j ≡ run)
   unfolding ran
-  lines-pass = passed (λ (r : Ran). r .number) (checked j .number) run (stopped (checked j .number) (checked j .second)) refl ok
+  lines-pass = cond-zero-elim (λ (r : Ran). r .number) (checked j .number) run (stopped (checked j .number) (checked j .second)) refl ok
 
   run-passes : run .number ≡ 0
   run-passes = sym (ap (λ (r : Ran). r .number) (lines-pass .1)) ∙ ok
 
-  pub done-bound : length (j .done) ≤ 64
-  unfolding checked lineRows
-  done-bound =
-      let lines = both-hold (lineRows j) _ (lines-pass .0) .0 in
-      let done = both-hold (routeRows (newLine j) (j .newPlaces) (j .new)) _ (both-hold (routeRows 1 (j .oldPlaces) (j .old)) _ lines .1) .1 in
-      omega (arith, done-short (jobLine j + 1) 0 (j .done) (omega arith) done)
-
   pub steps-short : length (stepsDone j) ≤ 64
-  steps-short = omega (arith, done-bound, done-length j)
+  steps-short = omega (arith, ran-fits j ok .done-fit, done-length j)
 
   pub done-known : Known (j .old) (j .done)
   done-known = run-known (j .old) (oldStart j) (jobLine j + 1) (j .done) run-passes
@@ -137,16 +123,19 @@ module _ (j : Job) (ok : Runs j) where
   done-fires = run-fires (j .old) (oldStart j) (jobLine j + 1) (j .done) run-passes ∙ ap (λ (r : Ran). some (r .marking .tokens)) (sym (lines-pass .1))
 
   -- the whole job comes to its end, on the marking that run gives
-  pub whole-job : {T : Type 0} (f : Work T) → (wholeJob f j .whole ≡ true) × (wholeJob f j .marking ≡ ran j .marking .tokens)
+  pub whole-job : {T : Type 0} (f : Work T)
+      → (wholeJob f j .whole ≡ true) × (wholeJob f j .marking ≡ ran j .marking .tokens)
   unfolding replay
-  whole-job f = replay-fires f (j .old) (nameAt j) (stepsDone j) done-named (oldStart j) (ran j .marking .tokens) allBlank (inTurn 0 (length (j .done))) (ap (fireAll (j .old) (oldStart j)) (rw (← done-length j) (whole-steps (stepsDone j))) ∙ done-fires)
+  whole-job f = replay-fires f (j .old) (nameAt j) (stepsDone j) done-named (oldStart j) (ran j .marking .tokens) allBlank (inTurn 0 (length (j .done))) (ap (fireAll (j .old) (oldStart j)) (rw (← done-length j) (stepsOn-inTurn (stepsDone j))) ∙ done-fires)
 
   -- and leaves what performing the steps done leaves
-  pub whole-store : {T : Type 0} (f : Work T) → wholeJob f j .store ≡ performAll f (stepAt (stepsDone j)) (inTurn 0 (length (j .done))) allBlank
+  pub whole-store : {T : Type 0} (f : Work T)
+      → wholeJob f j .store ≡ performAll f (stepAt (stepsDone j)) (inTurn 0 (length (j .done))) allBlank
   unfolding replay
   whole-store f = replay-store f (j .old) (nameAt j) (stepAt (stepsDone j)) (oldStart j) allBlank (inTurn 0 (length (j .done))) own (whole-job f .0)
     where
-      own : (i : ℕ) (s : Step) → 0 < times i (inTurn 0 (length (j .done))) → lookup (nameAt j i) (j .old) ≡ some s → SameData s (stepAt (stepsDone j) i)
+      own : (i : ℕ) (s : Step) → 0 < times i (inTurn 0 (length (j .done))) → lookup (nameAt j i) (j .old) ≡ some s
+          → SameData s (stepAt (stepsDone j) i)
       own i s n e =
-          let same = step-done (j .old) (j .done) i s (omega (arith, turn-below (length (j .done)) 0 i n)) e in
+          let same = step-done (j .old) (j .done) i s (omega (arith, times-inTurn 0 (length (j .done)) i n)) e in
           (ap (λ (x : Step). x .reads) (sym same), ap (λ (x : Step). x .writes) (sym same))

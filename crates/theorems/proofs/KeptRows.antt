@@ -9,13 +9,13 @@ use Prim.Native.Nat.{ℕ, _+_, _≤_, _<_}
 use native.Mathlib.Omega.{arith}
 use lib.Dec.{leb}
 use lib.ListN.{length, getD}
-use borrow.Author.Tests.{leb-true, le-leb}
+use borrow.Author.Tests.{le-leb}
 use Rattle.mask.specs.Mask.{has, members, count}
 use Rattle.route.specs.Steps.{blank, lookup}
-use Rattle.refusal.specs.Rows.{unless, first}
+use Rattle.refusal.specs.Rows.{first}
 use Rattle.route.specs.declared.Step.{Step}
 use Rattle.refusal.specs.declared.Outcome.{Outcome}
-use Rattle.refusal.proofs.Rows.{row-passes, rows-end}
+use Rattle.refusal.proofs.Rows.{row-passes, rows-end, cond-zero, unless-number, first-number}
 use Rattle.slice.specs.Slice.{variables}
 use Rattle.slice.specs.Order.{times, EachOnce}
 use Rattle.slice.proofs.Laws.{kept-below}
@@ -23,9 +23,10 @@ use Rattle.search.specs.Search.{isSome}
 use Rattle.matching.specs.Straight.{sameData, sameStep, runsStraight}
 use Rattle.matching.specs.Fit.{keptOf, FitAt}
 use Rattle.matching.specs.KeptRows.{keptRow, keptLines, keptRows}
-use Rattle.refusal.proofs.Passing.{passes, row-holds, rows-hold, row-most, rows-most}
-use Rattle.theorems.proofs.Entries.{once, each-entry, entry-member, member-entry}
-use Rattle.theorems.proofs.Own.{own-once}
+use Rattle.theorems.proofs.Entries.{times-head, eachOnce-has, has-eachOnce}
+use Rattle.matching.proofs.KeptRows.{limit-holds, members-same}
+use Rattle.theorems.proofs.Candidates.{at-entry}
+use Rattle.theorems.proofs.MembersOrder.{members-eachOnce}
 use Rattle.theorems.proofs.FitList.{straight-same, fit-same}
 
 -- what rows 10 to 12 ask
@@ -34,10 +35,6 @@ pub record KeptPass (from : ℕ) (new l : List Step) : Type 0 where
   pub same : (i : ℕ) → has (keptOf new l) i ≡ true → sameStep new (getD l i blank) ≡ true
 
 -- ---- one line
-
-row-same : (new : List Step) (line : ℕ) (s : Step) → keptRow new line s .number ≡ 0 → sameStep new s ≡ true
-unfolding keptRow
-row-same new line s e = row-holds (sameStep new s) 11 line (rows-hold _ _ (rows-hold _ _ e .1) .0)
 
 same-row : (new : List Step) (line : ℕ) (s : Step) → sameStep new s ≡ true → keptRow new line s .number ≡ 0
 unfolding keptRow sameStep sameData isSome
@@ -51,37 +48,39 @@ same-row new line s h =
 
 -- ---- the lines in turn
 
-lines-same : (new l : List Step) (line : ℕ) (o : List ℕ) → first (keptLines new l line o) .number ≡ 0 → (i : ℕ) → 0 < times i o → sameStep new (getD l i blank) ≡ true
-unfolding keptLines times
-lines-same new l line [] e i n = absurd (omega arith)
-lines-same new l line (x ∷ o) e i n =
-    let (a, b) = rows-hold _ _ e in
-    each-entry (λ i. sameStep new (getD l i blank) ≡ true) x o (row-same new (line + x) (getD l x blank) a) (lines-same new l line o b) i n
-
-same-lines : (new l : List Step) (line : ℕ) (o : List ℕ) → ((i : ℕ) → 0 < times i o → sameStep new (getD l i blank) ≡ true) → first (keptLines new l line o) .number ≡ 0
+same-lines : (new l : List Step) (line : ℕ) (o : List ℕ)
+    → ((i : ℕ) → 0 < times i o → sameStep new (getD l i blank) ≡ true) → first (keptLines new l line o) .number ≡ 0
 unfolding keptLines first times
 same-lines new l line [] h = refl
 same-lines new l line (x ∷ o) h =
-    rw (passes (keptRow new (line + x) (getD l x blank) .number) (first (keptLines new l line o)) (keptRow new (line + x) (getD l x blank)) (same-row new (line + x) (getD l x blank) (h x (once x (times x o)))))
+    rw (cond-zero (keptRow new (line + x) (getD l x blank) .number) (first (keptLines new l line o)) (keptRow new (line + x) (getD l x blank)) (same-row new (line + x) (getD l x blank) (h x (times-head x (times x o)))))
     (same-lines new l line o (λ i n. h i (omega arith)))
 
 -- ---- all rows
 
+abbrev UpTo12 : ℕ → Type 0
+UpTo12 n = n ≤ 12
+
+none-short : first [] .number ≤ 12
+unfolding first
+none-short = omega arith
+
 row-short : (new : List Step) (line : ℕ) (s : Step) → keptRow new line s .number ≤ 12
-unfolding keptRow first
+unfolding keptRow
 row-short new line s =
-    rows-most 12 (unless (isSome (lookup (s .name) new)) 11 line) (unless (sameStep new s) 12 line ∷ []) (row-most 12 (isSome (lookup (s .name) new)) 11 line (omega arith))
-    (rows-most 12 (unless (sameStep new s) 12 line) [] (row-most 12 (sameStep new s) 12 line (omega arith)) (omega arith))
+    first-number UpTo12 _ _ (unless-number UpTo12 _ 11 line (omega arith) (omega arith))
+    (first-number UpTo12 _ [] (unless-number UpTo12 _ 12 line (omega arith) (omega arith)) none-short)
 
 lines-short : (new l : List Step) (line : ℕ) (o : List ℕ) → first (keptLines new l line o) .number ≤ 12
-unfolding keptLines first
-lines-short new l line [] = omega arith
-lines-short new l line (x ∷ o) = rows-most 12 (keptRow new (line + x) (getD l x blank)) (keptLines new l line o) (row-short new (line + x) (getD l x blank)) (lines-short new l line o)
+unfolding keptLines
+lines-short new l line [] = none-short
+lines-short new l line (x ∷ o) = first-number UpTo12 _ (keptLines new l line o) (row-short new (line + x) (getD l x blank)) (lines-short new l line o)
 
 -- no other number comes from these rows
-pub rows-short : (line from : ℕ) (new l : List Step) → keptRows line from new l .number ≤ 12
+pub keptRows-most : (line from : ℕ) (new l : List Step) → keptRows line from new l .number ≤ 12
 unfolding keptRows
-rows-short line from new l = rows-most 12 _ (keptLines new l (line + 1) (members 64 (keptOf new l))) (row-most 12 _ 10 line (omega arith)) (lines-short new l (line + 1) (members 64 (keptOf new l)))
+keptRows-most line from new l =
+    first-number UpTo12 _ _ (unless-number UpTo12 _ 10 line (omega arith) (omega arith)) (lines-short new l (line + 1) (members 64 (keptOf new l)))
 
 -- only occurrences are kept
 pub kept-short : (new l : List Step) (i : ℕ) → has (keptOf new l) i ≡ true → i < length l
@@ -91,11 +90,7 @@ kept-short new l = kept-below l (variables new)
 -- a fit list passes rows 10 to 12
 pub fit-pass : (from : ℕ) (new l : List Step) (p : List ℕ) → FitAt from new l p → KeptPass from new l
 fit-pass from new l p (inl s) = record { limit = λ e. absurd (true≢false (sym (s .runs) ∙ e)); same = λ i h. straight-same from new l (s .runs) i (kept-short new l i h) }
-fit-pass from new l p (inr k) = record { limit = k .limit; same = λ i h. fit-same from new l p (inr k) i (member-entry (keptOf new l) p (k .once) i h) }
-
-or-rest : (x y : Bool) → (x || y) ≡ true → x ≡ false → y ≡ true
-or-rest true y e f = cc
-or-rest false y e f = e
+fit-pass from new l p (inr k) = record { limit = k .limit; same = λ i h. fit-same from new l p (inr k) i (has-eachOnce (keptOf new l) p (k .once) i h) }
 
 or-holds : (x y : Bool) → (x ≡ false → y ≡ true) → (x || y) ≡ true
 or-holds true y h = refl
@@ -103,23 +98,21 @@ or-holds false y h = h refl
 
 -- the kept in turn hold each kept occurrence once
 pub all-kept : (new l : List Step) → length l ≤ 64 → EachOnce (keptOf new l) (members 64 (keptOf new l))
-all-kept new l short = own-once 64 (keptOf new l) (λ i h. omega (arith, kept-short new l i h))
+all-kept new l short = members-eachOnce 64 (keptOf new l) (λ i h. omega (arith, kept-short new l i h))
 
 module _ (from : ℕ) (new l : List Step) (short : length l ≤ 64) where
   abbrev limited : Bool
   limited = leb (count 64 (keptOf new l)) 16
 
-  pub rows-ask : (line : ℕ) → keptRows line from new l .number ≡ 0 → KeptPass from new l
-  unfolding keptRows
-  rows-ask line e =
-      let (a, b) = rows-hold _ _ e in
+  pub keptRows-elim : (line : ℕ) → keptRows line from new l .number ≡ 0 → KeptPass from new l
+  keptRows-elim line e =
       record {
-        limit = λ h. leb-true (count 64 (keptOf new l)) 16 (or-rest (runsStraight from new l) limited (row-holds (runsStraight from new l || limited) 9 line a) h);
-        same = λ i h. lines-same new l (line + 1) (members 64 (keptOf new l)) b i (member-entry (keptOf new l) (members 64 (keptOf new l)) (all-kept new l short) i h);
+        limit = limit-holds line from new l e;
+        same = λ i h. let (k, low, is) = at-entry (members 64 (keptOf new l)) i (has-eachOnce (keptOf new l) (members 64 (keptOf new l)) (all-kept new l short) i h) in rw is at (members-same line from new l e k low);
       }
 
-  pub rows-pass : (line : ℕ) → KeptPass from new l → keptRows line from new l .number ≡ 0
+  pub keptRows-intro : (line : ℕ) → KeptPass from new l → keptRows line from new l .number ≡ 0
   unfolding keptRows
-  rows-pass line p =
+  keptRows-intro line p =
       ap (λ (o : Outcome). o .number) (row-passes (runsStraight from new l || limited) 10 line _ (or-holds (runsStraight from new l) limited (λ h. le-leb (count 64 (keptOf new l)) 16 (p .limit h))))
-      ∙ same-lines new l (line + 1) (members 64 (keptOf new l)) (λ i n. p .same i (entry-member (keptOf new l) (members 64 (keptOf new l)) (all-kept new l short) i n))
+      ∙ same-lines new l (line + 1) (members 64 (keptOf new l)) (λ i n. p .same i (eachOnce-has (keptOf new l) (members 64 (keptOf new l)) (all-kept new l short) i n))

@@ -1,23 +1,19 @@
--- What the listing shows means what 01 says. A value line has the last writer of its variable, and there is none exactly when no occurrence
--- writes it. An after line has exactly the kept occurrences that a kept one comes after.
-use mathlib.Core.Path.{_≡_, refl, ap, _∙_}
-use mathlib.Core.Bool.{Bool, true, false, cond, _&&_}
+-- The number that is shown for a variable is that of its last writer, and 0 exactly when no occurrence writes it.
+use mathlib.Core.Path.{_≡_, refl, ap}
+use mathlib.Core.Bool.{Bool, true, false, cond}
 use mathlib.Core.List.{List, [], _∷_}
 use Prim.Native.Nat.{ℕ, zero, suc, _+_, _<_}
 use native.Mathlib.Omega.{arith}
 use native.Mathlib.Decide.{decLt}
 use lib.Dec.{eqb}
-use lib.Bits.{bitAnd}
 use lib.ListN.{length, getD}
 use borrow.Author.Tests.{eqb-true, eqb-false}
 use Rattle.mask.specs.Mask.{has}
-use Rattle.mask.proofs.Laws.{has-and, has-zero}
+use Rattle.mask.proofs.Laws.{has-zero}
 use Rattle.route.specs.Steps.{blank}
 use Rattle.route.specs.declared.Step.{Step}
 use Rattle.slice.specs.Slice.{writesAt, LastWriter}
-use Rattle.slice.specs.Precedence.{row, comesAfter}
-use Rattle.slice.proofs.Laws.{row-exact}
-use Rattle.judging.specs.Judge.{lastWriter, afterOf}
+use Rattle.judging.specs.Judge.{lastWriter}
 
 -- ---- the last writer
 
@@ -29,13 +25,16 @@ none-from v i (s ∷ l) e k = go (eqb later 0) (has (s .writes) v) refl refl e k
     later : ℕ
     later = lastWriter v (suc i) l
 
-    go : (q w : Bool) → eqb later 0 ≡ q → has (s .writes) v ≡ w → cond q (cond w (suc i) 0) later ≡ 0 → (k : ℕ) → (later ≡ 0 → (k : ℕ) → has (getD l k blank .writes) v ≡ false) → has (getD (s ∷ l) k blank .writes) v ≡ false
+    go : (q w : Bool) → eqb later 0 ≡ q → has (s .writes) v ≡ w → cond q (cond w (suc i) 0) later ≡ 0 → (k : ℕ)
+        → (later ≡ 0 → (k : ℕ) → has (getD l k blank .writes) v ≡ false)
+        → has (getD (s ∷ l) k blank .writes) v ≡ false
     go true true p h e k ih = absurd (omega arith)
     go true false p h e zero ih = h
     go true false p h e (suc k) ih = ih (eqb-true later 0 p) k
     go false w p h e k ih = absurd (eqb-false later 0 p e)
 
-some-from : (v i : ℕ) (l : List Step) (j : ℕ) → lastWriter v i l ≡ suc j → (d : ℕ) × (j ≡ i + d) × LastWriter l (length l) v d
+some-from : (v i : ℕ) (l : List Step) (j : ℕ) → lastWriter v i l ≡ suc j
+    → (d : ℕ) × (j ≡ i + d) × LastWriter l (length l) v d
 unfolding lastWriter writesAt
 some-from v i [] j e = absurd (omega arith)
 some-from v i (s ∷ l) j e = go (eqb later 0) (has (s .writes) v) refl refl e (some-from v (suc i) l j)
@@ -57,7 +56,9 @@ some-from v i (s ∷ l) j e = go (eqb later 0) (has (s .writes) v) refl refl e (
         rest zero a b = absurd (omega arith)
         rest (suc k) a b = none-from v (suc i) l z k
 
-    go : (q w : Bool) → eqb later 0 ≡ q → has (s .writes) v ≡ w → cond q (cond w (suc i) 0) later ≡ suc j → (later ≡ suc j → (d : ℕ) × (j ≡ suc i + d) × LastWriter l (length l) v d) → (d : ℕ) × (j ≡ i + d) × LastWriter (s ∷ l) (suc (length l)) v d
+    go : (q w : Bool) → eqb later 0 ≡ q → has (s .writes) v ≡ w → cond q (cond w (suc i) 0) later ≡ suc j
+        → (later ≡ suc j → (d : ℕ) × (j ≡ suc i + d) × LastWriter l (length l) v d)
+        → (d : ℕ) × (j ≡ i + d) × LastWriter (s ∷ l) (suc (length l)) v d
     go true true p h e ih = (0, omega arith, here h (eqb-true later 0 p))
     go true false p h e ih = absurd (omega arith)
     go false w p h e ih = let (d, a, r) = ih e in (suc d, omega arith, onwards d r)
@@ -75,39 +76,23 @@ one-last l n v i j a b = go (decLt i j) (decLt j i)
 
 module _ (l : List Step) (v : ℕ) where
   -- a number that is shown is that of the last writer
-  pub writer-shown : (j : ℕ) → lastWriter v 0 l ≡ suc j → LastWriter l (length l) v j
-  writer-shown j e = let (d, a, w) = some-from v 0 l j e in let same : d ≡ j = omega arith in rw same at w
+  pub lastWriter-elim : (j : ℕ) → lastWriter v 0 l ≡ suc j → LastWriter l (length l) v j
+  lastWriter-elim j e = let (d, a, w) = some-from v 0 l j e in let same : d ≡ j = omega arith in rw same at w
 
-  pub nothing-shown : lastWriter v 0 l ≡ 0 → (i : ℕ) → writesAt l i v ≡ false
-  nothing-shown = none-from v 0 l
+  pub lastWriter-none-elim : lastWriter v 0 l ≡ 0 → (i : ℕ) → writesAt l i v ≡ false
+  lastWriter-none-elim = none-from v 0 l
 
   -- the last writer is shown
-  pub shows-writer : (j : ℕ) → LastWriter l (length l) v j → lastWriter v 0 l ≡ suc j
-  shows-writer j w = go (lastWriter v 0 l) refl
+  pub lastWriter-intro : (j : ℕ) → LastWriter l (length l) v j → lastWriter v 0 l ≡ suc j
+  lastWriter-intro j w = go (lastWriter v 0 l) refl
     where
       go : (n : ℕ) → lastWriter v 0 l ≡ n → n ≡ suc j
-      go zero e = absurd (let z : _≡_ {A = ℕ} 0 1 = cc (nothing-shown e j, w .writer) in omega arith)
-      go (suc i) e = ap suc (one-last l (length l) v i j (writer-shown i e) w)
+      go zero e = absurd (let z : _≡_ {A = ℕ} 0 1 = cc (lastWriter-none-elim e j, w .writer) in omega arith)
+      go (suc i) e = ap suc (one-last l (length l) v i j (lastWriter-elim i e) w)
 
-  pub shows-nothing : ((i : ℕ) → i < length l → writesAt l i v ≡ false) → lastWriter v 0 l ≡ 0
-  shows-nothing h = go (lastWriter v 0 l) refl
+  pub lastWriter-none-intro : ((i : ℕ) → i < length l → writesAt l i v ≡ false) → lastWriter v 0 l ≡ 0
+  lastWriter-none-intro h = go (lastWriter v 0 l) refl
     where
       go : (n : ℕ) → lastWriter v 0 l ≡ n → n ≡ 0
       go zero e = refl
-      go (suc i) e = let w = writer-shown i e in absurd (let z : _≡_ {A = ℕ} 0 1 = cc (h i (w .earlier), w .writer) in omega arith)
-
--- ---- what comes after what
-
-pub after-shown : (l : List Step) (kept i j : ℕ) → has (afterOf l kept i) j ≡ (has kept i && (has kept j && comesAfter l i j))
-unfolding afterOf
-after-shown l kept i j = go (has kept i)
-  where
-    swap : (a b : Bool) → (a && b) ≡ (b && a)
-    swap true true = refl
-    swap true false = refl
-    swap false true = refl
-    swap false false = refl
-
-    go : (t : Bool) → has (cond t (bitAnd (row l i) kept) 0) j ≡ (t && (has kept j && comesAfter l i j))
-    go true = has-and (row l i) kept j ∙ ap (λ (b : Bool). b && has kept j) (row-exact l i j) ∙ swap (comesAfter l i j) (has kept j)
-    go false = has-zero j
+      go (suc i) e = let w = lastWriter-elim i e in absurd (let z : _≡_ {A = ℕ} 0 1 = cc (h i (w .earlier), w .writer) in omega arith)

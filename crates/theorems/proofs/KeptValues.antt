@@ -14,9 +14,11 @@ use Rattle.theorems.specs.Values.{Store, Work, allBlank, performAll}
 use Rattle.theorems.proofs.Perform.{stepAt}
 use Rattle.theorems.proofs.Drop.{drop-unkept}
 use Rattle.theorems.proofs.Reorder.{reorder}
-use Rattle.theorems.proofs.Own.{own-once, own-order}
+use Rattle.theorems.proofs.MembersOrder.{members-eachOnce, members-inOrder}
 
-pub same-values : {T : Type 0} (f : Work T) (l : List Step) (vars : ℕ) (o : List ℕ) → EachOnce (keptMask l vars) o → inOrder l o ≡ true → (v : ℕ) → has vars v ≡ true → performAll f (stepAt l) o allBlank v ≡ performAll f (stepAt l) (inTurn 0 (length l)) allBlank v
-same-values {T} f l vars o c h v w =
-    ap (λ (σ : Store T). σ v) (reorder f l (keptMask l vars) o (members (length l) (keptMask l vars)) c (own-once (length l) (keptMask l vars) (kept-below l vars)) h (own-order l (length l) (keptMask l vars)) allBlank)
+pub kept-values : {T : Type 0} (f : Work T) (l : List Step) (vars : ℕ) (o : List ℕ) → EachOnce (keptMask l vars) o
+    → inOrder l o ≡ true → (v : ℕ) → has vars v ≡ true
+    → performAll f (stepAt l) o allBlank v ≡ performAll f (stepAt l) (inTurn 0 (length l)) allBlank v
+kept-values {T} f l vars o c h v w =
+    ap (λ (σ : Store T). σ v) (reorder f l (keptMask l vars) o (members (length l) (keptMask l vars)) c (members-eachOnce (length l) (keptMask l vars) (kept-below l vars)) h (members-inOrder l (length l) (keptMask l vars)) allBlank)
     ∙ drop-unkept f l vars v w

@@ -23,11 +23,11 @@ use Rattle.theorems.specs.Values.{Store, Work, allBlank, replay, perform
 use Rattle.theorems.specs.Demand3.{Runs, stepsDone, nameAt, positions, moved, InTurn, Carried}
 use Rattle.theorems.proofs.Perform.{stepAt}
 use Rattle.theorems.proofs.FitList.{fit-same}
-use Rattle.theorems.proofs.Same.{same-values}
+use Rattle.theorems.proofs.KeptValues.{kept-values}
 use Rattle.theorems.proofs.Replayed.{SameData, replay-store}
 use Rattle.theorems.proofs.Fires.{replay-fires, replay-turns}
-use Rattle.theorems.proofs.Ran.{done-named, done-length, whole-job, whole-store}
-use Rattle.theorems.proofs.Accepts.{positions-of, try-fit, try-marking}
+use Rattle.theorems.proofs.Runs.{done-named, done-length, whole-job, whole-store}
+use Rattle.theorems.proofs.Accepts.{positions-suc, try-fit, try-marking}
 
 same-data : (new : List Step) (s t : Step) → sameStep new s ≡ true → lookup (s .name) new ≡ some t → SameData t s
 unfolding sameStep sameData
@@ -36,28 +36,31 @@ same-data new s t h e =
     (eqb-true (t .reads) (s .reads) r, eqb-true (t .writes) (s .writes) w)
 
 -- performing a fit list leaves what performing all leaves
-fit-values : (from : ℕ) (new l : List Step) {T : Type 0} (f : Work T) (p : List ℕ) → FitAt from new l p → (v : ℕ) → has (variables new) v ≡ true → performAll f (stepAt l) p allBlank v ≡ performAll f (stepAt l) (inTurn 0 (length l)) allBlank v
+fit-values : (from : ℕ) (new l : List Step) {T : Type 0} (f : Work T) (p : List ℕ) → FitAt from new l p → (v : ℕ)
+    → has (variables new) v ≡ true
+    → performAll f (stepAt l) p allBlank v ≡ performAll f (stepAt l) (inTurn 0 (length l)) allBlank v
 unfolding keptOf
 fit-values from new l f p (inl s) v w = ap (λ (o : List ℕ). performAll f (stepAt l) o allBlank v) (s .whole)
-fit-values from new l f p (inr k) v w = same-values f l (variables new) p (k .once) (k .order) v w
+fit-values from new l f p (inr k) v w = kept-values f l (variables new) p (k .once) (k .order) v w
 
 module _ (j : Job) (ok : Runs j) (o : List ℕ) (e : tried j o .number ≡ 0) {T : Type 0} (f : Work T) where
   fits : FitAt (newStart j) (j .new) (stepsDone j) (positions o)
-  fits = let r = try-fit j ok o .0 e in rw (ap positions (r .numbered) ∙ positions-of (r .positions)) (r .fits)
+  fits = let r = try-fit j ok o .0 e in rw (ap positions (r .numbered) ∙ positions-suc (r .positions)) (r .fits)
 
-  replayed : (moved f j o .whole ≡ true) × (moved f j o .marking ≡ tried j o .marking)
+  replayed : (moved f j o .whole ≡ true) × (moved f j o .marking ≡ tried j o .marking .tokens)
   unfolding replay
-  replayed = replay-fires f (j .new) (nameAt j) (stepsDone j) (done-named j ok) (newStart j) (tried j o .marking) allBlank (positions o) (try-marking j ok o e)
+  replayed = replay-fires f (j .new) (nameAt j) (stepsDone j) (done-named j ok) (newStart j) (tried j o .marking .tokens) allBlank (positions o) (try-marking j ok o e)
 
   turned : InTurn (j .new) (nameAt j) (newStart j) (positions o) (moved f j o .passed)
   unfolding replay
-  turned = replay-turns f (j .new) (nameAt j) (stepsDone j) (done-named j ok) (newStart j) (tried j o .marking) allBlank (positions o) (try-marking j ok o e)
+  turned = replay-turns f (j .new) (nameAt j) (stepsDone j) (done-named j ok) (newStart j) (tried j o .marking .tokens) allBlank (positions o) (try-marking j ok o e)
 
   moved-store : moved f j o .store ≡ performAll f (stepAt (stepsDone j)) (positions o) allBlank
   unfolding replay
   moved-store = replay-store f (j .new) (nameAt j) (stepAt (stepsDone j)) (newStart j) allBlank (positions o) own (replayed .0)
     where
-      own : (i : ℕ) (s : Step) → 0 < times i (positions o) → lookup (nameAt j i) (j .new) ≡ some s → SameData s (stepAt (stepsDone j) i)
+      own : (i : ℕ) (s : Step) → 0 < times i (positions o) → lookup (nameAt j i) (j .new) ≡ some s
+          → SameData s (stepAt (stepsDone j) i)
       own i s n h = same-data (j .new) (stepAt (stepsDone j) i) s (fit-same (newStart j) (j .new) (stepsDone j) (positions o) fits i n) (rw (done-named j ok i) h)
 
   pub carried : Carried f j o

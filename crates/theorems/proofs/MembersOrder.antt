@@ -11,7 +11,7 @@ use Rattle.mask.specs.Mask.{has, membersFrom, members}
 use Rattle.route.specs.declared.Step.{Step}
 use Rattle.slice.specs.Precedence.{comesAfter}
 use Rattle.slice.specs.Order.{times, EachOnce, noneOf, inOrder}
-use Rattle.theorems.proofs.Entries.{each-none}
+use Rattle.theorems.proofs.Entries.{noneOf-intro}
 
 -- ---- each once
 
@@ -43,19 +43,20 @@ once-from (suc k) v m i a b = go (ℕ-discrete v i) (λ n. once-from k (suc v) m
     rest : List ℕ
     rest = membersFrom (suc v) k m
 
-    go : Dec (v ≡ i) → ((v ≡ i → ⊥) → times i rest ≡ cond (has m i) 1 0) → times i (cond (has m v) (v ∷ rest) rest) ≡ cond (has m i) 1 0
+    go : Dec (v ≡ i) → ((v ≡ i → ⊥) → times i rest ≡ cond (has m i) 1 0)
+        → times i (cond (has m v) (v ∷ rest) rest) ≡ cond (has m i) 1 0
     go (yes e) ih = count-own i v (has m v) rest e (none-below k (suc v) m i (omega arith)) ∙ rw e
     go (no n) ih = count-other i v (has m v) rest n ∙ ih n
 
-pub own-once : (n kept : ℕ) → ((i : ℕ) → has kept i ≡ true → i < n) → EachOnce kept (members n kept)
+pub members-eachOnce : (n kept : ℕ) → ((i : ℕ) → has kept i ≡ true → i < n) → EachOnce kept (members n kept)
 unfolding members
-own-once n kept h i = once-from n 0 kept i (omega arith) (λ k. omega (arith, h i k))
+members-eachOnce n kept h i = once-from n 0 kept i (omega arith) (λ k. omega (arith, h i k))
 
 -- ---- in order
 
-pub not-after : (l : List Step) (i j : ℕ) → i ≤ j → comesAfter l i j ≡ false
+pub comesAfter-le : (l : List Step) (i j : ℕ) → i ≤ j → comesAfter l i j ≡ false
 unfolding comesAfter
-not-after l i j h = rw (le-ltb j i h)
+comesAfter-le l i j h = rw (le-ltb j i h)
 
 order-from : (l : List Step) (k v m : ℕ) → inOrder l (membersFrom v k m) ≡ true
 unfolding inOrder membersFrom
@@ -66,7 +67,7 @@ order-from l (suc k) v m = go (has m v) (order-from l k (suc v) m)
     rest = membersFrom (suc v) k m
 
     first : noneOf (comesAfter l v) rest ≡ true
-    first = each-none (comesAfter l v) rest (λ i n. not-after l v i (go i n (decLt i (suc v))))
+    first = noneOf-intro (comesAfter l v) rest (λ i n. comesAfter-le l v i (go i n (decLt i (suc v))))
       where
         go : (i : ℕ) → 0 < times i rest → Dec (i < suc v) → v ≤ i
         go i n (yes h) = absurd (omega (arith, none-below k (suc v) m i h))
@@ -76,6 +77,6 @@ order-from l (suc k) v m = go (has m v) (order-from l k (suc v) m)
     go true h = ap₂ (λ (a b : Bool). a && b) first h
     go false h = h
 
-pub own-order : (l : List Step) (n kept : ℕ) → inOrder l (members n kept) ≡ true
+pub members-inOrder : (l : List Step) (n kept : ℕ) → inOrder l (members n kept) ≡ true
 unfolding members
-own-order l n kept = order-from l n 0 kept
+members-inOrder l n kept = order-from l n 0 kept

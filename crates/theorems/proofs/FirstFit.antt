@@ -20,16 +20,17 @@ use Rattle.search.specs.Dictionary.{NotAfter}
 use Rattle.judging.specs.Placing.{placeNext}
 use Rattle.judging.specs.Judge.{firstOf, firstFit}
 use Rattle.search.proofs.Finds.{Allowed, search-sound, search-complete, search-least}
-use Rattle.theorems.proofs.Entries.{entry-member, member-entry, each-all}
+use Rattle.theorems.proofs.Entries.{eachOnce-has, has-eachOnce, allOf-stepsOn-intro}
 use Rattle.mask.proofs.Count.{one, count-none, count-full}
-use Rattle.theorems.proofs.Fresh.{marks, fresh, fresh-times, fresh-count, once-count}
-use Rattle.theorems.proofs.KeptPass.{KeptPass, kept-short, all-kept}
+use Rattle.theorems.proofs.EachOnce.{marks, fresh, fresh-times, fresh-count, length-eachOnce}
+use Rattle.theorems.proofs.KeptRows.{KeptPass, kept-short, all-kept}
 use Rattle.theorems.proofs.FitList.{fit-fires}
-use Rattle.theorems.proofs.Dictionary.{map-order}
+use Rattle.theorems.proofs.Dictionary.{notAfter-map}
 use Rattle.theorems.proofs.Candidates.{Below, entry-at, at-entry, map-entry, members-rise, times-at, find-at}
 use Rattle.theorems.proofs.Placed.{allowed-placed, placed-allowed}
 
-map-some : {A B : Type 0} (f : A → B) (q : Option A) (b : B) → Option·map f q ≡ some b → (a : A) × (q ≡ some a) × (b ≡ f a)
+map-some : {A B : Type 0} (f : A → B) (q : Option A) (b : B) → Option·map f q ≡ some b
+    → (a : A) × (q ≡ some a) × (b ≡ f a)
 map-some f none b e = absurd (Option·none-ne-some b e)
 map-some f (some a) b e = (a, refl, Option·some-injective b (f a) (sym e))
 
@@ -45,13 +46,14 @@ module _ (from : ℕ) (new l : List Step) (short : length l ≤ 64) where
   found = search (placeNext new l ks) (length ks) (length ks) 0 from
 
   kept-at : (k : ℕ) → k < length ks → has (keptOf new l) (at k) ≡ true
-  kept-at k h = entry-member (keptOf new l) ks (all-kept new l short) (at k) (entry-at ks k h)
+  kept-at k h = eachOnce-has (keptOf new l) ks (all-kept new l short) (at k) (entry-at ks k h)
 
   at-kept : (i : ℕ) → has (keptOf new l) i ≡ true → (k : ℕ) × (k < length ks) × (at k ≡ i)
-  at-kept i h = at-entry ks i (member-entry (keptOf new l) ks (all-kept new l short) i h)
+  at-kept i h = at-entry ks i (has-eachOnce (keptOf new l) ks (all-kept new l short) i h)
 
   -- as many new candidates as there are: each stands once
-  all-once : (o : List ℕ) → Below (length ks) o → fresh 0 o ≡ true → length o ≡ length ks → EachOnce (keptOf new l) (map at o)
+  all-once : (o : List ℕ) → Below (length ks) o → fresh 0 o ≡ true → length o ≡ length ks
+      → EachOnce (keptOf new l) (map at o)
   all-once o b f e i = go (has (keptOf new l) i) refl
     where
       each : (k : ℕ) → k < length ks → times k o ≡ 1
@@ -76,7 +78,7 @@ module _ (from : ℕ) (new l : List Step) (short : length l ≤ 64) where
       let (a, len) = search-sound (placeNext new l ks) (length ks) (length ks) 0 from o f in
       let r = allowed-placed new l ks (members-rise 64 (keptOf new l)) a in
       let c = all-once o (r .low) (r .each) len in
-      rw is (record { once = c; order = r .order; same = each-all (sameStep new) l (map at o) (λ i n. pass .same i (entry-member (keptOf new l) (map at o) c i n)); fires = rw (r .fires); limit = pass .limit })
+      rw is (record { once = c; order = r .order; same = allOf-stepsOn-intro (sameStep new) l (map at o) (λ i n. pass .same i (eachOnce-has (keptOf new l) (map at o) c i n)); fires = rw (r .fires); limit = pass .limit })
 
   -- a fit list of the kept is that of a list of candidates, which the search may find
   record Found (q : List ℕ) : Type 0 where
@@ -97,10 +99,11 @@ module _ (from : ℕ) (new l : List Step) (short : length l ≤ 64) where
         is = is;
         low = low;
         allowed = placed-allowed new l ks up c 0 from _ low rest (rw is at (k .order)) (ap (λ (o : List ℕ). fireAll new from (stepsOn l o)) (sym is) ∙ fit-fires from new l q (inr k));
-        whole = omega (arith, once-count 64 (keptOf new l) q (λ i h. omega (arith, kept-short new l i h)) (k .once), ap length is, length-map c at);
+        whole = omega (arith, length-eachOnce 64 (keptOf new l) q (λ i h. omega (arith, kept-short new l i h)) (k .once), ap length is, length-map c at);
       }
     where
-      rest-of : (c : List ℕ) → EachOnce (keptOf new l) (map at c) → Below (length ks) c → (v : ℕ) → v < length ks → one (has 0 v) + times v c ≡ 1
+      rest-of : (c : List ℕ) → EachOnce (keptOf new l) (map at c) → Below (length ks) c → (v : ℕ) → v < length ks
+          → one (has 0 v) + times v c ≡ 1
       rest-of c once low v h =
           let own : times (at v) (map at c) ≡ 1 = once (at v) ∙ rw (kept-at v h) in
           rw (has-zero v) (omega (arith, times-at ks (members-rise 64 (keptOf new l)) c low v h))
@@ -112,7 +115,7 @@ module _ (from : ℕ) (new l : List Step) (short : length l ≤ 64) where
       let (o, f, is) = map-some (map at) found p e in
       let r = may-find q k in
       let least : NotAfter o (r .list) = search-least (placeNext new l ks) (length ks) o (r .allowed) (rw (r .whole) f) in
-      rw (is, r .is) (map-order at (λ x y h n. members-rise 64 (keptOf new l) x y h (r .low y n)) least)
+      rw (is, r .is) (notAfter-map at (λ x y h n. members-rise 64 (keptOf new l) x y h (r .low y n)) least)
 
   pub first-none : firstFit from new l ≡ none → (q : List ℕ) → KeptFit from new l q → ⊥
   unfolding firstFit firstOf

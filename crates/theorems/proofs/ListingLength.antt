@@ -1,0 +1,26 @@
+-- No listing of a sheet is longer than 7,053 bytes: judge's answers have a bound of their own, and a refusal is one short line.
+use mathlib.Core.Path.{_≡_, refl}
+use mathlib.Core.Bool.{Bool, true, false, cond}
+use mathlib.Core.List.{List}
+use Prim.Native.Nat.{ℕ, _≤_}
+use native.Mathlib.Omega.{arith}
+use lib.Dec.{eqb}
+use lib.ListN.{length}
+use Rattle.facts.specs.Facts.{readOf, jobRead}
+use Rattle.judging.specs.Judge.{judged, judgeStopped}
+use Rattle.listing.specs.Listing.{listing}
+use Rattle.listing.proofs.AnyRecord.{refused-long}
+use Rattle.listing.proofs.Longest.{longest}
+use Rattle.ops.specs.Print.{sheetAnswer, listingOf}
+
+pub listing-length : (s : List ℕ) → length (listingOf s) ≤ 7053
+unfolding listingOf sheetAnswer listing
+listing-length s = go (eqb (readOf s .number) 0) refl
+  where
+    stopped : (n k : ℕ) → eqb n 0 ≡ false → length (listing (judgeStopped n k)) ≤ 7053
+    stopped n k e = rw e (omega (arith, refused-long (judgeStopped n k)))
+
+    go : (t : Bool) → eqb (readOf s .number) 0 ≡ t
+        → length (listing (cond t (judged (jobRead (readOf s)) 8192) (judgeStopped (readOf s .number) (readOf s .second)))) ≤ 7053
+    go true e = longest (jobRead (readOf s)) 8192
+    go false e = stopped (readOf s .number) (readOf s .second) e
