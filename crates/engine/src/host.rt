@@ -15,11 +15,11 @@ pub extern "C" fn reroute_try(
 ) -> u32
     ensures { λ r. ⌜ r ≡ triedSheet (now (sheet .entry)) (now (order .entry)) .number ⌝ }
     ensures { λ _. ⌜ now (second .exit) ≡ triedSheet (now (sheet .entry)) (now (order .entry)) .second ⌝ }
-    ensures { λ _. ⌜ now (marking .exit) ≡ triedSheet (now (sheet .entry)) (now (order .entry)) .marking ⌝ }
+    ensures { λ _. ⌜ now (marking .exit) ≡ triedSheet (now (sheet .entry)) (now (order .entry)) .marking .tokens ⌝ }
 {
     let t = try_sheet(sheet, order);
     *second = t.second;
-    *marking = t.marking;
+    *marking = t.marking.tokens;
     t.number
 }
 

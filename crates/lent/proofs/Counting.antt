@@ -9,7 +9,7 @@ use Rattle.refusal.specs.Rows.{unless, first}
 use Rattle.refusal.proofs.Rows.{head-passed, row-passed}
 use Rattle.facts.specs.declared.Sheet.{Sheet}
 use Rattle.facts.proofs.Counts.{Few}
-use Rattle.facts.proofs.Dones.{Dones}
+use Rattle.facts.proofs.DoneNames.{Dones}
 use Rattle.lent.specs.declared.Counts.{Counts}
 use Rattle.lent.specs.Reading.{readRow, noCounts, counts, counted}
 

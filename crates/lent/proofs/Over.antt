@@ -1,23 +1,20 @@
 -- A list over 64 is refused by row 4 at its 65th record, unless an earlier line's fault goes first. What follows its 64th record changes
 -- nothing, so the route that it is loaded into meets the same refusal.
-use mathlib.Core.Path.{_≡_, refl, sym, ap, ap₂, _∙_}
+use mathlib.Core.Path.{_≡_, refl, ap, _∙_}
 use mathlib.Core.Bool.{Bool, true, false, cond}
 use mathlib.Core.List.{List, [], _∷_, _++_, append-nil}
-use Prim.Native.Nat.{ℕ, zero, suc, _+_, _-_, _≤_, _<_}
+use Prim.Native.Nat.{ℕ, suc, _+_, _-_, _≤_, _<_}
 use native.Mathlib.Omega.{arith}
-use lib.Dec.{eqb, ltb, leb, ltb→lt, nltb→le, T}
-use lib.ListN.{length, take, drop, replicate, getD, length-append, length-take, length-replicate}
+use lib.Dec.{eqb, ltb}
+use lib.ListN.{length, take, drop, replicate, getD, length-append}
 use lib.Seq.{take-all, take-at, split-at, length-take-le}
 use Rattle.route.specs.Steps.{blank, stepsOf}
-use Rattle.refusal.specs.Rows.{pass, refuse, unless, first}
+use Rattle.refusal.specs.Rows.{refuse, unless, first}
 use Rattle.route.specs.declared.Step.{Step}
-use Rattle.route.specs.declared.Route.{Route}
 use Rattle.refusal.specs.declared.Outcome.{Outcome}
-use Rattle.refusal.proofs.Rows.{rows-pass, rows-refuse, head-refuses, row-refuses}
+use Rattle.refusal.proofs.Rows.{rows-refuse, row-refuses}
 use Rattle.records.specs.Loaded.{loaded}
-use Rattle.job.specs.Job.{Job, jobOf, afterSteps, newLine, jobLine}
-use Rattle.job.specs.Lines.{placesFit, stepRow, stepRows, routeRows, doneRows, lineRows}
-use Rattle.lent.specs.Lent.{lentJob}
+use Rattle.job.specs.Lines.{placesFit, stepRow, stepRows, routeRows}
 
 -- ---- the steps of a loaded list
 

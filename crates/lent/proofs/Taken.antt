@@ -1,8 +1,7 @@
 -- The machine values of a sheet's arrays: a field of a struct says what the array says by itself.
-use mathlib.Core.Path.{_≡_, refl, _∙_, sym, ap, subst}
-use Prim.Native.Nat.{ℕ}
+use mathlib.Core.Path.{_∙_, sym, ap}
 use mathlib.Core.List.{List, [], _∷_, map}
-use lib.ListN.{length, length-map}
+use lib.ListN.{length-map}
 use mir.Syntax.{w32}
 use mir.Val.{Val, vint}
 use base.Fml.{Fml}
@@ -12,7 +11,6 @@ use denote.Laws.{Is}
 use denote.Shadow.{shadow}
 use denote.Struct.Field.{u32-field}
 use denote.Struct.Laws as LL
-use Rattle.route.specs.declared.Step.{Step}
 use Rattle.route.specs.declared.Route.{Route}
 use Rattle.route.proofs.Step as St
 use Rattle.route.proofs.Step.Laws as St′

@@ -1,3 +1,4 @@
 -- Laws on the operations on a sheet's bytes.
 pub mod Prints
 pub mod SheetTry
+pub mod ReadJob

@@ -1,38 +1,64 @@
 -- Print: what reading and judging tell is what the listing is made of.
--- Assumes nothing.
 use mathlib.Core.Path.{_≡_, refl, sym, ap, _∙_, subst}
 use mathlib.Core.Bool.{Bool, true, false, cond}
 use mathlib.Core.List.{List}
-use Prim.Native.Nat.{ℕ, _≤_, _<_}
+use Prim.Native.Nat.{ℕ, _*_, _≤_, _<_}
 use native.Mathlib.Omega.{arith}
 use lib.Dec.{eqb, leb}
-use lib.ListN.{length}
+use lib.ListN.{length, take}
 use borrow.Author.Tests.{leb-true, le-leb, lt-leb, eq-eqb, ne-eqb}
 use Rattle.facts.specs.Facts.{readOf, jobRead}
-use Rattle.facts.specs.declared.Sheet.{Sheet}
-use Rattle.job.specs.Job.{Job}
+use Rattle.job.specs.Job.{Job, flatJob}
 use Rattle.judging.specs.Judge.{judged, judgeStopped, workAfter}
 use Rattle.judging.specs.declared.Judged.{Judged}
+use Rattle.judging.proofs.JudgeOperation as J
 use Rattle.matching.proofs.Choice.{cond-yes, cond-no}
-use Rattle.judging.proofs.Whole as W
 use Rattle.listing.specs.Listing.{listing}
 use Rattle.listing.specs.Written.{writtenFor, outAfter}
-use Rattle.ops.specs.Print.{sheetAnswer, printed, outPrinted, workPrinted}
 use Rattle.listing.specs.declared.Written.{Written}
+use Rattle.reader.specs.Read.{ReadTo}
+use Rattle.reader.specs.declared.Counts.{Counts}
+use Rattle.ops.specs.Print.{sheetAnswer, printed, outPrinted, workPrinted}
+use Rattle.ops.proofs.ReadJob.{read-job}
 
--- ---- a sheet's facts
-
-module _ (s : Sheet) (w : List ℕ) where
-  pub facts-refused : (s .number ≡ 0 → ⊥) → (judgeStopped (s .number) (s .second) ≡ cond (eqb (s .number) 0) (judged (jobRead s) (length w)) (judgeStopped (s .number) (s .second))) × (w ≡ cond (eqb (s .number) 0) (workAfter (jobRead s) w) w)
-  facts-refused h = (cond-no _ _ refl (ne-eqb (s .number) 0 h), cond-no _ w refl (ne-eqb (s .number) 0 h))
-
-  pub facts-judged : s .number ≡ 0 → (judged (jobRead s) (length w) ≡ cond (eqb (s .number) 0) (judged (jobRead s) (length w)) (judgeStopped (s .number) (s .second))) × (workAfter (jobRead s) w ≡ cond (eqb (s .number) 0) (workAfter (jobRead s) w) w)
-  facts-judged h = (cond-yes _ _ refl (eq-eqb (s .number) 0 h), cond-yes _ w refl (eq-eqb (s .number) 0 h))
+-- ---- judge's answer to a sheet
 
 -- a work slice that is long enough changes nothing in the answer
 enough-work : (j : Job) (room : ℕ) → 8192 ≤ room → judged j room ≡ judged j 8192
 unfolding judged
 enough-work j room h = sym (cond-yes _ _ refl (le-leb 8192 room h))
+
+module _ (s : List ℕ) (r : Counts) (old new done : List ℕ) (k : ReadTo s r old new done) where
+  abbrev job : Job
+  job = flatJob (r .«old_places») (take (4 * r .«old_len») old) (r .«new_places») (take (4 * r .«new_len») new) (take (r .«done_len») done)
+
+  module _ (off : r .number ≡ 0 → ⊥) where
+    refused : eqb (readOf s .number) 0 ≡ false
+    refused = ne-eqb (readOf s .number) 0 (λ e. off (k .number ∙ e))
+
+    pub answer-refused : (a : Judged) → a ≡ judgeStopped (r .number) (r .second) → a ≡ sheetAnswer s
+    unfolding sheetAnswer
+    answer-refused a e = e ∙ (λ i. judgeStopped (k .number i) (k .second i)) ∙ cond-no _ _ refl refused
+
+    pub work-refused : (w : List ℕ) → w ≡ workPrinted s w
+    unfolding workPrinted
+    work-refused w = cond-no _ w refl refused
+
+  module _ (z : r .number ≡ 0) where
+    reads : eqb (readOf s .number) 0 ≡ true
+    reads = eq-eqb (readOf s .number) 0 (sym (k .number) ∙ z)
+
+    pub answer-judged : (w : List ℕ) → 8192 ≤ length w → (a : Judged) → a ≡ judged job (length w) → a ≡ sheetAnswer s
+    unfolding sheetAnswer
+    answer-judged w long a e =
+        e
+        ∙ ap (λ (j : Job). judged j (length w)) (read-job s r old new done k z)
+        ∙ enough-work (jobRead (readOf s)) (length w) long
+        ∙ cond-yes _ _ refl reads
+
+    pub work-judged : (w x : List ℕ) → x ≡ workAfter job w → x ≡ workPrinted s w
+    unfolding workPrinted
+    work-judged w x e = e ∙ ap (λ (j : Job). workAfter j w) (read-job s r old new done k z) ∙ cond-yes _ w refl reads
 
 -- ---- the operation
 
@@ -52,30 +78,18 @@ module _ (s w o : List ℕ) where
     work-short = go (eqb (readOf s .number) 0)
       where
         go : (t : Bool) → w ≡ cond t (workAfter (jobRead (readOf s)) w) w
-        go true = W.work-short (jobRead (readOf s)) w short
+        go true = J.work-short (jobRead (readOf s)) w short
         go false = refl
 
   -- and where there is room to work
-  module _ (long : 8192 ≤ length w) where
-    answer-is : cond (eqb (readOf s .number) 0) (judged (jobRead (readOf s)) (length w)) (judgeStopped (readOf s .number) (readOf s .second)) ≡ sheetAnswer s
-    unfolding sheetAnswer
-    answer-is = ap (λ (a : Judged). cond (eqb (readOf s .number) 0) a (judgeStopped (readOf s .number) (readOf s .second))) (enough-work (jobRead (readOf s)) (length w) long)
+  module _ (long : 8192 ≤ length w) (a : Judged) (told : a ≡ sheetAnswer s) where
+    pub printed-long : (x : Written) → x ≡ writtenFor a (length o) → x ≡ printed s (length w) (length o)
+    unfolding printed
+    printed-long x e = e ∙ ap (λ (y : Judged). writtenFor y (length o)) told ∙ cond-yes _ _ refl (le-leb 8192 (length w) long)
 
-    module _ (f : Sheet) (read : f ≡ readOf s) (a : Judged) (told : a ≡ cond (eqb (f .number) 0) (judged (jobRead f) (length w)) (judgeStopped (f .number) (f .second))) where
-      answers : a ≡ sheetAnswer s
-      answers = told ∙ ap (λ (x : Sheet). cond (eqb (x .number) 0) (judged (jobRead x) (length w)) (judgeStopped (x .number) (x .second))) read ∙ answer-is
-
-      pub printed-long : writtenFor a (length o) ≡ printed s (length w) (length o)
-      unfolding printed
-      printed-long = ap (λ (x : Judged). writtenFor x (length o)) answers ∙ cond-yes _ _ refl (le-leb 8192 (length w) long)
-
-      pub out-long : outAfter a o ≡ outPrinted s (length w) o
-      unfolding outPrinted
-      out-long = ap (λ (x : Judged). outAfter x o) answers ∙ cond-yes _ o refl (le-leb 8192 (length w) long)
-
-  pub work-long : (f : Sheet) → f ≡ readOf s → cond (eqb (f .number) 0) (workAfter (jobRead f) w) w ≡ workPrinted s w
-  unfolding workPrinted
-  work-long f read = ap (λ (x : Sheet). cond (eqb (x .number) 0) (workAfter (jobRead x) w) w) read
+    pub out-long : (x : List ℕ) → x ≡ outAfter a o → x ≡ outPrinted s (length w) o
+    unfolding outPrinted
+    out-long x e = e ∙ ap (λ (y : Judged). outAfter y o) told ∙ cond-yes _ o refl (le-leb 8192 (length w) long)
 
 -- the bytes written lie in the out slice
 pub written-fits : (a : Written) (s : List ℕ) (work room : ℕ) → a ≡ printed s work room → a .written ≤ room

@@ -1,24 +1,30 @@
--- What try answers of a sheet's facts, where they are refused and where they are not.
--- Assumes nothing.
-use mathlib.Core.Path.{_≡_, refl, ap}
+-- Try on a sheet's bytes: the sheet's refusal, or what try answers of its job.
+use mathlib.Core.Path.{_≡_, refl, sym, ap, _∙_}
 use mathlib.Core.List.{List}
-use Prim.Native.Nat.{ℕ}
+use Prim.Native.Nat.{ℕ, _*_}
+use lib.ListN.{take}
 use borrow.Author.Tests.{eq-eqb, ne-eqb}
-use Rattle.facts.specs.Facts.{readOf, jobRead}
-use Rattle.facts.specs.declared.Sheet.{Sheet}
-use Rattle.trying.specs.Try.{tried, tryStopped}
+use Rattle.facts.specs.Facts.{readOf}
+use Rattle.job.specs.Job.{Job, flatJob}
 use Rattle.matching.proofs.Choice.{cond-yes, cond-no}
+use Rattle.trying.specs.Try.{tried, tryStopped}
+use Rattle.trying.specs.declared.Tried.{Tried}
+use Rattle.reader.specs.Read.{ReadTo}
+use Rattle.reader.specs.declared.Counts.{Counts}
 use Rattle.ops.specs.SheetTry.{triedFacts, triedSheet}
+use Rattle.ops.proofs.ReadJob.{read-job}
 
-module _ (s : Sheet) (order : List ℕ) where
-  pub facts-refused : (s .number ≡ 0 → ⊥) → tryStopped (s .number) (s .second) ≡ triedFacts s order
-  unfolding triedFacts
-  facts-refused h = cond-no _ _ refl (ne-eqb (s .number) 0 h)
+module _ (s order : List ℕ) (r : Counts) (old new done : List ℕ) (k : ReadTo s r old new done) where
+  pub try-refused : (r .number ≡ 0 → ⊥) → (t : Tried) → t ≡ tryStopped (r .number) (r .second) → t ≡ triedSheet s order
+  unfolding triedSheet triedFacts
+  try-refused off t e =
+      e
+      ∙ (λ i. tryStopped (k .number i) (k .second i))
+      ∙ cond-no _ _ refl (ne-eqb (readOf s .number) 0 (λ z. off (k .number ∙ z)))
 
-  pub facts-tried : s .number ≡ 0 → tried (jobRead s) order ≡ triedFacts s order
-  unfolding triedFacts
-  facts-tried h = cond-yes _ _ refl (eq-eqb (s .number) 0 h)
-
-pub sheet-tried : (s order : List ℕ) (f : Sheet) → f ≡ readOf s → triedFacts f order ≡ triedSheet s order
-unfolding triedSheet
-sheet-tried s order f e = ap (λ (x : Sheet). triedFacts x order) e
+  pub try-tried : r .number ≡ 0 → (t : Tried) → t ≡ tried (flatJob (r .«old_places») (take (4 * r .«old_len») old) (r .«new_places») (take (4 * r .«new_len») new) (take (r .«done_len») done)) order → t ≡ triedSheet s order
+  unfolding triedSheet triedFacts
+  try-tried z t e =
+      e
+      ∙ ap (λ (j : Job). tried j order) (read-job s r old new done k z)
+      ∙ cond-yes _ _ refl (eq-eqb (readOf s .number) 0 (sym (k .number) ∙ z))

@@ -3,7 +3,6 @@ use mathlib.Core.Bool.{cond}
 use mathlib.Core.List.{List}
 use Prim.Native.Nat.{ℕ}
 use lib.Dec.{eqb, leb}
-use lib.ListN.{length}
 use Rattle.facts.specs.Facts.{readOf, jobRead}
 use Rattle.judging.specs.Judge.{judged, judgeStopped, workAfter}
 use Rattle.judging.specs.declared.Judged.{Judged}

@@ -47,7 +47,7 @@ pub fn say(label: &[u8], a: Judged) {
     }
     number(b"  kept mask ", a.kept);
     number(b" dropped ", a.dropped as u64);
-    number(b" marking mask ", a.marking);
+    number(b" marking mask ", a.marking.tokens);
     io::write_all(1, b"\n");
     let order = a.order;
     say_order(order, a.len);

@@ -12,7 +12,7 @@ fn say(label: &[u8], t: Tried) {
     io::write_all(1, b" ");
     io::print_decimal(1, t.second);
     io::write_all(1, b" ");
-    io::print_decimal(1, t.marking);
+    io::print_decimal(1, t.marking.tokens);
     io::write_all(1, b"\n");
 }
 

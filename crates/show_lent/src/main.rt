@@ -2,123 +2,9 @@
 // one whose answer takes a search. A line shows both lengths and then, of each operation, its two numbers and: run, its marking; slice, its mask of
 // kept ones; try, its marking; judge, its order's length, its marking and the first byte of the work slice; write, how many bytes it wrote and the
 // first of them. Both slices hold 46 before. A line of reading shows how many steps a route of the sheet has and both lengths.
-use job::Ran;
-use judging::Judged;
-use lent::Counts;
+use arrays::Filled;
 use route::Step;
-use slice::Sliced;
-use trying::Tried;
-use writer::Wrote;
-ghost use mathlib.Core.Path.{_≡_};
 ghost use Prim.Native.Nat.{_≤_};
-ghost use mathlib.Core.List.{_++_};
-ghost use lib.ListN.{length, take, drop};
-ghost use Rattle.job.specs.Run.{ran};
-ghost use Rattle.slice.specs.Table.{sliced};
-ghost use Rattle.trying.specs.Try.{tried};
-ghost use Rattle.judging.specs.Judge.{judged, workAfter};
-ghost use Rattle.writer.specs.Writes.{wrote, outAfter};
-ghost use Rattle.records.specs.Loaded.{laid};
-ghost use Rattle.facts.specs.Facts.{readOf};
-ghost use Rattle.lent.specs.Lent.{lentJob};
-ghost use Rattle.lent.specs.Reading.{counted};
-
-// What reading gives, and both arrays after it.
-struct Filled {
-    counts: Counts,
-    old: [Step; 100],
-    new: [Step; 100],
-}
-
-// The first n and m records of two arrays, lent. (A local that is a lent list of records takes a walk by hand, so `main` has none.)
-fn run_first(a: [Step; 100], n: usize, b: [Step; 100], m: usize, done: &[u32]) -> Ran
-    requires { ⌜ (n ≤ 100) × (m ≤ 100) ⌝ }
-    ensures { λ r. ⌜ r ≡ ran (lentJob 64 (take n a) 64 (take m b) (now (done .entry))) ⌝ }
-{
-    lent::run(64, &a[..n], 64, &b[..m], done)
-}
-
-// The same for slice.
-fn slice_first(a: [Step; 100], n: usize, b: [Step; 100], m: usize, done: &[u32]) -> Sliced
-    requires { ⌜ (n ≤ 100) × (m ≤ 100) ⌝ }
-    ensures { λ r. ⌜ r ≡ sliced (lentJob 64 (take n a) 64 (take m b) (now (done .entry))) ⌝ }
-{
-    lent::slice(64, &a[..n], 64, &b[..m], done)
-}
-
-// The same for try.
-fn try_first(
-    a: [Step; 100],
-    n: usize,
-    b: [Step; 100],
-    m: usize,
-    done: &[u32],
-    order: &[u8],
-) -> Tried
-    requires { ⌜ (n ≤ 100) × (m ≤ 100) ⌝ }
-    ensures { λ r. ⌜ r ≡ tried (lentJob 64 (take n a) 64 (take m b) (now (done .entry))) (now (order .entry)) ⌝ }
-{
-    lent::try_order(64, &a[..n], 64, &b[..m], done, order)
-}
-
-// The same for judge.
-fn judge_first(
-    a: [Step; 100],
-    n: usize,
-    b: [Step; 100],
-    m: usize,
-    done: &[u32],
-    work: &mut [u8],
-) -> Judged
-    requires { ⌜ (n ≤ 100) × (m ≤ 100) ⌝ }
-    ensures { λ r. ⌜ (r ≡ judged (lentJob 64 (take n a) 64 (take m b) (now (done .entry))) (length (now (work .entry))))
-        × (now (work .exit) ≡ workAfter (lentJob 64 (take n a) 64 (take m b) (now (done .entry))) (now (work .entry))) ⌝ }
-{
-    lent::judge(64, &a[..n], 64, &b[..m], done, work)
-}
-
-// The same for write.
-fn write_first(
-    a: [Step; 100],
-    n: usize,
-    b: [Step; 100],
-    m: usize,
-    done: &[u32],
-    out: &mut [u8],
-) -> Wrote
-    requires { ⌜ (n ≤ 100) × (m ≤ 100) ⌝ }
-    ensures { λ r. ⌜ (r ≡ wrote (lentJob 64 (take n a) 64 (take m b) (now (done .entry))) (length (now (out .entry))))
-        × (now (out .exit) ≡ outAfter (lentJob 64 (take n a) 64 (take m b) (now (done .entry))) (now (out .entry))) ⌝ }
-{
-    lent::write(64, &a[..n], 64, &b[..m], done, out)
-}
-
-fn together(counts: Counts, old: [Step; 100], new: [Step; 100]) -> Filled
-    ensures { λ r. ⌜ r ≡ record { counts = counts; old = old; new = new } ⌝ }
-{
-    Filled { counts, old, new }
-}
-
-// Reading into the first n and m records of two arrays.
-fn read_first(
-    sheet: &[u8],
-    a: [Step; 100],
-    n: usize,
-    b: [Step; 100],
-    m: usize,
-    done: &mut [u32],
-) -> Filled
-    requires { ⌜ (n ≤ 100) × (m ≤ 100) ⌝ }
-    ensures { λ r. ⌜ (r .counts ≡ counted (readOf (now (sheet .entry))) n m (length (now (done .entry))))
-        × ((r .old ≡ laid (r .counts .«old_len») (readOf (now (sheet .entry)) .old .steps) (take n a) ++ drop n a)
-        × ((r .new ≡ laid (r .counts .«new_len») (readOf (now (sheet .entry)) .new .steps) (take m b) ++ drop m b)
-        × (now (done .exit) ≡ laid (r .counts .«done_len») (readOf (now (sheet .entry)) .done) (now (done .entry))))) ⌝ }
-{
-    let mut old = a;
-    let mut new = b;
-    let c = lent::reading::read(sheet, &mut old[..n], &mut new[..m], done);
-    together(c, old, new)
-}
 
 // A route of 64 steps, and 36 records that hold 0.
 fn hundred() -> [Step; 100] {
@@ -149,7 +35,7 @@ fn begins(s: &[u8]) {
 fn show_run(a: [Step; 100], n: usize, b: [Step; 100], m: usize)
     requires { ⌜ (n ≤ 100) × (m ≤ 100) ⌝ }
 {
-    let r = run_first(a, n, b, m, &[100, 101]);
+    let r = arrays::run(64, a, n, 64, b, m, &[100, 101]);
     number(r.number as u64);
     number(r.second);
     number(r.marking.tokens);
@@ -158,7 +44,7 @@ fn show_run(a: [Step; 100], n: usize, b: [Step; 100], m: usize)
 fn show_slice(a: [Step; 100], n: usize, b: [Step; 100], m: usize)
     requires { ⌜ (n ≤ 100) × (m ≤ 100) ⌝ }
 {
-    let r = slice_first(a, n, b, m, &[100, 101]);
+    let r = arrays::slice(64, a, n, 64, b, m, &[100, 101]);
     number(r.number as u64);
     number(r.second);
     number(r.kept);
@@ -167,21 +53,21 @@ fn show_slice(a: [Step; 100], n: usize, b: [Step; 100], m: usize)
 fn show_try(a: [Step; 100], n: usize, b: [Step; 100], m: usize)
     requires { ⌜ (n ≤ 100) × (m ≤ 100) ⌝ }
 {
-    let r = try_first(a, n, b, m, &[100, 101], &[1, 2]);
+    let r = arrays::try_order(64, a, n, 64, b, m, &[100, 101], &[1, 2]);
     number(r.number as u64);
     number(r.second);
-    number(r.marking);
+    number(r.marking.tokens);
 }
 
 fn show_judge(a: [Step; 100], n: usize, b: [Step; 100], m: usize)
     requires { ⌜ (n ≤ 100) × (m ≤ 100) ⌝ }
 {
     let mut work = [46u8; 8192];
-    let r = judge_first(a, n, b, m, &[100, 101], &mut work);
+    let r = arrays::judge(64, a, n, 64, b, m, &[100, 101], &mut work);
     number(r.number as u64);
     number(r.second);
     number(r.len as u64);
-    number(r.marking);
+    number(r.marking.tokens);
     begins(&work);
 }
 
@@ -189,7 +75,7 @@ fn show_write(a: [Step; 100], n: usize, b: [Step; 100], m: usize)
     requires { ⌜ (n ≤ 100) × (m ≤ 100) ⌝ }
 {
     let mut out = [46u8; 6000];
-    let r = write_first(a, n, b, m, &[100, 101], &mut out);
+    let r = arrays::write(64, a, n, 64, b, m, &[100, 101], &mut out);
     number(r.number as u64);
     number(r.second);
     number(r.written);
@@ -253,7 +139,7 @@ fn show_sheet(sheet: &[u8], n: usize, m: usize)
 {
     let c = [samples::step(7, 0, 0, 0, 0); 100];
     let mut done = [7u32; 3];
-    let r = read_first(sheet, c, n, c, m, &mut done);
+    let r = arrays::read(sheet, c, n, c, m, &mut done);
     show_filled(r);
     name(done[0]);
     name(done[1]);
@@ -277,7 +163,7 @@ fn show_read(a: [Step; 100], s: usize, n: usize, m: usize)
     number(n as u64);
     number(m as u64);
     let mut out = [46u8; 6000];
-    let w = write_first(a, s, a, s, &[100, 101], &mut out);
+    let w = arrays::write(64, a, s, 64, a, s, &[100, 101], &mut out);
     show_part(&out, w.written as usize, n, m);
     io::write_all(1, b"\n");
 }

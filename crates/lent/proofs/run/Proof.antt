@@ -1,4 +1,4 @@
--- `run` meets its contract: both lists are loaded and `job::runs::run` is called (One).
+-- `run` meets its contract: both lists are loaded and `job::runs::run` is called (WithDone).
 use contract.Running.{givenOf, tables, tablesOf}
 use denote.Struct.Laws as LL
 use denote.Triple.Spec.{tripleOf}
@@ -13,8 +13,8 @@ use Rattle.records.proofs.load.Symbol as load
 use Rattle.records.proofs.load.Met as load-thm
 use Rattle.lent.specs.Lent.{lentJob}
 use Rattle.lent.proofs.Loads.{Load}
-use Rattle.lent.proofs.One.{Known, one-meets}
-use Rattle.lent.proofs.Same.{ran-same}
+use Rattle.lent.proofs.WithDone.{Known, one-meets}
+use Rattle.lent.proofs.SameAnswers.{ran-same}
 use Rattle.lent.proofs.run.Key.{name as #lent·run}
 use Rattle.lent.proofs.run as run
 use Rattle.lent.proofs.run.Statement as stated

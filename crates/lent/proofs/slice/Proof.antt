@@ -1,4 +1,4 @@
--- `slice` meets its contract: both lists are loaded and `slice::slicing::slice` is called (One).
+-- `slice` meets its contract: both lists are loaded and `slice::slicing::slice` is called (WithDone).
 use contract.Running.{givenOf, tables, tablesOf}
 use denote.Struct.Laws as LL
 use denote.Triple.Spec.{tripleOf}
@@ -13,8 +13,8 @@ use Rattle.records.proofs.load.Symbol as load
 use Rattle.records.proofs.load.Met as load-thm
 use Rattle.lent.specs.Lent.{lentJob}
 use Rattle.lent.proofs.Loads.{Load}
-use Rattle.lent.proofs.One.{Known, one-meets}
-use Rattle.lent.proofs.Same.{sliced-same}
+use Rattle.lent.proofs.WithDone.{Known, one-meets}
+use Rattle.lent.proofs.SameAnswers.{sliced-same}
 use Rattle.lent.proofs.slice.Key.{name as #lent·slice}
 use Rattle.lent.proofs.slice as slice
 use Rattle.lent.proofs.slice.Statement as stated

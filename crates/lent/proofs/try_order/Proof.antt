@@ -1,4 +1,4 @@
--- `try_order` meets its contract: both lists are loaded and `trying::trying::try_order` is called (Ordered).
+-- `try_order` meets its contract: both lists are loaded and `trying::trying::try_order` is called (WithOrder).
 use contract.Running.{givenOf, tables, tablesOf}
 use denote.Struct.Laws as LL
 use denote.Triple.Spec.{tripleOf}
@@ -13,8 +13,8 @@ use Rattle.records.proofs.load.Symbol as load
 use Rattle.records.proofs.load.Met as load-thm
 use Rattle.lent.specs.Lent.{lentJob}
 use Rattle.lent.proofs.Loads.{Load}
-use Rattle.lent.proofs.Ordered.{Known, ordered-meets}
-use Rattle.lent.proofs.Same.{tried-same}
+use Rattle.lent.proofs.WithOrder.{Known, ordered-meets}
+use Rattle.lent.proofs.SameAnswers.{tried-same}
 use Rattle.lent.proofs.try_order.Key.{name as #lent·try-order}
 use Rattle.lent.proofs.try_order as try-order
 use Rattle.lent.proofs.try_order.Statement as stated

@@ -1,5 +1,5 @@
 -- `reroute::main`: what print wrote lies in the buffer.
-use mathlib.Core.Path.{_≡_, sym}
+use mathlib.Core.Path.{sym}
 use Prim.Native.Nat.{ℕ, _≤_}
 use native.Mathlib.Omega.{arith}
 use lib.ListN.{length, length-replicate}
@@ -10,7 +10,7 @@ use Rattle.reroute.proofs.main.Statement.{statement}
 use Rattle.reroute.proofs.main.Tie as tie
 
 fits : (c : tie.After-out2) → c .before .before .print .result .written ≤ length (c .before .before .print .last .1 .1 .0)
-fits c = omega (arith, written-fits _ _ _ _ (c .before .before .print .ensures .0), length-replicate {A = ℕ} 15619 0, c .out2 .given)
+fits c = omega (arith, written-fits _ _ _ _ (c .before .before .print .ensures .0), length-replicate {A = ℕ} 7053 0, c .out2 .given)
 
 large-buffer-requires : tie.Need-large-buffer-requires
 large-buffer-requires c κs = search needs

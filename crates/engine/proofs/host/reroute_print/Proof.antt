@@ -1,5 +1,5 @@
 -- `engine::host::reroute_print`: print's answer, number by number.
-use mathlib.Core.Path.{_≡_, ap}
+use mathlib.Core.Path.{ap}
 use borrow.Author.Needs.{needs}
 use Rattle.listing.specs.declared.Written.{Written}
 use Rattle.engine.proofs.host.reroute_print.Statement.{statement}

@@ -1,5 +1,5 @@
 -- `engine::host::reroute_try`: try's answer, number by number.
-use mathlib.Core.Path.{_≡_, ap}
+use mathlib.Core.Path.{ap}
 use borrow.Author.Needs.{needs}
 use Rattle.trying.specs.declared.Tried.{Tried}
 use Rattle.engine.proofs.host.reroute_try.Statement.{statement}
@@ -11,7 +11,7 @@ try-sheet-requires c κs = search needs
 returns : tie.Need-returns
 returns c =
     let is = c .try-sheet .ensures in
-    (ap (λ (t : Tried). t .number) is, (ap (λ (t : Tried). t .second) is, ap (λ (t : Tried). t .marking) is))
+    (ap (λ (t : Tried). t .number) is, (ap (λ (t : Tried). t .second) is, ap (λ (t : Tried). t .marking .tokens) is))
 
 pub reroute-try-spec : {M : Type 1} → statement M
 reroute-try-spec = tie.close (tie.spec try-sheet-requires returns)

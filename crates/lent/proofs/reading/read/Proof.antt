@@ -13,7 +13,7 @@ use base.Logic.{SProp, ent, emp, id⊢, via, fst∗, snd∗, exE}
 use base.Fml.{Lft, Share, Fml, ftrue, fat, flft}
 use prog.Memory.{Memory}
 use prog.Routine.{Routine}
-use prog.Wp.{Heap, Env, Calls, Loops, WpFn, Tables}
+use prog.Wp.{Heap, Calls, Loops, WpFn, Tables}
 use ghost.Atoms.{Atoms, sem}
 use contract.Monad.{Fun, fact}
 use contract.Running.{givenOf, tables, tablesOf}
@@ -45,7 +45,7 @@ use Rattle.route.proofs.Step.Laws as St′
 use Rattle.facts.specs.Facts.{readOf}
 use Rattle.facts.specs.declared.Sheet.{Sheet}
 use Rattle.facts.proofs.Counts.{read-few}
-use Rattle.facts.proofs.Dones.{read-dones}
+use Rattle.facts.proofs.DoneNames.{read-dones}
 use Rattle.facts.proofs.Sheet as Sh
 use Rattle.facts.proofs.Sheet.Laws as Sh′
 use Rattle.reader.proofs.reads.read as read-sheet

@@ -1,37 +1,71 @@
--- `listing::print::answer`: the refusal stands, or judge answers of the records.
-use mathlib.Core.Path.{_≡_, sym, _∙_}
-use native.Mathlib.Omega.{arith}
-use borrow.Author.Needs.{needs}
+-- `ops::print::answer`: the sheet's refusal, or judge's answer to the job that its lists hold.
+use mathlib.Core.Path.{sym}
 use lib.Seq.{length-take-le}
-use Rattle.ops.proofs.Prints.{facts-refused, facts-judged}
+use borrow.Author.Needs.{needs}
+use Rattle.ops.proofs.ReadJob.{old-room, new-room, done-room, read-passes}
+use Rattle.ops.proofs.Prints.{answer-refused, work-refused, answer-judged, work-judged}
 use Rattle.ops.proofs.print.answer.Statement.{statement}
 use Rattle.ops.proofs.print.answer.Tie as tie
+
+read-lists-requires : tie.Need-read-lists-requires
+read-lists-requires c κs = search needs
 
 stop-requires : tie.Need-stop-requires
 stop-requires c κs = search needs
 
 returns : tie.Need-returns
-returns c =
-    let law = facts-refused (c .before .before .before .before .args .s) (c .before .before .before .before .args .work .now) (c .before .if1 .taken) in
-    (c .stop .ensures ∙ law .0, law .1)
+returns c = (search (needs, answer-refused), search (needs, work-refused))
 
-array-share-prefix-done : tie.Need-array-share-prefix-done
-array-share-prefix-done c = let s = c .before .before .before .before in omega (arith, s .pre .0 .0, s .pre .0 .1)
+mul-o : tie.Need-mul-o
+mul-o c = search needs
+
+mul-n : tie.Need-mul-n
+mul-n c = search needs
+
+array-share-prefix-old : tie.Need-array-share-prefix-old
+array-share-prefix-old c = search (needs, old-room)
 
 slice-aggregate-judge-checked : tie.Need-slice-aggregate-judge-checked
-slice-aggregate-judge-checked c = let s = c .before .before .before .before .before in sym (length-take-le _ _ (omega (arith, s .pre .0 .0, s .pre .0 .1)))
+slice-aggregate-judge-checked c = sym (length-take-le _ _ (array-share-prefix-old (c .before)))
+
+array-share-prefix-new : tie.Need-array-share-prefix-new
+array-share-prefix-new c = search (needs, new-room)
+
+slice-aggregate-judge-checked-2 : tie.Need-slice-aggregate-judge-checked-2
+slice-aggregate-judge-checked-2 c = sym (length-take-le _ _ (array-share-prefix-new (c .before)))
+
+array-share-prefix-done : tie.Need-array-share-prefix-done
+array-share-prefix-done c = search (needs, done-room)
+
+slice-aggregate-judge-checked-3 : tie.Need-slice-aggregate-judge-checked-3
+slice-aggregate-judge-checked-3 c = sym (length-take-le _ _ (array-share-prefix-done (c .before)))
 
 judge-checked-requires : tie.Need-judge-checked-requires
-judge-checked-requires c κs = let s = c .before .before .before .before .before .before in (s .pre .1 .0 (c .before .before .before .if1 .left), s .pre .1 .1)
+judge-checked-requires c κs = (search (needs, read-passes), search needs)
 
 same-length : tie.Need-same-length
 same-length c = search needs
 
 returns-2 : tie.Need-returns-2
 returns-2 c =
-    let s = c .before .before .before .before .before .before .before .before .before in
-    let law = facts-judged (s .args .s) (s .args .work .now) (c .before .before .before .before .before .before .if1 .left) in
-    (c .before .before .judge-checked .ensures .0 ∙ law .0, c .before .before .judge-checked .ensures .1 ∙ law .1)
+    let start = c .before .before .before .before .before .before .before .before .before .before .before .before .before .before .before .before .before in
+    (search (needs, answer-judged, start .pre, c .before .before .judge-checked .ensures .0), search (needs, work-judged))
 
 pub answer-spec : {M : Type 1} → statement M
-answer-spec = tie.close (tie.spec stop-requires returns array-share-prefix-done slice-aggregate-judge-checked judge-checked-requires same-length returns-2)
+answer-spec =
+    tie.close
+    (tie.spec
+    read-lists-requires
+    stop-requires
+    returns
+    mul-o
+    mul-n
+    array-share-prefix-old
+    slice-aggregate-judge-checked
+    array-share-prefix-new
+    slice-aggregate-judge-checked-2
+    array-share-prefix-done
+    slice-aggregate-judge-checked-3
+    judge-checked-requires
+    same-length
+    returns-2)

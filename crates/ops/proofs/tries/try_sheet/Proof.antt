@@ -1,25 +1,65 @@
--- `ops::tries::try_sheet`: try's answer to the sheet's facts.
-use mathlib.Core.Path.{_≡_, sym, subst, _∙_}
+-- `ops::tries::try_sheet`: the sheet's refusal, or try's answer to the job that its lists hold.
+use mathlib.Core.Path.{sym}
+use lib.Seq.{length-take-le}
 use borrow.Author.Needs.{needs}
-use Rattle.job.specs.Lines.{LinesPass}
-use Rattle.facts.specs.Facts.{jobRead}
-use Rattle.facts.specs.declared.Sheet.{Sheet}
-use Rattle.facts.proofs.Dones.{Dones, read-dones}
-use Rattle.facts.proofs.Records.{read-lines}
-use Rattle.ops.proofs.SheetTry.{sheet-tried}
+use Rattle.ops.proofs.ReadJob.{old-room, new-room, done-room, read-passes}
+use Rattle.ops.proofs.SheetTry.{try-refused, try-tried}
 use Rattle.ops.proofs.tries.try_sheet.Statement.{statement}
 use Rattle.ops.proofs.tries.try_sheet.Tie as tie
 
-read-requires : tie.Need-read-requires
-read-requires c κs = search needs
+read-lists-requires : tie.Need-read-lists-requires
+read-lists-requires c κs = search needs
 
-try-facts-requires : tie.Need-try-facts-requires
-try-facts-requires c κs =
-    let d = subst Dones (sym (c .read .ensures)) (read-dones _) in
-    ((d .few, d .room), subst (λ (s : Sheet). s .number ≡ 0 → LinesPass (jobRead s)) (sym (c .read .ensures)) (read-lines _))
+stop-requires : tie.Need-stop-requires
+stop-requires c κs = search needs
 
 returns : tie.Need-returns
-returns c = c .try-facts .ensures ∙ sheet-tried _ _ _ (c .before .read .ensures)
+returns c = search (needs, try-refused)
+
+mul-o : tie.Need-mul-o
+mul-o c = search needs
+
+mul-n : tie.Need-mul-n
+mul-n c = search needs
+
+array-share-prefix-old : tie.Need-array-share-prefix-old
+array-share-prefix-old c = search (needs, old-room)
+
+slice-aggregate-try-checked : tie.Need-slice-aggregate-try-checked
+slice-aggregate-try-checked c = sym (length-take-le _ _ (array-share-prefix-old (c .before)))
+
+array-share-prefix-new : tie.Need-array-share-prefix-new
+array-share-prefix-new c = search (needs, new-room)
+
+slice-aggregate-try-checked-2 : tie.Need-slice-aggregate-try-checked-2
+slice-aggregate-try-checked-2 c = sym (length-take-le _ _ (array-share-prefix-new (c .before)))
+
+array-share-prefix-done : tie.Need-array-share-prefix-done
+array-share-prefix-done c = search (needs, done-room)
+
+slice-aggregate-try-checked-3 : tie.Need-slice-aggregate-try-checked-3
+slice-aggregate-try-checked-3 c = sym (length-take-le _ _ (array-share-prefix-done (c .before)))
+
+try-checked-requires : tie.Need-try-checked-requires
+try-checked-requires c κs = search (needs, read-passes)
+
+returns-2 : tie.Need-returns-2
+returns-2 c = search (needs, try-tried)
 
 pub try-sheet-spec : {M : Type 1} → statement M
-try-sheet-spec = tie.close (tie.spec read-requires try-facts-requires returns)
+try-sheet-spec =
+    tie.close
+    (tie.spec
+    read-lists-requires
+    stop-requires
+    returns
+    mul-o
+    mul-n
+    array-share-prefix-old
+    slice-aggregate-try-checked
+    array-share-prefix-new
+    slice-aggregate-try-checked-2
+    array-share-prefix-done
+    slice-aggregate-try-checked-3
+    try-checked-requires
+    returns-2)

@@ -1,0 +1,54 @@
+-- `records`: the index stays within the length.
+use borrow.Author.Needs.{needs}
+use Prim.Native.Nat.{_-_, _≤_}
+use Rattle.drive.proofs.answers.records.Statement.{statement}
+use Rattle.drive.proofs.answers.records.Tie as tie
+
+abbrev Inv-loop : tie.InvT-loop
+Inv-loop o₀ n len l m₀ i₀ o m i = i ≤ len
+
+abbrev μ-loop : tie.MeasureT-loop
+μ-loop o₀ n len l m₀ i₀ o m i = len - i
+
+number-requires : tie.Need-number-requires Inv-loop μ-loop
+number-requires c κs = search needs
+
+loop-holds : tie.Need-loop-holds Inv-loop μ-loop
+loop-holds c = search needs
+
+mul-s : tie.Need-mul-s Inv-loop μ-loop
+mul-s c = search needs
+
+array-copy-out-s : tie.Need-array-copy-out-s Inv-loop μ-loop
+array-copy-out-s c = search needs
+
+record-requires : tie.Need-record-requires Inv-loop μ-loop
+record-requires c κs = search needs
+
+add-i : tie.Need-add-i Inv-loop μ-loop
+add-i c = search needs
+
+loop-less : tie.Need-loop-less Inv-loop μ-loop
+loop-less c = search needs
+
+loop-again : tie.Need-loop-again Inv-loop μ-loop
+loop-again c = search needs
+
+returns : tie.Need-returns Inv-loop μ-loop
+returns c = search needs
+
+pub records-spec : {M : Type 1} → statement M
+records-spec =
+    tie.close
+    (tie.spec
+    Inv-loop
+    μ-loop
+    number-requires
+    loop-holds
+    mul-s
+    array-copy-out-s
+    record-requires
+    add-i
+    loop-less
+    loop-again
+    returns)

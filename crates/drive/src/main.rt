@@ -1,0 +1,48 @@
+// drive: a script of operations on standard input, and on standard output what each answers: a line for each, up to the first that isn't whole.
+// A script is numbers in base ten with spaces or LFs between, for each operation its own number and its arguments. The program takes the first
+// 65,536 bytes and reads no further.
+//
+//     1                  fire: tokens and a record
+//     2, 3, 4, 5, 8      run, slice, try, judge and write over two routes by value and a done list; then the order, the work or the out slice
+//     6, 7, 9, 10        read, the job part, print and try over a sheet; then both slices, or the order
+//     12, 13, 14, 15, 18 as 2 to 5 and 8, over lent lists
+//     16                 read into lent lists of three lengths
+//
+// An answer is all its numbers, and every slice that was lent as it then stands. The second program says the same of scripts (reference/src/script.rs).
+mod answers;
+mod ends;
+mod load;
+mod numbers;
+mod operations;
+mod out;
+mod over_lists;
+mod over_routes;
+mod over_sheets;
+mod runs;
+
+// Each operation in turn. One takes at least a number, so there are no more turns than numbers.
+fn answer_all(nums: &[u64], o: &mut [u8; 65536]) {
+    let mut at = 0;
+    let mut n = 0;
+    let mut turns = nums.len();
+    while 0 < turns {
+        let end = ends::operation(nums, at);
+        if end == ends::STOP {
+            out::flush(o, n);
+            return;
+        }
+        n = operations::answer(nums, at, o, n);
+        at = end;
+        turns -= 1;
+    }
+    out::flush(o, n);
+}
+
+fn main() {
+    let mut text = io::large_buffer();
+    let n = io::read_full(0, &mut text);
+    let mut nums = [0u64; 32768];
+    let count = numbers::all(&text[..n], &mut nums);
+    let mut o = io::large_buffer();
+    answer_all(&nums[..count], &mut o);
+}

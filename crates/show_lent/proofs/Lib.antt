@@ -1,2 +1,0 @@
--- Lending records that stand in an array.
-pub mod First
