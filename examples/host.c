@@ -39,6 +39,19 @@ static void try_order(size_t sheet_len, const uint8_t *order, size_t order_len)
     printf("\n");
 }
 
+/* An occurrence number is a byte. */
+static int read_occurrence(const char *word, uint8_t *occurrence)
+{
+    char *end;
+    unsigned long number = strtoul(word, &end, 10);
+    if (word[0] < '0' || word[0] > '9' || *end != '\0' || number > UINT8_MAX) {
+        fprintf(stderr, "%s: not an occurrence number, which is 0 to 255\n", word);
+        return 1;
+    }
+    *occurrence = (uint8_t)number;
+    return 0;
+}
+
 int main(int argc, char **argv)
 {
     uint8_t order[ORDER_MAX];
@@ -46,6 +59,9 @@ int main(int argc, char **argv)
         fprintf(stderr, "usage: host SHEET [OCCURRENCE..]\n");
         return 2;
     }
+    for (int i = 2; i < argc; i++)
+        if (read_occurrence(argv[i], &order[i - 2]) != 0)
+            return 2;
     FILE *file = fopen(argv[1], "rb");
     if (file == NULL) {
         perror(argv[1]);
@@ -57,8 +73,6 @@ int main(int argc, char **argv)
         return 1;
     if (argc == 2)
         return 0;
-    for (int i = 2; i < argc; i++)
-        order[i - 2] = (uint8_t)strtoul(argv[i], NULL, 10);
     try_order(sheet_len, order, (size_t)(argc - 2));
     return 0;
 }

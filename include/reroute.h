@@ -18,9 +18,9 @@
 extern "C" {
 #endif
 
-/* The length that the work buffer needs, and the longest listing there is. */
+/* The length that the work buffer needs, and one that is always enough for a listing. */
 #define REROUTE_WORK 8192
-#define REROUTE_LISTING 15619
+#define REROUTE_LISTING 7053
 
 /* Tries an order that somebody hands in for the job of a sheet.
  *

@@ -12,13 +12,14 @@ use numbers::Numbers;
 /// The text that the program must print for this script: a line for each
 /// operation, up to the first one that isn't whole.
 pub fn answer(script: &str) -> String {
-    let mut text = String::new();
-    for (_, numbers) in answers(script) {
-        let words: Vec<String> = numbers.iter().map(u64::to_string).collect();
-        text += &words.join(" ");
-        text.push('\n');
-    }
-    text
+    let lines = answers(script);
+    lines.iter().map(|(_, numbers)| line(numbers)).collect()
+}
+
+/// The line of an answer.
+pub fn line(numbers: &[u64]) -> String {
+    let words: Vec<String> = numbers.iter().map(u64::to_string).collect();
+    words.join(" ") + "\n"
 }
 
 /// Each operation's number, and the numbers of its answer.

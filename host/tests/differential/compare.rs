@@ -35,10 +35,7 @@ pub fn compare_print(sheet: &[u8], work: &[u8], out: &[u8], dice: &mut Dice) -> 
 
 /// Tries an order. Compares the answer and all that was lent; gives the answer.
 pub fn compare_try(sheet: &[u8], order: &[u8], dice: &mut Dice) -> Tried {
-    let expected = match try_sheet(sheet, order) {
-        Ok(marking) => tried(0, 0, mask(&marking)),
-        Err(refusal) => tried(refusal.number, refusal.second, 0),
-    };
+    let expected = expected_try(sheet, order);
     let (lent, list) = (Guarded::new(sheet, dice), Guarded::new(order, dice));
     let buffers_after = [lent.with(sheet), list.with(order)];
     let answer = host::try_order(lent.slice(), list.slice());
@@ -46,6 +43,14 @@ pub fn compare_try(sheet: &[u8], order: &[u8], dice: &mut Dice) -> Tried {
     same_buffer(sheet, "sheet", lent.buffer(), &buffers_after[0]);
     same_buffer(sheet, "order", list.buffer(), &buffers_after[1]);
     answer
+}
+
+/// What the second program answers, the marking too.
+pub fn expected_try(sheet: &[u8], order: &[u8]) -> Tried {
+    match try_sheet(sheet, order) {
+        Ok(marking) => tried(0, 0, mask(&marking)),
+        Err(refusal) => tried(refusal.number, refusal.second, 0),
+    }
 }
 
 /// Panics with the seed, the sheet and both answers if they differ.

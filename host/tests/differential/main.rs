@@ -1,11 +1,13 @@
-//! The engine through its static library, held to the second program: every
-//! answer, and every byte of every slice that a call is lent.
+//! The engine, held to the second program: every answer, and every byte of every
+//! slice that a call is lent. Print and try on sheets are called through the
+//! static library, and all operations by the program `drive`, over scripts.
 //!
-//! The variable SEED gives the seed; else the clock does.
+//! The seed is fixed; the variable SEED gives another.
 
 mod compare;
 mod crowded;
 mod damaged;
+mod drive;
 mod example;
 mod guarded;
 mod hard;
@@ -16,7 +18,10 @@ mod long;
 mod orders;
 mod parts;
 mod remembering;
+mod scripts;
 mod seed;
 mod slices;
 mod some_order;
+mod table;
 mod tally;
+mod wrong_scripts;

@@ -1,9 +1,8 @@
 //! Slices that are parts of bigger buffers, empty parts too: what stands right
 //! before and after a slice has no say.
 
-use crate::compare::{compare_print, compare_try, same};
+use crate::compare::{compare_print, compare_try, expected_try, same};
 use crate::seed::for_each_case;
-use reference::fit::try_sheet;
 use reference::judge::WORK;
 use reference::print::listing_of;
 use reference::random;
@@ -57,9 +56,7 @@ fn parts_of_an_order() {
         let begin = if dice.chance(80) { 1 } else { dice.below(256) };
         let end = (begin + dice.below(12)).min(256);
         let tried = host::try_order(&bytes, &list[begin..end]);
-        let expected = try_sheet(&bytes, &list[begin..end]);
-        let numbers = expected.map_or_else(|r| (r.number, r.second as u64), |_| (0, 0));
-        same(&bytes, &(tried.number, tried.second), &numbers);
+        same(&bytes, &tried, &expected_try(&bytes, &list[begin..end]));
         accepted += usize::from(tried.number == 0);
     });
     println!("parts: {accepted} accepted as orders");

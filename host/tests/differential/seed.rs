@@ -2,27 +2,28 @@
 
 use reference::random::dice::{mix, Dice};
 use std::env;
-use std::io::{self, Write};
 use std::sync::OnceLock;
-use std::time::{SystemTime, UNIX_EPOCH};
 
-/// The seed; printed once, past the test harness, so that a run that dies in
-/// the engine leaves it too.
+/// The seed of the gate. The variable SEED gives another.
+const FIXED: u64 = 2_026;
+
 pub fn seed() -> u64 {
     static SEED: OnceLock<u64> = OnceLock::new();
-    *SEED.get_or_init(|| {
-        let seed = match env::var("SEED") {
-            Ok(text) => text.parse().expect("SEED is no number"),
-            Err(_) => clock(),
-        };
-        writeln!(io::stderr(), "SEED={seed}").expect("no standard error");
-        seed
+    *SEED.get_or_init(|| match env::var("SEED") {
+        Ok(text) => text.parse().expect("SEED is no number"),
+        Err(_) => FIXED,
     })
 }
 
-fn clock() -> u64 {
-    let since = SystemTime::now().duration_since(UNIX_EPOCH);
-    since.map_or(0, |time| mix(time.as_nanos() as u64) % 1_000_000_000)
+/// The case that a test is at; printed when the test fails in it.
+struct Case<'a>(&'a str, u64);
+
+impl Drop for Case<'_> {
+    fn drop(&mut self) {
+        if std::thread::panicking() {
+            eprintln!("SEED={}, {}, case {}", seed(), self.0, self.1);
+        }
+    }
 }
 
 /// Calls a check with fresh dice for each case of the test of this name.
@@ -30,7 +31,8 @@ pub fn for_each_case(test: &str, cases: u64, check: &mut dyn FnMut(&mut Dice)) {
     let salt = test
         .bytes()
         .fold(0, |hash, byte| mix(hash ^ u64::from(byte)));
-    for case in 0..cases {
-        check(&mut Dice::new(mix(seed()) ^ salt ^ mix(case)));
+    for number in 0..cases {
+        let _case = Case(test, number);
+        check(&mut Dice::new(mix(seed()) ^ salt ^ mix(number)));
     }
 }

@@ -12,6 +12,12 @@ impl Tally {
         *self.counts.entry(number).or_default() += 1;
     }
 
+    pub fn join(&mut self, other: Tally) {
+        for (number, count) in other.counts {
+            *self.counts.entry(number).or_default() += count;
+        }
+    }
+
     /// Counts a listing by the number that it refuses with, or 0 if it moves.
     pub fn add_listing(&mut self, listing: &[u8]) {
         let text = String::from_utf8_lossy(listing);

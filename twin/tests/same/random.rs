@@ -7,9 +7,21 @@ use reference::random::{bytes, dice::mix, dice::Dice};
 
 const SHEETS: u64 = 20_000;
 
+/// The seed of a sheet; printed when the test fails on it.
+struct Seed(u64);
+
+impl Drop for Seed {
+    fn drop(&mut self) {
+        if std::thread::panicking() {
+            eprintln!("seed {}", self.0);
+        }
+    }
+}
+
 #[test]
 fn on_random_sheets() {
     for number in 0..SHEETS {
+        let _seed = Seed(number);
         let mut dice = Dice::new(mix(number));
         let sheet = bytes(&mut dice);
         same(&sheet, WORK, 16_384);
@@ -22,6 +34,7 @@ fn on_random_sheets() {
 #[test]
 fn on_sheets_that_are_cut_short() {
     for number in 0..20 {
+        let _seed = Seed(number);
         let sheet = bytes(&mut Dice::new(mix(number)));
         for len in 0..sheet.len() {
             same(&sheet[..len], WORK, 64);
@@ -60,6 +73,7 @@ fn at_the_limits() {
         let sheet = wide(steps, done).into_bytes();
         same_in_all_slices(&sheet);
         for number in 0..100 {
+            let _seed = Seed(number);
             same(&damage(&sheet, &mut Dice::new(number)), WORK, 16_384);
         }
     }
