@@ -10,7 +10,7 @@ use lib.Count.{trailingZeros}
 use lib.ListN.{length, getD, drop, length-append, drop-of-length-le}
 use lib.Seq.{sets, drop-cons}
 use Rattle.mask.specs.Mask.{members}
-use Rattle.mask.proofs.LowestFirst.{members-none, members-lowest}
+use Rattle.mask.proofs.FromLowest.{members-none, members-lowest}
 use Rattle.emit.specs.Emit.{Room, Emits}
 use Rattle.emit.specs.Numbers.{over}
 use Rattle.emit.proofs.Chains.{emits-length, sets-append}

@@ -48,22 +48,27 @@ from-on false v l = omega arith
 from-old : (c v m k : ℕ) → k < v → length (membersFrom v c (bitOr m (bit k))) ≡ length (membersFrom v c m)
 unfolding membersFrom
 from-old zero v m k h = refl
-from-old (suc c) v m k h = simp from-on (ap₂ (λ (t : Bool) (n : ℕ). one t + n) (has-old m k v (omega arith)) (from-old c (suc v) m k (omega arith)))
+from-old (suc c) v m k h = simp from-on (ap₂ (λ (t : Bool) (n : ℕ). one t + n) (has-old m k v (omega arith))
+    (from-old c (suc v) m k (omega arith)))
 
-from-new : (c v m k : ℕ) → v ≤ k → k < v + c → has m k ≡ false → length (membersFrom v c (bitOr m (bit k))) ≡ suc (length (membersFrom v c m))
+from-new : (c v m k : ℕ) → v ≤ k → k < v + c → has m k ≡ false
+    → length (membersFrom v c (bitOr m (bit k))) ≡ suc (length (membersFrom v c m))
 unfolding membersFrom
 from-new zero v m k a b h = absurd (omega arith)
-from-new (suc c) v m k a b h = simp from-on (go (ℕ-discrete v k) (λ n. from-new c (suc v) m k (omega arith) (omega arith) h))
+from-new (suc c) v m k a b h = simp from-on (go (ℕ-discrete v k)
+    (λ n. from-new c (suc v) m k (omega arith) (omega arith) h))
   where
     more : ℕ
     more = length (membersFrom (suc v) c (bitOr m (bit k)))
 
-    go : Dec (v ≡ k) → ((v ≡ k → ⊥) → more ≡ suc (length (membersFrom (suc v) c m))) → one (has (bitOr m (bit k)) v) + more ≡ suc (one (has m v) + length (membersFrom (suc v) c m))
+    go : Dec (v ≡ k) → ((v ≡ k → ⊥) → more ≡ suc (length (membersFrom (suc v) c m)))
+        → one (has (bitOr m (bit k)) v) + more ≡ suc (one (has m v) + length (membersFrom (suc v) c m))
     go (yes e) ih =
         let own : one (has (bitOr m (bit k)) v) ≡ 1 = rw (e, has-new m k) in
         let none : one (has m v) ≡ 0 = rw (e, h) in
         omega (arith, from-old c (suc v) m k (omega arith))
-    go (no n) ih = let here : one (has (bitOr m (bit k)) v) ≡ one (has m v) = rw (has-old m k v n) in omega (arith, ih n)
+    go (no n) ih = let here : one (has (bitOr m (bit k)) v) ≡ one (has m v) =
+        rw (has-old m k v n) in omega (arith, ih n)
 
 from-none : (c v : ℕ) → length (membersFrom v c 0) ≡ 0
 unfolding membersFrom
@@ -82,9 +87,11 @@ from-most (suc c) v m = simp from-on (go (has m v) (from-most c (suc v) m))
 from-full : (c v m : ℕ) → length (membersFrom v c m) ≡ c → (k : ℕ) → v ≤ k → k < v + c → has m k ≡ true
 unfolding membersFrom
 from-full zero v m e k a b = absurd (omega arith)
-from-full (suc c) v m e k a b = go (has m v) refl (simp from-on at e) (ℕ-discrete v k) (λ f a b. from-full c (suc v) m f k a b)
+from-full (suc c) v m e k a b = go (has m v) refl (simp from-on at e) (ℕ-discrete v k)
+    (λ f a b. from-full c (suc v) m f k a b)
   where
-    go : (t : Bool) → has m v ≡ t → one t + length (membersFrom (suc v) c m) ≡ suc c → Dec (v ≡ k) → (length (membersFrom (suc v) c m) ≡ c → suc v ≤ k → k < suc v + c → has m k ≡ true) → has m k ≡ true
+    go : (t : Bool) → has m v ≡ t → one t + length (membersFrom (suc v) c m) ≡ suc c → Dec (v ≡ k)
+        → (length (membersFrom (suc v) c m) ≡ c → suc v ≤ k → k < suc v + c → has m k ≡ true) → has m k ≡ true
     go true h e (yes s) ih = ap (has m) (sym s) ∙ h
     go true h e (no n) ih = ih (omega arith) (omega arith) (omega arith)
     go false h e d ih = absurd (omega (arith, from-most c (suc v) m))

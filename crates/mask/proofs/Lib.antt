@@ -6,4 +6,3 @@ pub mod Members
 pub mod Cut
 pub mod Lowest
 pub mod FromLowest
-pub mod LowestFirst

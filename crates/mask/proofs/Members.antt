@@ -1,4 +1,5 @@
--- The members of a mask in turn: one after another as a loop meets them, that each is a member, and how many there can be.
+-- The members of a mask in turn: one after another as a loop meets them, that each is a member, and how many there can
+-- be.
 use mathlib.Core.Path.{_≡_, refl, ap, _∙_}
 use mathlib.Core.Bool.{Bool, true, false, cond}
 use mathlib.Core.List.{List, [], _∷_}
@@ -8,7 +9,8 @@ use lib.ListN.{length, getD}
 use Rattle.mask.specs.Mask.{has, membersFrom, members, count}
 
 module _ (w m i : ℕ) (low : i < w) where
-  next-is : membersFrom i (w - i) m ≡ cond (has m i) (i ∷ membersFrom (i + 1) (w - (i + 1)) m) (membersFrom (i + 1) (w - (i + 1)) m)
+  next-is : membersFrom i (w - i) m ≡ cond (has m i) (i ∷ membersFrom (i + 1) (w - (i + 1)) m)
+      (membersFrom (i + 1) (w - (i + 1)) m)
   unfolding membersFrom
   next-is =
       ap (λ (c : ℕ). membersFrom i c m) one-more
@@ -21,10 +23,12 @@ module _ (w m i : ℕ) (low : i < w) where
       one-on = omega arith
 
   pub members-hit : has m i ≡ true → membersFrom i (w - i) m ≡ i ∷ membersFrom (i + 1) (w - (i + 1)) m
-  members-hit h = next-is ∙ ap (λ (t : Bool). cond t (i ∷ membersFrom (i + 1) (w - (i + 1)) m) (membersFrom (i + 1) (w - (i + 1)) m)) h
+  members-hit h = next-is ∙ ap (λ (t : Bool). cond t (i ∷ membersFrom (i + 1) (w - (i + 1)) m)
+      (membersFrom (i + 1) (w - (i + 1)) m)) h
 
   pub members-miss : has m i ≡ false → membersFrom i (w - i) m ≡ membersFrom (i + 1) (w - (i + 1)) m
-  members-miss h = next-is ∙ ap (λ (t : Bool). cond t (i ∷ membersFrom (i + 1) (w - (i + 1)) m) (membersFrom (i + 1) (w - (i + 1)) m)) h
+  members-miss h = next-is ∙ ap (λ (t : Bool). cond t (i ∷ membersFrom (i + 1) (w - (i + 1)) m)
+      (membersFrom (i + 1) (w - (i + 1)) m)) h
 
 pub members-end : (w m i : ℕ) → w ≤ i → membersFrom i (w - i) m ≡ []
 unfolding membersFrom
@@ -33,7 +37,8 @@ members-end w m i h = ap (λ (c : ℕ). membersFrom i c m) none-left
     none-left : w - i ≡ 0
     none-left = omega arith
 
-from-in : (c v m k : ℕ) → k < length (membersFrom v c m) → (has m (getD (membersFrom v c m) k 0) ≡ true) × (getD (membersFrom v c m) k 0 < v + c)
+from-in : (c v m k : ℕ) → k < length (membersFrom v c m)
+    → (has m (getD (membersFrom v c m) k 0) ≡ true) × (getD (membersFrom v c m) k 0 < v + c)
 unfolding membersFrom
 from-in zero v m k h = absurd (omega arith)
 from-in (suc c) v m k h = go (has m v) refl k h (from-in c (suc v) m)
@@ -41,13 +46,16 @@ from-in (suc c) v m k h = go (has m v) refl k h (from-in c (suc v) m)
     rest : List ℕ
     rest = membersFrom (suc v) c m
 
-    go : (t : Bool) → has m v ≡ t → (k : ℕ) → k < length (cond t (v ∷ rest) rest) → ((k : ℕ) → k < length rest → (has m (getD rest k 0) ≡ true) × (getD rest k 0 < suc v + c)) → (has m (getD (cond t (v ∷ rest) rest) k 0) ≡ true) × (getD (cond t (v ∷ rest) rest) k 0 < v + suc c)
+    go : (t : Bool) → has m v ≡ t → (k : ℕ) → k < length (cond t (v ∷ rest) rest)
+        → ((k : ℕ) → k < length rest → (has m (getD rest k 0) ≡ true) × (getD rest k 0 < suc v + c))
+        → (has m (getD (cond t (v ∷ rest) rest) k 0) ≡ true) × (getD (cond t (v ∷ rest) rest) k 0 < v + suc c)
     go true e zero h ih = (e, omega arith)
     go true e (suc k) h ih = let r = ih k (omega arith) in (r .0, omega arith)
     go false e k h ih = let r = ih k h in (r .0, omega arith)
 
 -- what stands among the members below w is one
-pub member-at : (w m k : ℕ) → k < length (members w m) → (has m (getD (members w m) k 0) ≡ true) × (getD (members w m) k 0 < w)
+pub member-at : (w m k : ℕ) → k < length (members w m)
+    → (has m (getD (members w m) k 0) ≡ true) × (getD (members w m) k 0 < w)
 unfolding members
 member-at w m k h = let r = from-in w 0 m k h in (r .0, omega arith)
 

@@ -1,5 +1,5 @@
--- Rows in turn: one that passes is left out, and one that refuses is the answer. A refusal has its own number, which is not 0, so an
--- answer 0 says that every row passed.
+-- Rows in turn: one that passes is left out, and one that refuses is the answer. A refusal has its own number, which is
+-- not 0, so an answer 0 says that every row passed.
 use mathlib.Core.Path.{_≡_, refl, sym, ap, _∙_}
 use mathlib.Core.Bool.{Bool, true, false, cond}
 use mathlib.Core.List.{List, [], _∷_, _++_}
@@ -13,9 +13,11 @@ pub row-passes : (t : Bool) (n k : ℕ) (l : List Outcome) → t ≡ true → fi
 unfolding first unless
 row-passes t n k l e = ap (λ (x : Bool). first (unless x n k ∷ l)) e
 
-pub row-refuses : (t : Bool) (n k : ℕ) (l : List Outcome) → t ≡ false → eqb n 0 ≡ false → first (unless t n k ∷ l) ≡ refuse n k
+pub row-refuses : (t : Bool) (n k : ℕ) (l : List Outcome) → t ≡ false → eqb n 0 ≡ false
+    → first (unless t n k ∷ l) ≡ refuse n k
 unfolding first unless
-row-refuses t n k l e z = ap (λ (x : Bool). first (unless x n k ∷ l)) e ∙ ap (λ (x : Bool). cond x (first l) (refuse n k)) z
+row-refuses t n k l e z = ap (λ (x : Bool). first (unless x n k ∷ l)) e
+    ∙ ap (λ (x : Bool). cond x (first l) (refuse n k)) z
 
 pub rows-end : first [] ≡ pass
 unfolding first
@@ -27,7 +29,8 @@ unfolding first
 rows-pass [] b e = refl
 rows-pass (o ∷ a) b e = go (eqb (o .number) 0) refl e (rows-pass a b)
   where
-    go : (t : Bool) → eqb (o .number) 0 ≡ t → eqb (cond t (first a) o .number) 0 ≡ true → (eqb (first a .number) 0 ≡ true → first (a ++ b) ≡ first b) → cond t (first (a ++ b)) o ≡ first b
+    go : (t : Bool) → eqb (o .number) 0 ≡ t → eqb (cond t (first a) o .number) 0 ≡ true
+        → (eqb (first a .number) 0 ≡ true → first (a ++ b) ≡ first b) → cond t (first (a ++ b)) o ≡ first b
     go true p q ih = ih q
     go false p q ih = cc
 
@@ -37,7 +40,8 @@ unfolding first
 rows-refuse [] b e = cc
 rows-refuse (o ∷ a) b e = go (eqb (o .number) 0) refl e (rows-refuse a b)
   where
-    go : (t : Bool) → eqb (o .number) 0 ≡ t → eqb (cond t (first a) o .number) 0 ≡ false → (eqb (first a .number) 0 ≡ false → first (a ++ b) ≡ first a) → cond t (first (a ++ b)) o ≡ cond t (first a) o
+    go : (t : Bool) → eqb (o .number) 0 ≡ t → eqb (cond t (first a) o .number) 0 ≡ false
+        → (eqb (first a .number) 0 ≡ false → first (a ++ b) ≡ first a) → cond t (first (a ++ b)) o ≡ cond t (first a) o
     go true p q ih = ih q
     go false p q ih = refl
 
@@ -51,11 +55,13 @@ unfolding first
 head-passes o l e = ap (λ (t : Bool). cond t (first l) o) e
 
 -- what follows where nothing is refused
-pub head-passed : (o : Outcome) (l : List Outcome) → eqb (first (o ∷ l) .number) 0 ≡ true → (eqb (o .number) 0 ≡ true) × (eqb (first l .number) 0 ≡ true)
+pub head-passed : (o : Outcome) (l : List Outcome) → eqb (first (o ∷ l) .number) 0 ≡ true
+    → (eqb (o .number) 0 ≡ true) × (eqb (first l .number) 0 ≡ true)
 unfolding first
 head-passed o l e = go (eqb (o .number) 0) refl e
   where
-    go : (t : Bool) → eqb (o .number) 0 ≡ t → eqb (cond t (first l) o .number) 0 ≡ true → (t ≡ true) × (eqb (first l .number) 0 ≡ true)
+    go : (t : Bool) → eqb (o .number) 0 ≡ t → eqb (cond t (first l) o .number) 0 ≡ true
+        → (t ≡ true) × (eqb (first l .number) 0 ≡ true)
     go true p q = (refl, q)
     go false p q = (sym p ∙ q, cc)
 
@@ -64,15 +70,18 @@ unfolding unless
 unless-elim true n k z e = refl
 unless-elim false n k z e = sym z ∙ e
 
-pub row-passed : (t : Bool) (n k : ℕ) (l : List Outcome) → eqb n 0 ≡ false → eqb (first (unless t n k ∷ l) .number) 0 ≡ true → (t ≡ true) × (eqb (first l .number) 0 ≡ true)
+pub row-passed : (t : Bool) (n k : ℕ) (l : List Outcome) → eqb n 0 ≡ false
+    → eqb (first (unless t n k ∷ l) .number) 0 ≡ true → (t ≡ true) × (eqb (first l .number) 0 ≡ true)
 row-passed t n k l z e = let (own, rest) = head-passed (unless t n k) l e in (unless-elim t n k z own, rest)
 
-pub rows-passed : (a b : List Outcome) → eqb (first (a ++ b) .number) 0 ≡ true → (eqb (first a .number) 0 ≡ true) × (eqb (first b .number) 0 ≡ true)
+pub rows-passed : (a b : List Outcome) → eqb (first (a ++ b) .number) 0 ≡ true
+    → (eqb (first a .number) 0 ≡ true) × (eqb (first b .number) 0 ≡ true)
 rows-passed a b e = go (eqb (first a .number) 0) refl
   where
     go : (t : Bool) → eqb (first a .number) 0 ≡ t → (t ≡ true) × (eqb (first b .number) 0 ≡ true)
     go true p = (refl, ap (λ (o : Outcome). eqb (o .number) 0) (sym (rows-pass a b p)) ∙ e)
-    go false p = let z : false ≡ true = sym p ∙ ap (λ (o : Outcome). eqb (o .number) 0) (sym (rows-refuse a b p)) ∙ e in (z, cc)
+    go false p = let z : false ≡ true = sym p ∙ ap (λ (o : Outcome). eqb (o .number) 0) (sym (rows-refuse a b p))
+        ∙ e in (z, cc)
 
 -- rows that pass say 0 and 0, so that a first refusal is its own
 pub first-clean : (l : List Outcome) → eqb (first l .number) 0 ≡ true → first l ≡ pass
@@ -80,7 +89,8 @@ unfolding first
 first-clean [] e = refl
 first-clean (o ∷ l) e = go (eqb (o .number) 0) refl e (first-clean l)
   where
-    go : (t : Bool) → eqb (o .number) 0 ≡ t → eqb (cond t (first l) o .number) 0 ≡ true → (eqb (first l .number) 0 ≡ true → first l ≡ pass) → cond t (first l) o ≡ pass
+    go : (t : Bool) → eqb (o .number) 0 ≡ t → eqb (cond t (first l) o .number) 0 ≡ true
+        → (eqb (first l .number) 0 ≡ true → first l ≡ pass) → cond t (first l) o ≡ pass
     go true p q ih = ih q
     go false p q ih = cc
 
@@ -95,7 +105,8 @@ first-alone l = go (eqb (first l .number) 0) refl
 pub cond-zero : {R : Type 0} (n : ℕ) (a b : R) → n ≡ 0 → cond (eqb n 0) a b ≡ a
 cond-zero n a b e = rw (eq-eqb n 0 e)
 
-pub cond-zero-elim : {R : Type 0} (number : R → ℕ) (n : ℕ) (a b : R) → number b ≡ n → number (cond (eqb n 0) a b) ≡ 0 → (n ≡ 0) × (cond (eqb n 0) a b ≡ a)
+pub cond-zero-elim : {R : Type 0} (number : R → ℕ) (n : ℕ) (a b : R) → number b ≡ n → number (cond (eqb n 0) a b) ≡ 0
+    → (n ≡ 0) × (cond (eqb n 0) a b ≡ a)
 cond-zero-elim {R} number n a b own e = go (eqb n 0) refl e
   where
     go : (t : Bool) → eqb n 0 ≡ t → number (cond t a b) ≡ 0 → (n ≡ 0) × (cond t a b ≡ a)
@@ -108,7 +119,8 @@ unfolding unless
 unless-number P true n k z p = z
 unless-number P false n k z p = p
 
-pub first-number : (P : ℕ → Type 0) (o : Outcome) (l : List Outcome) → P (o .number) → P (first l .number) → P (first (o ∷ l) .number)
+pub first-number : (P : ℕ → Type 0) (o : Outcome) (l : List Outcome) → P (o .number) → P (first l .number)
+    → P (first (o ∷ l) .number)
 unfolding first
 first-number P o l p q = go (eqb (o .number) 0)
   where
@@ -116,11 +128,13 @@ first-number P o l p q = go (eqb (o .number) 0)
     go true = q
     go false = p
 
-pub append-number : (P : ℕ → Type 0) (a b : List Outcome) → P (first a .number) → P (first b .number) → P (first (a ++ b) .number)
+pub append-number : (P : ℕ → Type 0) (a b : List Outcome) → P (first a .number) → P (first b .number)
+    → P (first (a ++ b) .number)
 unfolding first
 append-number P [] b p q = q
 append-number P (o ∷ a) b p q = go (eqb (o .number) 0) p (λ p. append-number P a b p q)
   where
-    go : (t : Bool) → P (cond t (first a) o .number) → (P (first a .number) → P (first (a ++ b) .number)) → P (cond t (first (a ++ b)) o .number)
+    go : (t : Bool) → P (cond t (first a) o .number) → (P (first a .number) → P (first (a ++ b) .number))
+        → P (cond t (first (a ++ b)) o .number)
     go true p ih = ih p
     go false p ih = p

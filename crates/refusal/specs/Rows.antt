@@ -1,4 +1,5 @@
--- A refusal is a number and a second number; 0 and 0 refuse nothing. "Rows go in this order": the first that refuses is the answer.
+-- A refusal is a number and a second number; 0 and 0 refuse nothing. "Rows go in this order": the first that refuses is
+-- the answer.
 use mathlib.Core.Bool.{Bool, cond}
 use mathlib.Core.List.{List, [], _∷_}
 use Prim.Native.Nat.{ℕ}

@@ -7,7 +7,7 @@ use Prim.Native.Nat.{ℕ, zero, suc, _+_, _^_, _≤_, _<_}
 use native.Mathlib.Omega.{arith}
 use Rattle.mask.specs.Mask.{has, membersFrom, members}
 use Rattle.mask.proofs.Truth.{split}
-use Rattle.mask.proofs.LowestFirst.{members-narrow}
+use Rattle.mask.proofs.FromLowest.{members-narrow}
 use Rattle.emit.specs.Emit.{Emits}
 use Rattle.emit.specs.Numbers.{decimal, entry, over}
 use Rattle.emit.proofs.Chains.{parts, First, Second, Third, Fourth, Two, Three, Four, first-room, second-room, third-room, fourth-room, two-emits, three-emits, four-emits, emits-as, room-as}

@@ -8,7 +8,7 @@ use lib.Count.{trailingZeros}
 use lib.ListN.{length}
 use borrow.Author.Needs.{needs}
 use Rattle.mask.specs.Mask.{members}
-use Rattle.mask.proofs.LowestFirst.{lowest-inside, rest-less, rest-fits}
+use Rattle.mask.proofs.FromLowest.{lowest-lt, rest-less, rest-fits}
 use Rattle.emit.specs.Emit.{Room, Emits}
 use Rattle.emit.specs.Numbers.{entry, over}
 use Rattle.emit.proofs.Loops.{Left, left-start, mask-room, mask-turn, mask-end}
@@ -33,7 +33,7 @@ module _ (first m : ℕ) {o u o₀ : List ℕ} {n n₀ : ℕ} (left : Left (over
 
 -- the lowest member left is below 64
 inside : (c : tie.In-loop Inv-loop μ-loop) → trailingZeros 64 (c .before .loop .left) < 64
-inside c = search (needs, lowest-inside)
+inside c = search (needs, lowest-lt)
 
 loop-holds : tie.Need-loop-holds Inv-loop μ-loop
 loop-holds c = (search needs, (search needs, search (needs, left-start)))

@@ -6,7 +6,7 @@ use lib.Count.{trailingZeros}
 use lib.ListN.{length}
 use borrow.Author.Needs.{needs}
 use Rattle.mask.specs.Mask.{members}
-use Rattle.mask.proofs.LowestFirst.{lowest-inside, rest-less, rest-fits}
+use Rattle.mask.proofs.FromLowest.{lowest-lt, rest-less, rest-fits}
 use Rattle.emit.specs.Numbers.{over}
 use Rattle.emit.proofs.Loops.{Left, mask-end}
 use Rattle.listing.specs.Listing.{afterLines}
@@ -22,7 +22,7 @@ abbrev μ-loop : tie.MeasureT-loop
 
 -- the lowest member left is below 64
 inside : (c : tie.In-loop Inv-loop μ-loop) → trailingZeros 64 (c .before .loop .left) < 64
-inside c = search (needs, lowest-inside)
+inside c = search (needs, lowest-lt)
 
 loop-holds : tie.Need-loop-holds Inv-loop μ-loop
 loop-holds c = (search needs, (search needs, search (needs, after-start)))
