@@ -41,13 +41,6 @@ pub fn holds64(m: u64, v: usize) -> bool
     (m >> v) % 2 == 1
 }
 
-pub fn holds32(m: u32, v: usize) -> bool
-    requires { ⌜ v < 32 ⌝ }
-    ensures { λ r. ⌜ r ≡ has m v ⌝ }
-{
-    (m >> v) % 2 == 1
-}
-
 pub fn count64(m: u64) -> u32
     ensures { λ r. ⌜ r ≡ count 64 m ⌝ }
 {
