@@ -1,38 +1,19 @@
 -- A done list that runs to its end on a route has each of its names there, and the steps done have these names.
 use mathlib.Core.Path.{_≡_, refl, sym, ap, ap₂, _∙_}
-use mathlib.Core.Bool.{Bool, true, false, cond}
 use mathlib.Core.List.{List, [], _∷_}
-use mathlib.Core.Option.{Option, none, some, Option·getD}
+use mathlib.Core.Option.{Option, some, Option·getD}
 use Prim.Native.Nat.{ℕ, zero, suc, _+_, _<_}
 use native.Mathlib.Omega.{arith}
 use native.Mathlib.Nat.{le-of-suc-le-suc, not-suc-le-zero}
 use lib.ListN.{length, getD}
 use Rattle.route.specs.Steps.{blank, names, lookup}
-use Rattle.route.specs.Firing.{canFire, fire}
 use Rattle.route.specs.declared.Step.{Step}
 use Rattle.route.proofs.ByName.{lookup-name}
+use Rattle.route.proofs.IfFires.{Fires, ifFires-elim}
 use Rattle.job.specs.Job.{Job, jobLine, oldStart}
-use Rattle.job.specs.Run.{stopped, runStep, runFrom, ran, performed}
+use Rattle.job.specs.Run.{runFrom, ran, performed}
 use Rattle.job.specs.declared.Ran.{Ran}
 use Rattle.job.proofs.RunLine.{ran-passed, ran-checked}
-
--- a done line that no row refuses: its step is there and fires
-pub record Fires (m line : ℕ) (q : Option Step) (next : ℕ → Ran) : Type 0 where
-  pub step : Step
-  pub there : q ≡ some step
-  pub fires : canFire m step ≡ true
-  pub onward : runStep m line q next ≡ next (fire m step)
-
-pub line-fires : (m line : ℕ) (q : Option Step) (next : ℕ → Ran) → runStep m line q next .number ≡ 0
-    → Fires m line q next
-unfolding runStep
-line-fires m line none next e = absurd (omega arith)
-line-fires m line (some s) next e = go (canFire m s) refl e
-  where
-    go : (t : Bool) → canFire m s ≡ t → cond t (next (fire m s)) (stopped 9 line) .number ≡ 0
-        → Fires m line (some s) next
-    go true c e = record { step = s; there = refl; fires = c; onward = rw c }
-    go false c e = absurd (omega arith)
 
 -- each name is in the route
 abbrev pub Known : List Step → List ℕ → Type 0
@@ -40,33 +21,30 @@ Known steps done =
     (i : ℕ) → i < length done → (s : Step) × (lookup (getD done i 0) steps ≡ some s) × (s .name ≡ getD done i 0)
 
 module _ (steps : List Step) where
-  -- the first line's step, and that the rest runs
-  module _ (m line n : ℕ) (d : List ℕ) (e : runFrom steps m line (n ∷ d) .number ≡ 0) where
-    pub first-fires : Fires m line (lookup n steps) (λ m′. runFrom steps m′ (line + 1) d)
+  -- the first line's step is there and fires, and the rest runs
+  module _ (m line n : ℕ) (d : List ℕ) where
+    pub first-fires : runFrom steps m line (n ∷ d) .number ≡ 0
+        → Fires m (lookup n steps) (λ s m′. runFrom steps m′ (line + 1) d) (λ (r : Ran). r .number ≡ 0)
     unfolding runFrom
-    first-fires = line-fires m line (lookup n steps) _ e
-
-    pub rest-runs : runFrom steps (fire m (first-fires .step)) (line + 1) d .number ≡ 0
-    unfolding runFrom
-    rest-runs = sym (ap (λ (x : Ran). x .number) (first-fires .onward)) ∙ e
-
-    pub first-name : first-fires .step .name ≡ n
-    first-name = lookup-name n steps (first-fires .step) (first-fires .there)
+    first-fires = ifFires-elim (λ (r : Ran). r .number ≡ 0) m (lookup n steps) _ _ _ (λ e. omega arith) (λ e. omega arith)
 
   pub run-known : (m line : ℕ) (done : List ℕ) → runFrom steps m line done .number ≡ 0 → Known steps done
   run-known m line [] e i h = absurd (not-suc-le-zero h)
   run-known m line (n ∷ d) e zero h =
-      (first-fires m line n d e .step, first-fires m line n d e .there, first-name m line n d e)
-  run-known m line (n ∷ d) e (suc i) h = run-known _ (line + 1) d (rest-runs m line n d e) i (le-of-suc-le-suc h)
+      let f = first-fires m line n d e in
+      (f .step, f .there, lookup-name n steps (f .step) (f .there))
+  run-known m line (n ∷ d) e (suc i) h =
+      run-known _ (line + 1) d (first-fires m line n d e .onward) i (le-of-suc-le-suc h)
 
   pub run-names : (m line : ℕ) (done : List ℕ) → runFrom steps m line done .number ≡ 0
       → names (performed steps done) ≡ done
   unfolding names performed
   run-names m line [] e = refl
   run-names m line (n ∷ d) e =
+      let f = first-fires m line n d e in
       ap₂ (λ (x : ℕ) (l : List ℕ). x ∷ l)
-      (ap (λ (q : Option Step). Option·getD q blank .name) (first-fires m line n d e .there) ∙ first-name m line n d e)
-      (run-names _ (line + 1) d (rest-runs m line n d e))
+      (ap (λ (q : Option Step). Option·getD q blank .name) (f .there) ∙ lookup-name n steps (f .step) (f .there))
+      (run-names _ (line + 1) d (f .onward))
 
 -- ---- the job
 

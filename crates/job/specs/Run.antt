@@ -2,14 +2,14 @@
 use mathlib.Core.Path.{_≡_}
 use mathlib.Core.Bool.{cond}
 use mathlib.Core.List.{List, [], _∷_, map}
-use mathlib.Core.Option.{Option, none, some, Option·getD}
+use mathlib.Core.Option.{Option·getD}
 use Prim.Native.Nat.{ℕ, _+_, _≤_, _<_}
 use lib.Dec.{eqb}
 use lib.ListN.{length, getD}
 use Rattle.refusal.specs.Rows.{refuse}
 use Rattle.route.specs.Steps.{blank, lookup}
 use Rattle.route.specs.Flat.{Holds}
-use Rattle.route.specs.Firing.{canFire, fire}
+use Rattle.route.specs.Firing.{ifFires}
 use Rattle.route.specs.declared.Step.{Step}
 use Rattle.job.specs.Job.{Job, jobLine, oldStart, newStart}
 use Rattle.job.specs.Lines.{checked}
@@ -29,13 +29,9 @@ abbrev pub AllNamed : List ℕ → Type 0
 AllNamed done = (i : ℕ) → i < length done → 1 ≤ getD done i 0
 
 -- 8: name not in the old route; 9: can't fire; else the next line from the next marking
-unfoldable pub runStep : ℕ → ℕ → Option Step → (ℕ → Ran) → Ran
-runStep m line none next = stopped 8 line
-runStep m line (some s) next = cond (canFire m s) (next (fire m s)) (stopped 9 line)
-
 unfoldable pub runFrom : List Step → ℕ → ℕ → List ℕ → Ran
 runFrom steps m line [] = record { number = 0; second = 0; marking = record { tokens = m } }
-runFrom steps m line (n ∷ l) = runStep m line (lookup n steps) (λ m′. runFrom steps m′ (line + 1) l)
+runFrom steps m line (n ∷ l) = ifFires m (lookup n steps) (stopped 8 line) (stopped 9 line) (λ s m′. runFrom steps m′ (line + 1) l)
 
 -- the operation run: the rows to 7, then the done lines from the old route's start
 unfoldable pub ran : Job → Ran

@@ -1,14 +1,14 @@
 -- Straight replay: the whole done list in its own order on the new route. `l` is the list of the steps done, `new` the new route's steps,
 -- `from` the new start.
 use mathlib.Core.Path.{_≡_}
-use mathlib.Core.Bool.{Bool, true, false, cond, _&&_}
+use mathlib.Core.Bool.{Bool, true, false, _&&_}
 use mathlib.Core.List.{List, [], _∷_, map}
 use mathlib.Core.Option.{Option, none, some}
 use Prim.Native.Nat.{ℕ}
 use lib.Dec.{eqb}
 use lib.ListN.{length, getD}
 use Rattle.route.specs.Steps.{blank, lookup}
-use Rattle.route.specs.Firing.{canFire, fire}
+use Rattle.route.specs.Firing.{ifFires}
 use Rattle.route.specs.declared.Step.{Step}
 use Rattle.slice.specs.Order.{inTurn}
 use Rattle.search.specs.Search.{isSome}
@@ -26,13 +26,9 @@ allOf t [] = true
 allOf t (s ∷ l) = t s && allOf t l
 
 -- firing in turn the new route's steps of these names: the marking at the end, or none where one isn't there or can't fire
-unfoldable pub fireStep : ℕ → Option Step → (ℕ → Option ℕ) → Option ℕ
-fireStep m none next = none
-fireStep m (some t) next = cond (canFire m t) (next (fire m t)) none
-
 unfoldable pub fireAll : List Step → ℕ → List Step → Option ℕ
 fireAll new m [] = some m
-fireAll new m (s ∷ l) = fireStep m (lookup (s .name) new) (λ m′. fireAll new m′ l)
+fireAll new m (s ∷ l) = ifFires m (lookup (s .name) new) none none (λ t m′. fireAll new m′ l)
 
 -- the steps of a list of occurrences
 unfoldable pub stepsOn : List Step → List ℕ → List Step

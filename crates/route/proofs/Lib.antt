@@ -5,5 +5,6 @@ pub mod FlatSteps
 pub mod LaidSteps
 pub mod DigitHints
 pub mod Toggle
+pub mod IfFires
 pub mod NetRows
 pub mod ByName

@@ -15,9 +15,10 @@ use borrow.Author.Tests.{not-true, not-false}
 use Rattle.mask.specs.Mask.{has, bit, within}
 use Rattle.mask.proofs.Truth.{both}
 use Rattle.route.specs.Steps.{blank}
-use Rattle.route.specs.Firing.{canFire, fire}
+use Rattle.route.specs.Firing.{canFire, fire, ifFires}
 use Rattle.route.specs.declared.Step.{Step}
 use Rattle.route.specs.declared.Marking.{Marking}
+use Rattle.route.proofs.IfFires.{ifFires-stuck, ifFires-can}
 use Rattle.slice.specs.Slice.{variables}
 use Rattle.slice.specs.Precedence.{comesAfter, row}
 use Rattle.slice.specs.Order.{noneOf}
@@ -27,7 +28,7 @@ use Rattle.slice.proofs.Filled.{turn-at}
 use Rattle.matching.specs.Fit.{keptOf}
 use Rattle.matching.specs.Straight.{sameData, sameStep}
 use Rattle.matching.proofs.Matched.{stepFor, matched-at}
-use Rattle.trying.specs.Try.{tryStopped, isKept, listRow, tryFire, tryFrom}
+use Rattle.trying.specs.Try.{tryStopped, isKept, listRow, tryFrom}
 use Rattle.trying.specs.Replayable.{Replayable}
 use Rattle.trying.specs.declared.Tried.{Tried}
 use Rattle.trying.proofs.Row16.{Passed, passed-at, kept-range}
@@ -95,13 +96,13 @@ module _ (o : List ℕ) (kept : ℕ) (rows : List ℕ) (steps : List Step) (from
               ∙ ap (λ (r : ℕ). within (bitAnd r kept) placed) (sym row-is)
               ∙ sym test
 
-          unfoldable next : ℕ → Tried
-          next x = tryFrom new l x (i + 1 + 1) (positions (drop (suc i) o))
+          unfoldable next : Step → ℕ → Tried
+          next s x = tryFrom new l x (i + 1 + 1) (positions (drop (suc i) o))
 
-          tested : cond t (tryFire m (i + 1) (stepFor new l k) next) (tryStopped 17 (i + 1)) ≡ tryFrom new l from 1 (positions o)
+          tested : cond t (ifFires m (stepFor new l k) (tryStopped 18 (i + 1)) (tryStopped 18 (i + 1)) next) (tryStopped 17 (i + 1)) ≡ tryFrom new l from 1 (positions o)
           unfolding tryFrom next
           tested =
-              ap (λ (b : Bool). cond b (tryFire m (i + 1) (stepFor new l k) next) (tryStopped 17 (i + 1))) (sym test-is)
+              ap (λ (b : Bool). cond b (ifFires m (stepFor new l k) (tryStopped 18 (i + 1)) (tryStopped 18 (i + 1)) next) (tryStopped 17 (i + 1))) (sym test-is)
               ∙ ap (λ (x : List ℕ). tryFrom new l m (i + 1) (positions x)) (sym (drop-cons o i 0 h))
               ∙ inv .rest new l ready is
 
@@ -111,21 +112,18 @@ module _ (o : List ℕ) (kept : ℕ) (rows : List ℕ) (steps : List Step) (from
               let below : k < length l = kept-below l (variables new) k (ap (λ (n : ℕ). has n k) (sym (ready .kept-is)) ∙ there) in
               matched-step new l k s below (ready .all-same k there) (e ∙ ap (λ (x : List Step). getD x k blank) (ready .matches-are) ∙ matched-at new l k below)
 
-          fired : t ≡ true → (s : Step) → s ≡ getD steps k blank → (e : Bool) → canFire m s ≡ e → cond e (next (fire m s)) (tryStopped 18 (i + 1)) ≡ tryFrom new l from 1 (positions o)
-          unfolding tryFire
-          fired ok s s-is e can =
-              ap (λ (b : Bool). cond b (next (fire m s)) (tryStopped 18 (i + 1))) (sym can)
-              ∙ ap (λ (q : Option Step). tryFire m (i + 1) q next) (sym (step-for s s-is))
-              ∙ ap (λ (b : Bool). cond b (tryFire m (i + 1) (stepFor new l k) next) (tryStopped 17 (i + 1))) (sym ok)
+          placed-on : t ≡ true → ifFires m (stepFor new l k) (tryStopped 18 (i + 1)) (tryStopped 18 (i + 1)) next ≡ tryFrom new l from 1 (positions o)
+          placed-on ok =
+              ap (λ (b : Bool). cond b (ifFires m (stepFor new l k) (tryStopped 18 (i + 1)) (tryStopped 18 (i + 1)) next) (tryStopped 17 (i + 1))) (sym ok)
               ∙ tested
 
         pub placed-early : (r : Tried) → not t ≡ true → r ≡ tryStopped 17 (i + 1) → Answers r
         placed-early r off e new l ready is =
-            e ∙ ap (λ (b : Bool). cond b (tryFire m (i + 1) (stepFor new l k) (next new l ready is)) (tryStopped 17 (i + 1))) (sym (not-true t off)) ∙ tested new l ready is
+            e ∙ ap (λ (b : Bool). cond b (ifFires m (stepFor new l k) (tryStopped 18 (i + 1)) (tryStopped 18 (i + 1)) (next new l ready is)) (tryStopped 17 (i + 1))) (sym (not-true t off)) ∙ tested new l ready is
 
         module _ (ok : not t ≡ false) (s : Step) (s-is : s ≡ getD steps k blank) (can : Bool) (can-is : can ≡ canFire m s) where
           pub placed-stuck : (r : Tried) → not can ≡ true → r ≡ tryStopped 18 (i + 1) → Answers r
-          placed-stuck r off e new l ready is = e ∙ fired new l ready is (not-false t ok) s s-is false (sym can-is ∙ not-true can off)
+          placed-stuck r off e new l ready is = e ∙ sym (ifFires-stuck m (stepFor new l k) _ _ (next new l ready is) s (step-for new l ready is s s-is) (sym can-is ∙ not-true can off)) ∙ placed-on new l ready is (not-false t ok)
 
           pub placed-step : (own m′ : ℕ) → not can ≡ false → own ≡ bit k → m′ ≡ fire m s → Placed (bitOr placed own) m′ (i + 1)
           unfolding next
@@ -134,5 +132,6 @@ module _ (o : List ℕ) (kept : ℕ) (rows : List ℕ) (steps : List Step) (from
                 lists = ap (λ (x : ℕ). listRow kept (bitOr placed x) (i + 1 + 1) (drop (i + 1) o) .number) own-is ∙ passed .rest;
                 rest = λ new l ready is.
                     ap₂ (λ (x n : ℕ). tryFrom new l x (i + 1 + 1) (positions (drop n o))) m-is (add-one i)
-                    ∙ fired new l ready is (not-false t ok) s s-is true (sym can-is ∙ not-false can on);
+                    ∙ sym (ifFires-can m (stepFor new l k) _ _ (next new l ready is) s (step-for new l ready is s s-is) (sym can-is ∙ not-false can on))
+                    ∙ placed-on new l ready is (not-false t ok);
               }

@@ -1,14 +1,14 @@
 -- The operation try, row by row: a list of occurrence numbers that somebody hands in.
 use mathlib.Core.Bool.{Bool, true, false, not, cond, _&&_}
 use mathlib.Core.List.{List, [], _∷_, map}
-use mathlib.Core.Option.{Option, none, some, Option·getD}
+use mathlib.Core.Option.{Option·getD}
 use Prim.Native.Nat.{ℕ, suc, _+_, _-_}
 use lib.Dec.{eqb, leb}
 use lib.ListN.{length, getD}
 use lib.Bits.{bitOr}
 use Rattle.mask.specs.Mask.{has, bit}
 use Rattle.route.specs.Steps.{blank, lookup}
-use Rattle.route.specs.Firing.{canFire, fire}
+use Rattle.route.specs.Firing.{ifFires}
 use Rattle.refusal.specs.Rows.{pass, refuse}
 use Rattle.route.specs.declared.Step.{Step}
 use Rattle.refusal.specs.declared.Outcome.{Outcome}
@@ -47,15 +47,11 @@ listRow kept seen at [] = cond (eqb seen kept) pass (refuse 16 at)
 listRow kept seen at (b ∷ o) = cond (isKept kept b && not (has seen (b - 1))) (listRow kept (bitOr seen (bit (b - 1))) (at + 1) o) (refuse 16 at)
 
 -- 17: before one it comes after; 18: can't fire; each entry in turn
-unfoldable pub tryFire : ℕ → ℕ → Option Step → (ℕ → Tried) → Tried
-tryFire m at none next = tryStopped 18 at
-tryFire m at (some t) next = cond (canFire m t) (next (fire m t)) (tryStopped 18 at)
-
 unfoldable pub tryFrom : List Step → List Step → ℕ → ℕ → List ℕ → Tried
 tryFrom new l m at [] = tryAccepted m
 tryFrom new l m at (i ∷ o) =
     cond (noneOf (comesAfter l i) o)
-    (tryFire m at (lookup (getD l i blank .name) new) (λ m′. tryFrom new l m′ (at + 1) o))
+    (ifFires m (lookup (getD l i blank .name) new) (tryStopped 18 at) (tryStopped 18 at) (λ s m′. tryFrom new l m′ (at + 1) o))
     (tryStopped 17 at)
 
 -- after row 12: the straight list first, then rows 16, 17 and 18
