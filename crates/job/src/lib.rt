@@ -5,7 +5,7 @@ ghost use mathlib.Core.Path.{_≡_};
 ghost use Rattle.job.specs.Run.{stopped, begunStopped};
 
 pub mod checks;
-pub mod lines;
+mod lines;
 pub mod routes;
 pub mod running;
 pub mod runs;

@@ -2,7 +2,7 @@
 use route::Marking;
 
 pub mod answering;
-pub mod candidates;
+mod candidates;
 pub mod judging;
 
 // What the listing shows. Occurrence k is bit k - 1 of a mask and entry k - 1 of `after`; an order and a writer hold occurrence numbers.

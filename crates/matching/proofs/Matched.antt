@@ -6,21 +6,17 @@ use mathlib.Core.List.{List}
 use mathlib.Core.Option.{Option, none, some, Option·getD}
 use Prim.Native.Nat.{ℕ, _≤_, _<_}
 use native.Mathlib.Omega.{arith}
-use lib.ListN.{length, getD, List·getD-map}
+use lib.ListN.{length, getD}
 use borrow.Author.Tests.{ne-eqb}
 use Rattle.route.specs.Steps.{blank, names, lookup}
 use Rattle.route.specs.Flat.{stepsIn}
 use Rattle.route.specs.declared.Step.{Step}
 use Rattle.route.proofs.ByName.{lookup-name}
-use Rattle.route.proofs.StepList.{length-names}
+use Rattle.route.proofs.StepList.{length-names, getD-names}
 use Rattle.job.proofs.Performed.{length-performed, performed-at}
 use Rattle.matching.specs.Straight.{sameData, sameStep}
 use Rattle.matching.specs.Matched.{matched}
 use Rattle.matching.specs.Matches.{MatchesOf, present}
-
-getD-names : (l : List Step) (i : ℕ) → getD (names l) i 0 ≡ getD l i blank .name
-unfolding names
-getD-names l i = List·getD-map (λ (s : Step). s .name) l i blank
 
 -- the new route's step for the occurrence at i, if there is one
 abbrev pub stepFor : List Step → List Step → ℕ → Option Step

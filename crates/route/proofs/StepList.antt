@@ -5,7 +5,7 @@ use mathlib.Core.List.{List, [], _∷_, _++_}
 use Prim.Native.Nat.{ℕ, zero, suc, _+_, _-_, _≤_, _<_, min}
 use native.Mathlib.Omega.{arith}
 use native.Mathlib.Numerals.{add-one}
-use lib.ListN.{length, take, drop, getD, replicate, length-append, length-take, length-replicate, length-map, List·getD-append, drop-of-length-le}
+use lib.ListN.{length, take, drop, getD, replicate, length-append, length-take, length-replicate, length-map, List·getD-append, List·getD-map, drop-of-length-le}
 use lib.Seq.{getD-append-add, drop-cons, getD-take}
 use lib.Bits.{bitOr, or-zero-r}
 use Rattle.mask.proofs.Laws.{or-assoc}
@@ -93,3 +93,7 @@ module _ (f : Step → ℕ) (l : List Step) (i count acc whole : ℕ) (counted :
 pub length-names : (l : List Step) → length (names l) ≡ length l
 unfolding names
 length-names l = length-map l (λ (s : Step). s .name)
+
+pub getD-names : (l : List Step) (i : ℕ) → getD (names l) i 0 ≡ getD l i blank .name
+unfolding names
+getD-names l i = List·getD-map (λ (s : Step). s .name) l i blank

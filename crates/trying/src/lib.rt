@@ -3,7 +3,7 @@ use route::Marking;
 ghost use mathlib.Core.Path.{_≡_};
 ghost use Rattle.trying.specs.Try.{tryStopped};
 
-pub mod entries;
+mod entries;
 pub mod trying;
 
 // The marking at the end of the order, where it is accepted.
