@@ -2,16 +2,16 @@
 use mathlib.Core.Path.{refl}
 use Rattle.mask.specs.Mask.{has, membersFrom, members, collect, count}
 use Rattle.route.specs.Steps.{stepsOf, union, names, lookup}
-use Rattle.route.specs.Firing.{canFire, fire, start}
+use Rattle.route.specs.Firing.{canFire, fire, ifFires, start}
 use Rattle.refusal.specs.Rows.{unless, first}
 use Rattle.route.specs.Net.{netRow}
 use Rattle.job.specs.Lines.{nameFits, placesFit, stepFits, variableList, placeList, listsFit, among, stepRow, stepRows, routeRows, doneRow, doneRows, lineRows, checked}
-use Rattle.job.specs.Run.{runStep, runFrom, ran, performed}
+use Rattle.job.specs.Run.{runFrom, ran, performed}
 use Rattle.slice.specs.Order.{inTurn}
 use Rattle.slice.specs.Precedence.{clash, comesAfter, row}
 use Rattle.slice.specs.Slice.{variables, sweepStep, sweep, keptMask}
-use Rattle.search.specs.Search.{isSome, orElse, onwards, tryEach, search, fireNext}
-use Rattle.matching.specs.Straight.{sameData, sameStep, allOf, fireStep, fireAll, stepsOn, runsStraight}
+use Rattle.search.specs.Search.{isSome, orElse, onwards, tryEach, search}
+use Rattle.matching.specs.Straight.{sameData, sameStep, allOf, fireAll, stepsOn, runsStraight}
 use Rattle.matching.specs.Fit.{keptOf}
 use Rattle.matching.specs.KeptRows.{keptRow, keptLines, keptRows}
 use Rattle.judging.specs.Placing.{before, placeNext}
@@ -33,7 +33,7 @@ unfolding has membersFrom members collect count
 the-masks = tt
 
 unfoldable the-routes : Unit {0}
-unfolding stepsOf union names lookup canFire fire start unless first netRow
+unfolding stepsOf union names lookup canFire fire ifFires start unless first netRow
 the-routes = tt
 
 unfoldable the-layout : Unit {0}
@@ -45,7 +45,7 @@ unfolding allBelow rising formFits listFits formLists formRow masked recordOf fa
 the-facts = tt
 
 unfoldable the-run : Unit {0}
-unfolding nameFits placesFit stepFits variableList placeList listsFit among stepRow stepRows routeRows doneRow doneRows lineRows checked runStep runFrom ran
+unfolding nameFits placesFit stepFits variableList placeList listsFit among stepRow stepRows routeRows doneRow doneRows lineRows checked runFrom ran
 the-run = tt
 
 unfoldable the-slice : Unit {0}
@@ -53,7 +53,7 @@ unfolding inTurn clash comesAfter row performed variables sweepStep sweep keptMa
 the-slice = tt
 
 unfoldable the-judge : Unit {0}
-unfolding isSome sameData sameStep allOf fireStep fireAll stepsOn runsStraight keptRow keptLines keptRows orElse onwards tryEach search before fireNext placeNext padded lastWriter afterOf writerOf answer firstOf firstFit judgeFound judgeRows judged
+unfolding isSome sameData sameStep allOf fireAll stepsOn runsStraight keptRow keptLines keptRows orElse onwards tryEach search before placeNext padded lastWriter afterOf writerOf answer firstOf firstFit judgeFound judgeRows judged
 the-judge = tt
 
 unfoldable the-listing : Unit {0}

@@ -15,7 +15,7 @@ use Rattle.slice.specs.Order.{times}
 use Rattle.matching.specs.Straight.{fireAll}
 use Rattle.theorems.proofs.Entries.{times-head}
 use Rattle.theorems.proofs.Insertion.{Insertion, here, there, insertion-times, take-out}
-use Rattle.theorems.proofs.Fires.{fire-on}
+use Rattle.theorems.proofs.Fires.{fireAll-cons}
 
 -- the places that a step toggles
 unfoldable pub toggleOf : Option Step → ℕ
@@ -34,9 +34,9 @@ module _ (steps : List Step) where
   unfolding fireAll names toggles toggleOf
   fires-toggle m e [] h = sym (Option·some-injective m e h) ∙ sym (xor-zero-r m)
   fires-toggle m e (s ∷ l) h =
-      let r = fire-on m (lookup (s .name) steps) (λ m′. fireAll steps m′ l) e h in
+      let r = fireAll-cons steps m e s l h in
       fires-toggle (fire m (r .step)) e l (r .onward)
-      ∙ ap (λ (x : ℕ). bitXor x (toggles (names l))) (fire-toggles m (r .step) (r .fires))
+      ∙ ap (λ (x : ℕ). bitXor x (toggles (names l))) (fire-toggles m (r .step) (r .can))
       ∙ xor-assoc m (bitXor (r .step .ins) (r .step .outs)) (toggles (names l))
       ∙ ap (λ (q : Option Step). bitXor m (bitXor (toggleOf q) (toggles (names l)))) (sym (r .there))
 

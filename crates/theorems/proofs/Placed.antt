@@ -15,35 +15,28 @@ use Rattle.mask.specs.Mask.{has, bit, within}
 use Rattle.mask.proofs.Laws.{has-collect, within-all, all-within}
 use Rattle.mask.proofs.Truth.{both}
 use Rattle.route.specs.Steps.{blank, lookup}
-use Rattle.route.specs.Firing.{canFire, fire}
+use Rattle.route.specs.Firing.{fire, ifFires, fireNext}
 use Rattle.route.specs.declared.Step.{Step}
+use Rattle.route.proofs.IfFires.{ifFires-can, ifFires-elim}
 use Rattle.slice.specs.Precedence.{comesAfter}
 use Rattle.slice.specs.Order.{times, noneOf, inOrder}
-use Rattle.matching.specs.Straight.{fireStep, fireAll, stepsOn}
-use Rattle.search.specs.Search.{fireNext}
+use Rattle.matching.specs.Straight.{fireAll, stepsOn}
 use Rattle.judging.specs.Placing.{before, placeNext}
 use Rattle.search.proofs.Finds.{Allowed, done, then}
 use Rattle.theorems.proofs.Entries.{times-head, times-cons-elim, noneOf-elim, noneOf-intro, inOrder-cons}
 use Rattle.theorems.proofs.MembersOrder.{comesAfter-le}
 use Rattle.mask.proofs.Count.{one, one-some, one-same, has-more}
 use Rattle.theorems.proofs.EachOnce.{fresh, fresh-out, one-more}
-use Rattle.theorems.proofs.Fires.{FireOn, fire-on}
+use Rattle.theorems.proofs.Fires.{fireAll-cons}
 use Rattle.theorems.proofs.Candidates.{Below, Rises, map-entry, times-at}
 
 -- firing next, and firing in turn
-next-fires : (m m′ : ℕ) (q : Option Step) (next : ℕ → Option ℕ) → fireNext m q ≡ some m′ → fireStep m q next ≡ next m′
-unfolding fireNext fireStep
-next-fires m m′ none next e = absurd (Option·none-ne-some m′ e)
-next-fires m m′ (some s) next e = go (canFire m s) e
-  where
-    go : (t : Bool) → cond t (some (fire m s)) none ≡ some m′ → cond t (next (fire m s)) none ≡ next m′
-    go true e = ap next (Option·some-injective (fire m s) m′ e)
-    go false e = absurd (Option·none-ne-some m′ e)
-
-fires-next : (m e : ℕ) (q : Option Step) (next : ℕ → Option ℕ) (r : FireOn m q next e)
-    → fireNext m q ≡ some (fire m (r .step))
-unfolding fireNext
-fires-next m e q next r = rw (r .there, r .fires)
+next-fires : (m m′ : ℕ) (q : Option Step) (next : ℕ → Option ℕ) → fireNext m q ≡ some m′
+    → ifFires m q none none (λ s. next) ≡ next m′
+next-fires m m′ q next e =
+    let f = ifFires-elim (λ (r : Option ℕ). r ≡ some m′) m q none none _ (Option·none-ne-some m′) (Option·none-ne-some m′) e in
+    ifFires-can m q none none _ (f .step) (f .there) (f .can)
+    ∙ ap next (Option·some-injective (fire m (f .step)) m′ (f .onward))
 
 module _ (new l : List Step) (ks : List ℕ) (up : Rises ks) where
   abbrev at : ℕ → ℕ
@@ -134,9 +127,9 @@ module _ (new l : List Step) (ks : List ℕ) (up : Rises ks) where
   placed-allowed [] placed m e b rest h f = done
   placed-allowed (k ∷ q) placed m e b rest h f =
       let (n, i) = inOrder-cons l (at k) (map at q) h in
-      let r = fire-on m (stepOf k) (λ m′. fireAll new m′ (stepsOn l (map at q))) e f in
+      let r = fireAll-cons new m e (getD l (at k) blank) (stepsOn l (map at q)) f in
       let low : k < length ks = b k (times-head k (times k q)) in
       let below : Below (length ks) q = λ x c. b x (omega arith) in
       let out : has placed k ≡ false = one-same (has placed k) false (omega (arith, rest k low, times-head k (times k q))) in
-      let s : Next placed m k (fire m (r .step)) = record { fresh-one = out; after = all-before placed k q below rest n; fires = fires-next m e (stepOf k) _ r } in
+      let s : Next placed m k (fire m (r .step)) = record { fresh-one = out; after = all-before placed k q below rest n; fires = ifFires-can m (stepOf k) none none _ (r .step) (r .there) (r .can) } in
       then low (one-next placed m k (fire m (r .step)) s) (placed-allowed q (bitOr placed (bit k)) (fire m (r .step)) e below (λ v c. omega (arith, rest v c, one-more placed k v out)) i (r .onward))

@@ -3,11 +3,11 @@ use mathlib.Core.Path.{_≡_}
 use mathlib.Core.Logic.{_↔_}
 use mathlib.Core.Bool.{true}
 use mathlib.Core.List.{List, [], _∷_, map}
-use mathlib.Core.Option.{Option, none, some}
+use mathlib.Core.Option.{Option, some}
 use Prim.Native.Nat.{ℕ, _-_}
 use lib.ListN.{length, getD, take}
 use Rattle.mask.specs.Mask.{has}
-use Rattle.route.specs.Firing.{canFire, fire}
+use Rattle.route.specs.Firing.{fireNext}
 use Rattle.route.specs.Steps.{lookup}
 use Rattle.route.specs.declared.Step.{Step}
 use Rattle.job.specs.Job.{Job, oldStart, newStart}
@@ -57,8 +57,7 @@ wholeJob f j = replay f (oldStart j) (j .old) (nameAt j) (inTurn 0 (length (j .d
 
 -- one entry fires: the route has its step, which can fire on the marking before, and firing it gives the marking after
 abbrev pub FiresTo : ℕ → Option Step → ℕ → Type 0
-FiresTo m none m′ = ⊥
-FiresTo m (some s) m′ = (canFire m s ≡ true) × (m′ ≡ fire m s)
+FiresTo m q m′ = fireNext m q ≡ some m′
 
 -- "all firing in turn": a marking after each entry, each by firing that entry's step on the one before
 abbrev pub InTurn : List Step → (ℕ → ℕ) → ℕ → List ℕ → List ℕ → Type 0

@@ -4,7 +4,7 @@ use mathlib.Core.List.{List, [], _∷_, map}
 use mathlib.Core.Option.{Option, none, some}
 use Prim.Native.Nat.{ℕ}
 use Rattle.mask.specs.Mask.{has, members}
-use Rattle.route.specs.Firing.{canFire, fire}
+use Rattle.route.specs.Firing.{ifFires}
 use Rattle.route.specs.Steps.{lookup}
 use Rattle.route.specs.declared.Step.{Step}
 
@@ -40,15 +40,17 @@ pub record End (T : Type 0) : Type 0 where
 abbrev pub after : {T : Type 0} → ℕ → End T → End T
 after m e = record { marking = e .marking; store = e .store; passed = m ∷ e .passed; whole = e .whole }
 
+-- a replay that ends before the end of its list
+abbrev pub ended : {T : Type 0} → ℕ → Store T → End T
+ended m σ = record { marking = m; store = σ; passed = []; whole = false }
+
 -- "takes the occurrences in turn. For each, the route's step of its name fires. Where the route has no such step, or it can't fire, the
 -- replay ends there." `name` gives an occurrence's name
-unfoldable pub replayStep : {T : Type 0} → Work T → ℕ → Option Step → ℕ → Store T → (ℕ → Store T → End T) → End T
-replayStep f i none m σ go = record { marking = m; store = σ; passed = []; whole = false }
-replayStep f i (some s) m σ go = cond (canFire m s) (after (fire m s) (go (fire m s) (perform f i s σ))) (record { marking = m; store = σ; passed = []; whole = false })
-
 unfoldable pub replayFrom : {T : Type 0} → Work T → List Step → (ℕ → ℕ) → ℕ → Store T → List ℕ → End T
 replayFrom f steps name m σ [] = record { marking = m; store = σ; passed = []; whole = true }
-replayFrom f steps name m σ (i ∷ o) = replayStep f i (lookup (name i) steps) m σ (λ m′ σ′. replayFrom f steps name m′ σ′ o)
+replayFrom f steps name m σ (i ∷ o) =
+    ifFires m (lookup (name i) steps) (ended m σ) (ended m σ)
+    (λ s m′. after m′ (replayFrom f steps name m′ (perform f i s σ) o))
 
 -- "A replay of a list of occurrences on a route begins at the route's start with all 32 variables blank"; `from` is that start
 unfoldable pub replay : {T : Type 0} → Work T → ℕ → List Step → (ℕ → ℕ) → List ℕ → End T
