@@ -1,6 +1,5 @@
--- Why a job of lent lists and the job of the routes that they are loaded into meet the same answer (Over, Turned, Same); the walks that
--- all operations over lent lists share (Loads, One, Ordered, Filled); and reading into lent lists (Counting, Taken, Lays).
-pub mod Over
+-- Why a job of lent lists and the job of the routes that they are loaded into meet the same answer (LoadedJob, SameAnswers); the walks that
+-- all operations over lent lists share (Loads, WithDone, WithOrder, WithBytes); and reading into lent lists (Counting, Taken, Lays).
 pub mod Loads
 pub mod Counting
 pub mod Lays
