@@ -2,4 +2,6 @@
 pub mod Laid
 pub mod Copied
 pub mod Record
+pub mod Called
+pub mod Locals
 pub mod OneRecord

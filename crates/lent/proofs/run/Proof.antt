@@ -1,4 +1,4 @@
--- `run` meets its contract: both lists are loaded and `job::runs::run` is called (WithDone).
+-- `run` meets its contract: both lists are loaded and `job::runs::run` is called (OverLists).
 use contract.Running.{givenOf, tables, tablesOf}
 use denote.Struct.Laws as LL
 use denote.Triple.Spec.{tripleOf}
@@ -12,8 +12,7 @@ use Rattle.job.proofs.runs.run.Met as core-thm
 use Rattle.records.proofs.load.Symbol as load
 use Rattle.records.proofs.load.Met as load-thm
 use Rattle.lent.specs.Lent.{lentJob}
-use Rattle.lent.proofs.Loads.{Load}
-use Rattle.lent.proofs.WithDone.{Known, one-meets}
+use Rattle.lent.proofs.OverLists.{with-done}
 use Rattle.lent.proofs.SameAnswers.{ran-same}
 use Rattle.lent.proofs.run.Key.{name as #lent·run}
 use Rattle.lent.proofs.run as run
@@ -25,7 +24,9 @@ unfolding code.routine tablesOf
 run-spec 𝓤 H 𝓜 𝓖 𝓡 =
     entered 𝓤 H (tripleOf 𝓤 H (𝓖 .A) run.signature (run.spec 𝓤 H (𝓖 .A) (𝓜 .mem) (𝓡 .run)))
     (tables 𝓤 H 𝓜 𝓡 code.env .C) (tables 𝓤 H 𝓜 𝓡 code.env .Λ) #lent·run code.function (code.unfolded 𝓤 H 𝓜 𝓡)
-    (one-meets R.the-row 𝓤 H (𝓖 .A) (givenOf 𝓤 H 𝓜 𝓖) (𝓜 .mem) (𝓡 .run) R′.mir (λ r v is. LL.lawful R.the-type R′.the-laws 𝓤 H (𝓖 .A) (givenOf 𝓤 H 𝓜 𝓖) .typed r _ is .0)
-    (λ a b d. ran (jobOf a b d)) (λ p l q m d. ran (lentJob p l q m d)) ran-same core.name (tablesOf 𝓤 H 𝓜 (tables 𝓤 H 𝓜 𝓡 code.env))
-    (cited 𝓤 H (Load 𝓤 H (𝓖 .A) (𝓜 .mem) (𝓡 .run)) 𝓜 𝓡 code.env load.name load.routine code.calls-records·load (load-thm.met 𝓤 H 𝓜 𝓖 𝓡))
-    (cited 𝓤 H (Known R.the-row 𝓤 H (𝓖 .A) (λ a b d. ran (jobOf a b d))) 𝓜 𝓡 code.env core.name core.routine code.calls-job·runs·run (core-thm.met 𝓤 H 𝓜 𝓖 𝓡)))
+    (with-done R.the-row 𝓤 H (𝓖 .A) (givenOf 𝓤 H 𝓜 𝓖) (𝓜 .mem) (𝓡 .run) R′.mir
+    (λ r v is. LL.lawful R.the-type R′.the-laws 𝓤 H (𝓖 .A) (givenOf 𝓤 H 𝓜 𝓖) .typed r _ is .0)
+    core.name (tablesOf 𝓤 H 𝓜 (tables 𝓤 H 𝓜 𝓡 code.env))
+    (cited 𝓤 H _ 𝓜 𝓡 code.env load.name load.routine code.calls-records·load (load-thm.met 𝓤 H 𝓜 𝓖 𝓡))
+    (λ a b d. ran (jobOf a b d)) (λ p l q m d. ran (lentJob p l q m d)) ran-same
+    (cited 𝓤 H _ 𝓜 𝓡 code.env core.name core.routine code.calls-job·runs·run (core-thm.met 𝓤 H 𝓜 𝓖 𝓡)))

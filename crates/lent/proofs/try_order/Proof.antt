@@ -1,4 +1,4 @@
--- `try_order` meets its contract: both lists are loaded and `trying::trying::try_order` is called (WithOrder).
+-- `try_order` meets its contract: both lists are loaded and `trying::trying::try_order` is called (OverLists).
 use contract.Running.{givenOf, tables, tablesOf}
 use denote.Struct.Laws as LL
 use denote.Triple.Spec.{tripleOf}
@@ -12,8 +12,7 @@ use Rattle.trying.proofs.trying.try_order.Met as core-thm
 use Rattle.records.proofs.load.Symbol as load
 use Rattle.records.proofs.load.Met as load-thm
 use Rattle.lent.specs.Lent.{lentJob}
-use Rattle.lent.proofs.Loads.{Load}
-use Rattle.lent.proofs.WithOrder.{Known, ordered-meets}
+use Rattle.lent.proofs.OverLists.{with-order}
 use Rattle.lent.proofs.SameAnswers.{tried-same}
 use Rattle.lent.proofs.try_order.Key.{name as #lent·try-order}
 use Rattle.lent.proofs.try_order as try-order
@@ -25,7 +24,9 @@ unfolding code.routine tablesOf
 try-order-spec 𝓤 H 𝓜 𝓖 𝓡 =
     entered 𝓤 H (tripleOf 𝓤 H (𝓖 .A) try-order.signature (try-order.spec 𝓤 H (𝓖 .A) (𝓜 .mem) (𝓡 .run)))
     (tables 𝓤 H 𝓜 𝓡 code.env .C) (tables 𝓤 H 𝓜 𝓡 code.env .Λ) #lent·try-order code.function (code.unfolded 𝓤 H 𝓜 𝓡)
-    (ordered-meets R.the-row 𝓤 H (𝓖 .A) (givenOf 𝓤 H 𝓜 𝓖) (𝓜 .mem) (𝓡 .run) R′.mir (λ r v is. LL.lawful R.the-type R′.the-laws 𝓤 H (𝓖 .A) (givenOf 𝓤 H 𝓜 𝓖) .typed r _ is .0)
-    (λ a b d o. tried (jobOf a b d) o) (λ p l q m d o. tried (lentJob p l q m d) o) tried-same core.name (tablesOf 𝓤 H 𝓜 (tables 𝓤 H 𝓜 𝓡 code.env))
-    (cited 𝓤 H (Load 𝓤 H (𝓖 .A) (𝓜 .mem) (𝓡 .run)) 𝓜 𝓡 code.env load.name load.routine code.calls-records·load (load-thm.met 𝓤 H 𝓜 𝓖 𝓡))
-    (cited 𝓤 H (Known R.the-row 𝓤 H (𝓖 .A) (λ a b d o. tried (jobOf a b d) o)) 𝓜 𝓡 code.env core.name core.routine code.calls-trying·trying·try-order (core-thm.met 𝓤 H 𝓜 𝓖 𝓡)))
+    (with-order R.the-row 𝓤 H (𝓖 .A) (givenOf 𝓤 H 𝓜 𝓖) (𝓜 .mem) (𝓡 .run) R′.mir
+    (λ r v is. LL.lawful R.the-type R′.the-laws 𝓤 H (𝓖 .A) (givenOf 𝓤 H 𝓜 𝓖) .typed r _ is .0)
+    core.name (tablesOf 𝓤 H 𝓜 (tables 𝓤 H 𝓜 𝓡 code.env))
+    (cited 𝓤 H _ 𝓜 𝓡 code.env load.name load.routine code.calls-records·load (load-thm.met 𝓤 H 𝓜 𝓖 𝓡))
+    (λ a b d o. tried (jobOf a b d) o) (λ p l q m d o. tried (lentJob p l q m d) o) tried-same
+    (cited 𝓤 H _ 𝓜 𝓡 code.env core.name core.routine code.calls-trying·trying·try-order (core-thm.met 𝓤 H 𝓜 𝓖 𝓡)))
