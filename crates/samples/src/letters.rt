@@ -4,41 +4,27 @@ use crate::step;
 use crate::three;
 use crate::two;
 use route::Route;
+use route::Step;
+
+// Two steps, and 30, which reads what they write.
+fn before_30(a: Step, b: Step) -> Route {
+    three(4, a, b, step(30, 4, 8, 3, 4))
+}
 
 pub fn a_old() -> Route {
-    three(
-        4,
-        step(10, 1, 2, 0, 1),
-        step(20, 2, 4, 0, 2),
-        step(30, 4, 8, 3, 4),
-    )
+    before_30(step(10, 1, 2, 0, 1), step(20, 2, 4, 0, 2))
 }
 
 pub fn a_new() -> Route {
-    three(
-        4,
-        step(20, 1, 2, 0, 2),
-        step(10, 2, 4, 0, 1),
-        step(30, 4, 8, 3, 4),
-    )
+    before_30(step(20, 1, 2, 0, 2), step(10, 2, 4, 0, 1))
 }
 
 pub fn d_old() -> Route {
-    three(
-        4,
-        step(10, 1, 2, 0, 1),
-        step(20, 2, 4, 1, 2),
-        step(30, 4, 8, 3, 4),
-    )
+    before_30(step(10, 1, 2, 0, 1), step(20, 2, 4, 1, 2))
 }
 
 pub fn d_new() -> Route {
-    three(
-        4,
-        step(20, 1, 2, 1, 2),
-        step(10, 2, 4, 0, 1),
-        step(30, 4, 8, 3, 4),
-    )
+    before_30(step(20, 1, 2, 1, 2), step(10, 2, 4, 0, 1))
 }
 
 pub fn e_new() -> Route {
@@ -50,12 +36,7 @@ pub fn f_new() -> Route {
 }
 
 pub fn g_new() -> Route {
-    three(
-        4,
-        step(20, 1, 2, 0, 2),
-        step(10, 2, 4, 0, 9),
-        step(30, 4, 8, 3, 4),
-    )
+    before_30(step(20, 1, 2, 0, 2), step(10, 2, 4, 0, 9))
 }
 
 pub fn j_both() -> Route {

@@ -1,9 +1,10 @@
-// Routes for the programs that show the engine at work: 01's examples as records, and routes at the limits.
+// What the programs that show the engine at work share: 01's examples as records, routes at the limits, and how an answer is printed.
 use route::Route;
 use route::Step;
 
 pub mod chains;
 pub mod letters;
+pub mod lines;
 
 pub fn step(name: u32, ins: u64, outs: u64, reads: u32, writes: u32) -> Step {
     Step {

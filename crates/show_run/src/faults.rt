@@ -1,27 +1,39 @@
 // A wrong record for each row, and for each place where it can stand.
-use crate::say;
-use crate::say_both;
-use crate::say_step;
+use crate::say_bare;
+use crate::say_one;
+use crate::say_two;
 use route::Route;
+use route::Step;
 use samples::letters;
 use samples::one;
 use samples::step;
-use samples::three;
 use samples::two;
 
-pub fn show_lines() {
-    let old = letters::a_old();
-    let new = letters::a_new();
+// Beside a sound new route.
+fn say_old(label: &[u8], r: Route) {
+    say_bare(label, r, letters::a_new());
+}
+
+// Beside a sound old route.
+fn say_new(label: &[u8], r: Route) {
+    say_bare(label, letters::a_old(), r);
+}
+
+fn say_step(label: &[u8], s: Step) {
+    say_old(label, one(2, s));
+}
+
+pub fn show_routes() {
     let none = Route::empty();
     let mut bare = none;
     bare.places = 4;
-    say(b"4 old has no step", job::runs::run(bare, new, &[]));
-    say(b"4 new has no step", job::runs::run(old, bare, &[]));
-    say(b"2 no old place", job::runs::run(none, new, &[]));
-    say(b"2 no new place", job::runs::run(old, none, &[]));
-    say(b"2 done 0", job::runs::run(old, new, &[10, 0]));
-    say(b"2 done 65536", job::runs::run(old, new, &[65536]));
-    say(b"8 done 65535", job::runs::run(old, new, &[65535]));
+    say_old(b"4 old has no step", bare);
+    say_new(b"4 new has no step", bare);
+    say_old(b"2 no old place", none);
+    say_new(b"2 no new place", none);
+    say_two(b"2 done 0", 10, 0);
+    say_one(b"2 done 65536", 65536);
+    say_one(b"8 done 65535", 65535);
 }
 
 pub fn show_steps() {
@@ -32,35 +44,23 @@ pub fn show_steps() {
     say_step(b"3 out empty", step(1, 1, 0, 0, 0));
     say_step(b"3 nine reads", step(1, 1, 2, 511, 0));
     say_step(b"3 nine writes", step(1, 1, 2, 0, 511));
-    let nine = one(10, step(1, 511, 512, 0, 0));
-    say_both(b"3 nine in-places", nine, &[]);
+    say_old(b"3 nine in-places", one(10, step(1, 511, 512, 0, 0)));
     let a = step(7, 1, 2, 0, 0);
-    say_both(b"5 name twice", two(3, a, step(7, 2, 4, 0, 0)), &[]);
-    say_both(b"3 before 5", two(3, a, step(7, 2, 0, 0, 0)), &[]);
+    say_old(b"5 name twice", two(3, a, step(7, 2, 4, 0, 0)));
+    say_old(b"3 before 5", two(3, a, step(7, 2, 0, 0, 0)));
 }
 
-pub fn show_runs() {
-    let old = letters::a_old();
-    let new = letters::a_new();
-    let loose = three(
-        5,
-        step(10, 1, 2, 0, 1),
-        step(20, 2, 4, 0, 2),
-        step(30, 4, 8, 3, 4),
-    );
+// A route with two starts, and one with none.
+pub fn show_starts() {
+    let mut loose = letters::a_old();
+    loose.places = 5;
     let round = two(2, step(1, 1, 2, 0, 0), step(2, 2, 1, 0, 0));
-    say(b"6 old", job::runs::run(loose, new, &[]));
-    say(b"6 new", job::runs::run(old, loose, &[]));
-    say(b"7 old", job::runs::run(round, new, &[]));
-    say(b"7 new", job::runs::run(old, round, &[]));
-    say(
-        b"6 before 7",
-        job::runs::run(one(3, step(1, 1, 1, 0, 0)), new, &[]),
-    );
-    say(b"old 7 before new 6", job::runs::run(round, loose, &[]));
-    say(b"9 second line", job::runs::run(old, new, &[10, 10]));
-    say(
-        b"8 after 9 is not reached",
-        job::runs::run(old, new, &[20, 40]),
-    );
+    say_old(b"6 old", loose);
+    say_new(b"6 new", loose);
+    say_old(b"7 old", round);
+    say_new(b"7 new", round);
+    say_old(b"6 before 7", one(3, step(1, 1, 1, 0, 0)));
+    say_bare(b"old 7 before new 6", round, loose);
+    say_two(b"9 second line", 10, 10);
+    say_two(b"8 after 9 is not reached", 20, 40);
 }

@@ -1,43 +1,38 @@
 // Prints run's answers on records: the route parts of 01's examples, the limits, and a wrong record for each row; then fire's.
 // Each line is a label, the number, the second number and the marking.
-use job::Ran;
 use route::Route;
-use route::Step;
+use samples::letters as routes;
+use samples::lines;
 
 mod faults;
 mod fires;
 mod letters;
 mod limits;
 
-fn say(label: &[u8], r: Ran) {
-    io::write_all(1, label);
-    io::write_all(1, b" ");
-    io::print_decimal(1, r.number as u64);
-    io::write_all(1, b" ");
-    io::print_decimal(1, r.second);
-    io::write_all(1, b" ");
-    io::print_decimal(1, r.marking.tokens);
-    io::write_all(1, b"\n");
+fn say(label: &[u8], old: Route, new: Route, done: &[u32]) {
+    let r = job::runs::run(old, new, done);
+    lines::answer(label, r.number, r.second, r.marking);
 }
 
-// A job whose two routes are the same.
-fn say_both(label: &[u8], r: Route, done: &[u32]) {
-    say(label, job::runs::run(r, r, done));
+// Nothing done.
+fn say_bare(label: &[u8], old: Route, new: Route) {
+    say(label, old, new, &[]);
 }
 
-// A one-step route beside a sound new route.
-fn say_step(label: &[u8], s: Step) {
-    say(
-        label,
-        job::runs::run(samples::one(2, s), samples::letters::a_new(), &[]),
-    );
+// The routes of example A, and one name done.
+fn say_one(label: &[u8], a: u32) {
+    say(label, routes::a_old(), routes::a_new(), &[a]);
+}
+
+fn say_two(label: &[u8], a: u32, b: u32) {
+    say(label, routes::a_old(), routes::a_new(), &[a, b]);
 }
 
 fn main() {
     letters::show();
     limits::show();
-    faults::show_lines();
+    faults::show_routes();
     faults::show_steps();
-    faults::show_runs();
+    faults::show_starts();
     fires::show();
 }
