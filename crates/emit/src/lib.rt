@@ -38,19 +38,39 @@ fn pair(out: &mut [u8], at: usize, n: u64) -> usize
     put(out, last, 48 + (n % 10) as u8)
 }
 
-// A number in base ten, two digits at a time.
-pub fn number(out: &mut [u8], at: usize, n: u64) -> usize
+// A number below 100, as most are.
+fn short(out: &mut [u8], at: usize, n: u64) -> usize
+    requires { ⌜ n < 100 ⌝ }
     requires { ⌜ Room (decimal n) (now out) at ⌝ }
     ensures { λ r. ⌜ Emits (decimal n) (now (out .entry)) at (now (out .exit)) r ⌝ }
 {
     if n < 10 {
         return put(out, at, 48 + n as u8);
     }
+    pair(out, at, n)
+}
+
+// A number in base ten, two digits at a time.
+fn digits(out: &mut [u8], at: usize, n: u64) -> usize
+    requires { ⌜ Room (decimal n) (now out) at ⌝ }
+    ensures { λ r. ⌜ Emits (decimal n) (now (out .entry)) at (now (out .exit)) r ⌝ }
+{
     if n < 100 {
-        return pair(out, at, n);
+        return short(out, at, n);
     }
-    let last = number(out, at, n / 100);
+    let last = digits(out, at, n / 100);
     pair(out, last, n % 100)
+}
+
+// A number. A short one takes no call of a function that calls itself, so that it is compiled in place.
+pub fn number(out: &mut [u8], at: usize, n: u64) -> usize
+    requires { ⌜ Room (decimal n) (now out) at ⌝ }
+    ensures { λ r. ⌜ Emits (decimal n) (now (out .entry)) at (now (out .exit)) r ⌝ }
+{
+    if 99 < n {
+        return digits(out, at, n);
+    }
+    short(out, at, n)
 }
 
 // One space and a number.

@@ -1,4 +1,4 @@
--- `pair`:
+-- `emit::pair`: one digit, then the other.
 use borrow.Author.Needs.{needs}
 use Rattle.emit.proofs.Decimals.{pair-whole}
 use Rattle.emit.proofs.pair.Statement.{statement}
