@@ -1,25 +1,29 @@
 -- Loops over the variables of a mask, from the lowest up: the union of the entries there, and one more occurrence at each.
-use mathlib.Core.Path.{_≡_, refl, sym, ap, _∙_}
+use mathlib.Core.Path.{_≡_, refl, sym, ap, ap₂, _∙_}
 use mathlib.Core.Bool.{Bool, true, false, not, cond, _&&_, _||_, or-false, and-true, and-false}
 use mathlib.Core.List.{List}
-use Prim.Native.Nat.{ℕ, _+_, _-_, _^_, _<_}
+use Prim.Native.Nat.{ℕ, _+_, _-_, _*_, _^_, _<_}
 use native.Mathlib.Omega.{arith}
+use borrow.Author.Needs.{needs}
+use mir.Syntax.{w64}
+use mir.Val.{Fits}
 use lib.Dec.{eqb, ltb}
 use lib.Bits.{bitAnd, bitOr, and-zero-r, and-le-r}
 use lib.Count.{trailingZeros}
 use lib.ListN.{length, getD, set, replicate}
 use lib.Seq.{getD-set-same, getD-set-other}
-use borrow.Author.Tests.{eqb-true, eqb-false}
+use borrow.Author.Tests.{eqb-true, eqb-false, not-true}
 use Rattle.mask.specs.Mask.{has, bit, meets, collect}
 use Rattle.mask.proofs.Laws.{has-or, has-zero, has-ext, has-collect, collect-hit, collect-miss}
+use Rattle.mask.proofs.Truth.{both}
 use Rattle.mask.proofs.Lowest.{lowest-of, has-less-lowest, meets-less}
 use Rattle.slice.specs.ByVariable.{ByVariable, meeting}
 use Rattle.slice.proofs.Filled.{zeros-at}
+use Rattle.slice.proofs.Meeting.{or-meets, and-either}
 
 -- what is gathered so far, and the entries at the variables that are left
-abbrev pub Gathering : List ℕ → ℕ → ℕ → ℕ → Type 0
-Gathering by vars left m =
-    (f : ℕ → ℕ) (n : ℕ) → ByVariable f n by → (j : ℕ) → (has m j || (ltb j n && meets (f j) left)) ≡ (ltb j n && meets (f j) vars)
+pub record Gathering (by : List ℕ) (vars left m : ℕ) : Type 0 where
+  pub union : (f : ℕ → ℕ) (n : ℕ) → ByVariable f n by → (j : ℕ) → (has m j || (ltb j n && meets (f j) left)) ≡ (ltb j n && meets (f j) vars)
 
 -- each entry as it will be once the variables that are left have the occurrence too
 abbrev pub Joining : List ℕ → ℕ → ℕ → ℕ → List ℕ → Type 0
@@ -30,18 +34,47 @@ Joining by₀ vars own left by =
     → cond (has left v) (bitOr (getD by v 0) own) (getD by v 0)
     ≡ cond (has vars v) (bitOr (getD by₀ v 0) own) (getD by₀ v 0)
 
+-- the entries at the variables that are left are as they were
+abbrev pub Untouched : ℕ → List ℕ → List ℕ → Type 0
+Untouched left by₀ by = (v : ℕ) → has left v ≡ true → getD by v 0 ≡ getD by₀ v 0
+
 pub gathering-init : (by : List ℕ) (vars : ℕ) → Gathering by vars vars 0
-gathering-init by vars f n is j = ap (λ (t : Bool). t || (ltb j n && meets (f j) vars)) (has-zero j)
+gathering-init by vars = record { union = λ f n is j. ap (λ (t : Bool). t || (ltb j n && meets (f j) vars)) (has-zero j) }
 
 pub gathering-done : (by : List ℕ) (vars left m : ℕ) → left ≡ 0 → Gathering by vars left m → (f : ℕ → ℕ) (n : ℕ) → ByVariable f n by → m ≡ meeting f vars n
 unfolding meeting
 gathering-done by vars left m e inv f n is =
-    has-ext m (meeting f vars n) (λ j. sym (none j) ∙ inv f n is j ∙ sym (has-collect (λ (j : ℕ). meets (f j) vars) n j))
+    has-ext m (meeting f vars n) (λ j. sym (none j) ∙ inv .union f n is j ∙ sym (has-collect (λ (j : ℕ). meets (f j) vars) n j))
   where
     none : (j : ℕ) → (has m j || (ltb j n && meets (f j) left)) ≡ has m j
     none j =
         let apart : meets (f j) left ≡ false = ap (λ (x : ℕ). not (eqb x 0)) (ap (bitAnd (f j)) e ∙ and-zero-r (f j)) in
         simp (apart, and-false, or-false)
+
+pub meeting-or : (f g : ℕ → ℕ) (vars n : ℕ) → bitOr (meeting f vars n) (meeting g vars n) ≡ meeting (λ (j : ℕ). bitOr (f j) (g j)) vars n
+unfolding meeting
+meeting-or f g vars n = has-ext (bitOr (meeting f vars n) (meeting g vars n)) (meeting (λ (j : ℕ). bitOr (f j) (g j)) vars n) each
+  where
+    each : (j : ℕ) → has (bitOr (meeting f vars n) (meeting g vars n)) j ≡ has (meeting (λ (j : ℕ). bitOr (f j) (g j)) vars n) j
+    each j =
+        has-or (meeting f vars n) (meeting g vars n) j
+        ∙ ap₂ (λ (x y : Bool). x || y) (has-collect (λ (j : ℕ). meets (f j) vars) n j) (has-collect (λ (j : ℕ). meets (g j) vars) n j)
+        ∙ and-either (ltb j n) (meets (f j) vars) (meets (g j) vars)
+        ∙ ap (λ (t : Bool). ltb j n && t) (sym (or-meets (f j) (g j) vars))
+        ∙ sym (has-collect (λ (j : ℕ). meets (bitOr (f j) (g j)) vars) n j)
+
+pub gathering-both :
+    (by by′ : List ℕ) (vars left a b r : ℕ)
+    → left ≡ 0
+    → Gathering by vars left a
+    → Gathering by′ vars left b
+    → r ≡ bitOr a b
+    → (f g : ℕ → ℕ) (n : ℕ)
+    → ByVariable f n by
+    → ByVariable g n by′
+    → r ≡ bitOr (meeting f vars n) (meeting g vars n)
+gathering-both by by′ vars left a b r e p q is f g n x y =
+    is ∙ ap₂ bitOr (gathering-done by vars left a e p f n x) (gathering-done by′ vars left b e q g n y)
 
 -- the lowest variable that is left
 module _ (left : ℕ) (some : left ≡ 0 → ⊥) (narrow : left < 2 ^ 32) where
@@ -57,6 +90,13 @@ module _ (left : ℕ) (some : left ≡ 0 → ⊥) (narrow : left < 2 ^ 32) where
   less-has : (v : ℕ) → has (bitAnd left (left - 1)) v ≡ (has left v && not (eqb v lowest))
   less-has v = has-less-lowest 32 left v (omega arith) narrow
 
+  -- it fits, and its entry's offset in an array of 8-byte numbers
+  pub lowest-wide : Fits w64 lowest
+  lowest-wide = omega (arith, lowest-below)
+
+  pub lowest-offset : Fits w64 (lowest * 8)
+  lowest-offset = omega (arith, lowest-below)
+
   pub less-left : bitAnd left (left - 1) < left
   less-left = omega (arith, and-le-r left (left - 1))
 
@@ -64,19 +104,31 @@ module _ (left : ℕ) (some : left ≡ 0 → ⊥) (narrow : left < 2 ^ 32) where
   less-narrow = omega (arith, less-left)
 
   pub gathering-step : (by : List ℕ) (vars m : ℕ) → Gathering by vars left m → Gathering by vars (bitAnd left (left - 1)) (bitOr m (getD by lowest 0))
-  gathering-step by vars m inv f n is j =
-      ap (λ (t : Bool). t || (ltb j n && meets (f j) (bitAnd left (left - 1)))) (has-or m (getD by lowest 0) j ∙ ap (λ (t : Bool). has m j || t) here)
-      ∙ table (has m j) (ltb j n) (has (f j) lowest) (meets (f j) (bitAnd left (left - 1)))
-      ∙ ap (λ (t : Bool). has m j || (ltb j n && t)) (sym (meets-less (f j) left (bitAnd left (left - 1)) lowest in-left less-has))
-      ∙ inv f n is j
+  gathering-step by vars m inv = record { union = each }
     where
-      here : has (getD by lowest 0) j ≡ (ltb j n && has (f j) lowest)
-      here = ap (λ (x : ℕ). has x j) (is .entry lowest lowest-below) ∙ has-collect (λ (j : ℕ). has (f j) lowest) n j
+      here : (f : ℕ → ℕ) (n : ℕ) → ByVariable f n by → (j : ℕ) → has (getD by lowest 0) j ≡ (ltb j n && has (f j) lowest)
+      here f n is j = ap (λ (x : ℕ). has x j) (is .entry lowest lowest-below) ∙ has-collect (λ (j : ℕ). has (f j) lowest) n j
 
       table : (a t x y : Bool) → ((a || (t && x)) || (t && y)) ≡ (a || (t && (x || y)))
       table true t x y = refl
       table false true x y = refl
       table false false x y = refl
+
+      each : (f : ℕ → ℕ) (n : ℕ) → ByVariable f n by → (j : ℕ) → (has (bitOr m (getD by lowest 0)) j || (ltb j n && meets (f j) (bitAnd left (left - 1)))) ≡ (ltb j n && meets (f j) vars)
+      each f n is j =
+          ap (λ (t : Bool). t || (ltb j n && meets (f j) (bitAnd left (left - 1)))) (has-or m (getD by lowest 0) j ∙ ap (λ (t : Bool). has m j || t) (here f n is j))
+          ∙ table (has m j) (ltb j n) (has (f j) lowest) (meets (f j) (bitAnd left (left - 1)))
+          ∙ ap (λ (t : Bool). has m j || (ltb j n && t)) (sym (meets-less (f j) left (bitAnd left (left - 1)) lowest in-left less-has))
+          ∙ inv .union f n is j
+
+  -- where the entries are joined as they are gathered, those at the variables that are left are as they were
+  pub gathering-joined : (by₀ by : List ℕ) (vars m : ℕ) → Untouched left by₀ by → Gathering by₀ vars left m → Gathering by₀ vars (bitAnd left (left - 1)) (bitOr m (getD by lowest 0))
+  gathering-joined by₀ by vars m same inv = rw (same lowest in-left) (gathering-step by₀ vars m inv)
+
+  pub untouched-step : (by₀ by : List ℕ) (x : ℕ) → Untouched left by₀ by → Untouched (bitAnd left (left - 1)) by₀ (set by lowest x)
+  untouched-step by₀ by x same v h =
+      let there : (has left v ≡ true) × (not (eqb v lowest) ≡ true) = both (has left v) (not (eqb v lowest)) (sym (less-has v) ∙ h) in
+      getD-set-other by lowest v x 0 (eqb-false v lowest (not-true (eqb v lowest) (there .1))) ∙ same v (there .0)
 
   pub joining-step :
       (by₀ by : List ℕ) (vars own : ℕ)
@@ -101,6 +153,8 @@ module _ (left : ℕ) (some : left ≡ 0 → ⊥) (narrow : left < 2 ^ 32) where
           let same : has (bitAnd left (left - 1)) v ≡ has left v = less-has v ∙ ap (λ (t : Bool). has left v && not t) e ∙ and-true (has left v) in
           let stays : getD by′ v 0 ≡ getD by v 0 = getD-set-other by lowest v (bitOr (getD by lowest 0) own) 0 (eqb-false v lowest e) in
           rw (same, stays)
+
+pub ruleset at-lowest = (needs, lowest-below, lowest-wide, lowest-offset)
 
 pub joining-done :
     (by₀ by : List ℕ) (vars own left : ℕ)

@@ -4,6 +4,7 @@ pub mod Closure
 pub mod Laws
 pub mod InTurn
 pub mod Filled
+pub mod Meeting
 pub mod ByVariable
 pub mod RowByVariable
 pub mod SliceRows

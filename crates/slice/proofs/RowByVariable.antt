@@ -1,11 +1,11 @@
 -- A row of the table from the occurrences by variable: the earlier writers of what the occurrence reads, and the earlier users of what it
 -- writes.
 use mathlib.Core.Path.{_≡_, refl, sym, ap, ap₂, _∙_}
-use mathlib.Core.Bool.{Bool, true, false, not, _&&_, _||_}
+use mathlib.Core.Bool.{Bool, true, false, _&&_, _||_}
 use mathlib.Core.List.{List}
 use Prim.Native.Nat.{ℕ}
-use lib.Dec.{eqb, ltb}
-use lib.Bits.{bitOr, and-comm}
+use lib.Dec.{ltb}
+use lib.Bits.{bitOr}
 use lib.ListN.{getD}
 use Rattle.mask.specs.Mask.{has, meets}
 use Rattle.mask.proofs.Laws.{has-or, has-ext, has-collect, meets-or}
@@ -14,16 +14,17 @@ use Rattle.route.specs.declared.Step.{Step}
 use Rattle.slice.specs.Precedence.{clash, comesAfter, row}
 use Rattle.slice.specs.ByVariable.{meeting}
 use Rattle.slice.proofs.Laws.{row-exact}
+use Rattle.slice.proofs.Meeting.{meets-comm, or-meets, and-either}
 
--- what each occurrence writes, and what it reads or writes
+-- what each occurrence reads, what it writes, and both
+abbrev pub readBy : List Step → ℕ → ℕ
+readBy l j = getD l j blank .reads
+
 abbrev pub writtenBy : List Step → ℕ → ℕ
 writtenBy l j = getD l j blank .writes
 
 abbrev pub usedBy : List Step → ℕ → ℕ
 usedBy l j = bitOr (getD l j blank .reads) (getD l j blank .writes)
-
-meets-comm : (a b : ℕ) → meets a b ≡ meets b a
-meets-comm a b = ap (λ (x : ℕ). not (eqb x 0)) (and-comm a b)
 
 -- one clashes with the other: a write meets a read, or a use meets a write
 clash-by : (a b : Step) → clash a b ≡ (meets (b .writes) (a .reads) || meets (bitOr (b .reads) (b .writes)) (a .writes))
@@ -35,10 +36,7 @@ clash-by a b =
     ∙ ap (λ (t : Bool). meets (b .writes) (a .reads) || t) (sym used)
   where
     used : meets (bitOr (b .reads) (b .writes)) (a .writes) ≡ (meets (b .reads) (a .writes) || meets (b .writes) (a .writes))
-    used =
-        meets-comm (bitOr (b .reads) (b .writes)) (a .writes)
-        ∙ meets-or (a .writes) (b .reads) (b .writes)
-        ∙ ap₂ (λ (x y : Bool). x || y) (meets-comm (a .writes) (b .reads)) (meets-comm (a .writes) (b .writes))
+    used = or-meets (b .reads) (b .writes) (a .writes)
 
     table : (x y z : Bool) → ((x || y) || (z || y)) ≡ (z || (x || y))
     table true y true = refl
@@ -61,14 +59,10 @@ row-by l i s a b is p q = has-ext (bitOr a b) (row l i) each
     second : (j : ℕ) → has b j ≡ (ltb j i && meets (usedBy l j) (s .writes))
     second j = ap (λ (x : ℕ). has x j) q ∙ has-collect (λ (j : ℕ). meets (usedBy l j) (s .writes)) i j
 
-    table : (t x y : Bool) → ((t && x) || (t && y)) ≡ (t && (x || y))
-    table true x y = refl
-    table false x y = refl
-
     each : (j : ℕ) → has (bitOr a b) j ≡ has (row l i) j
     each j =
         has-or a b j
         ∙ ap₂ (λ (x y : Bool). x || y) (first j) (second j)
-        ∙ table (ltb j i) (meets (writtenBy l j) (s .reads)) (meets (usedBy l j) (s .writes))
+        ∙ and-either (ltb j i) (meets (writtenBy l j) (s .reads)) (meets (usedBy l j) (s .writes))
         ∙ ap (λ (t : Bool). ltb j i && t) (sym (clash-by s (getD l j blank)) ∙ ap (λ (x : Step). clash x (getD l j blank)) is)
         ∙ sym (row-exact l i j)

@@ -1,9 +1,7 @@
 -- `slice::tabling::gathered`: what is gathered, and the entries at the variables that are left.
 use Prim.Native.Nat.{_<_, _^_}
-use native.Mathlib.Omega.{arith}
 use borrow.Author.Needs.{needs}
-use lib.Count.{trailingZeros}
-use Rattle.slice.proofs.ByVariable.{Gathering, gathering-init, gathering-step, gathering-done, lowest-below, less-left, less-narrow}
+use Rattle.slice.proofs.ByVariable.{Gathering, gathering-init, gathering-step, gathering-done, at-lowest, less-left, less-narrow}
 use Rattle.slice.proofs.tabling.gathered.Statement.{statement}
 use Rattle.slice.proofs.tabling.gathered.Tie as tie
 
@@ -13,23 +11,20 @@ Inv-loop by vars left₀ m₀ left m = (left < 2 ^ 32) × Gathering by vars left
 abbrev μ-loop : tie.MeasureT-loop
 μ-loop by vars left₀ m₀ left m = left
 
-inside : (c : tie.In-loop Inv-loop μ-loop) → trailingZeros 32 (c .before .loop .left) < 32
-inside c = search (needs, lowest-below)
-
 loop-holds : tie.Need-loop-holds Inv-loop μ-loop
 loop-holds c = (search needs, gathering-init _ _)
 
 cast-v : tie.Need-cast-v Inv-loop μ-loop
-cast-v c = omega (arith, inside c)
+cast-v c = search at-lowest
 
 sub-left : tie.Need-sub-left Inv-loop μ-loop
 sub-left c = search needs
 
 mul-m : tie.Need-mul-m Inv-loop μ-loop
-mul-m c = omega (arith, inside c)
+mul-m c = search at-lowest
 
 element-copy-out-m : tie.Need-element-copy-out-m Inv-loop μ-loop
-element-copy-out-m c = search (needs, lowest-below)
+element-copy-out-m c = search at-lowest
 
 loop-less : tie.Need-loop-less Inv-loop μ-loop
 loop-less c = search (needs, less-left)

@@ -1,11 +1,9 @@
 -- `slice::tabling::joined`: the entries at the variables that are left lack the occurrence, and the others are done.
 use mathlib.Core.Path.{_≡_, refl}
 use Prim.Native.Nat.{_<_, _^_}
-use native.Mathlib.Omega.{arith}
 use borrow.Author.Needs.{needs}
-use lib.Count.{trailingZeros}
 use lib.ListN.{length}
-use Rattle.slice.proofs.ByVariable.{Joining, joining-step, joining-done, lowest-below, less-left, less-narrow}
+use Rattle.slice.proofs.ByVariable.{Joining, joining-step, joining-done, at-lowest, less-left, less-narrow}
 use Rattle.slice.proofs.tabling.joined.Statement.{statement}
 use Rattle.slice.proofs.tabling.joined.Tie as tie
 
@@ -15,26 +13,23 @@ Inv-loop by₀ vars own left₀ by left = (left < 2 ^ 32) × ((length by ≡ len
 abbrev μ-loop : tie.MeasureT-loop
 μ-loop by₀ vars own left₀ by left = left
 
-inside : (c : tie.In-loop Inv-loop μ-loop) → trailingZeros 32 (c .before .loop .left) < 32
-inside c = search (needs, lowest-below)
-
 loop-holds : tie.Need-loop-holds Inv-loop μ-loop
 loop-holds c = (search needs, (refl, λ r v b. refl))
 
 cast-v : tie.Need-cast-v Inv-loop μ-loop
-cast-v c = omega (arith, inside c)
+cast-v c = search at-lowest
 
 sub-left : tie.Need-sub-left Inv-loop μ-loop
 sub-left c = search needs
 
 mul-by : tie.Need-mul-by Inv-loop μ-loop
-mul-by c = omega (arith, inside c)
+mul-by c = search at-lowest
 
 element-copy-out-by : tie.Need-element-copy-out-by Inv-loop μ-loop
-element-copy-out-by c = search (needs, lowest-below)
+element-copy-out-by c = search at-lowest
 
 element-write-by : tie.Need-element-write-by Inv-loop μ-loop
-element-write-by c = search (needs, lowest-below)
+element-write-by c = search at-lowest
 
 loop-less : tie.Need-loop-less Inv-loop μ-loop
 loop-less c = search (needs, less-left)

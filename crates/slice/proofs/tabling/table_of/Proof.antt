@@ -1,5 +1,5 @@
--- `slice::tabling::table_of`: the rows so far are filled, and the writers and users of each variable are those of the occurrences so far.
-use mathlib.Core.Path.{_≡_, refl, ap}
+-- `slice::tabling::table_of`: the rows so far are filled, and the readers and writers of each variable are those of the occurrences so far.
+use mathlib.Core.Path.{_≡_, refl, ap, _∙_}
 use mathlib.Core.List.{List}
 use Prim.Native.Nat.{ℕ, _+_, _-_, _≤_, _<_}
 use native.Mathlib.Omega.{arith}
@@ -13,15 +13,18 @@ use Rattle.route.specs.declared.Step.{Step}
 use Rattle.slice.specs.Precedence.{row}
 use Rattle.slice.specs.Table.{table}
 use Rattle.slice.specs.ByVariable.{ByVariable, meeting}
-use Rattle.slice.proofs.ByVariable.{by-none}
+use Rattle.slice.proofs.ByVariable.{by-none, meeting-or}
 use Rattle.slice.proofs.Filled.{Filled, filled-none, filled-more, filled-all}
 use Rattle.slice.proofs.Laws.{row-past}
-use Rattle.slice.proofs.RowByVariable.{writtenBy, usedBy, row-by}
+use Rattle.slice.proofs.RowByVariable.{readBy, writtenBy, row-by}
 use Rattle.slice.proofs.tabling.table_of.Statement.{statement}
 use Rattle.slice.proofs.tabling.table_of.Tie as tie
 
 abbrev Gathers : List ℕ → ℕ → ℕ → Type 0
 Gathers by vars m = (f : ℕ → ℕ) (n : ℕ) → ByVariable f n by → m ≡ meeting f vars n
+
+abbrev GathersBoth : List ℕ → List ℕ → ℕ → ℕ → Type 0
+GathersBoth by by′ vars m = (f g : ℕ → ℕ) (n : ℕ) → ByVariable f n by → ByVariable g n by′ → m ≡ bitOr (meeting f vars n) (meeting g vars n)
 
 abbrev Joins : List ℕ → ℕ → ℕ → List ℕ → Type 0
 Joins by vars own by′ = (f : ℕ → ℕ) (n : ℕ) → ByVariable f n by → vars ≡ f n → own ≡ bit n → ByVariable f (n + 1) by′
@@ -29,38 +32,38 @@ Joins by vars own by′ = (f : ℕ → ℕ) (n : ℕ) → ByVariable f n by → 
 -- an occurrence's row and entries
 module _ (l : List Step) (i : ℕ) (s : Step) (is : s ≡ getD l i blank) where
   row-more :
-      (n : ℕ) (rows writers users : List ℕ) (a b : ℕ)
+      (n : ℕ) (rows readers writers : List ℕ) (a b : ℕ)
       → length l ≤ 64
       → n ≡ length l
       → i < n
       → Filled (row l) i rows
       → length rows ≡ 64
+      → ByVariable (readBy l) i readers
       → ByVariable (writtenBy l) i writers
-      → ByVariable (usedBy l) i users
       → Gathers writers (s .reads) a
-      → Gathers users (s .writes) b
+      → GathersBoth readers writers (s .writes) b
       → Filled (row l) (i + 1) (set rows i (bitOr a b))
-  row-more n rows writers users a b short count h filled room w u p q =
+  row-more n rows readers writers a b short count h filled room r w p q =
       filled-more (row l) i (bitOr a b) rows filled (omega arith)
-      (row-by l i s a b is (p (writtenBy l) i w) (q (usedBy l) i u))
+      (row-by l i s a b is (p (writtenBy l) i w) (q (readBy l) (writtenBy l) i r w ∙ meeting-or (readBy l) (writtenBy l) (s .writes) i))
 
   writers-more : (by by′ : List ℕ) (own : ℕ) → own ≡ bit i → ByVariable (writtenBy l) i by → Joins by (s .writes) own by′ → ByVariable (writtenBy l) (i + 1) by′
   writers-more by by′ own e h j = j (writtenBy l) i h (ap (λ (x : Step). x .writes) is) e
 
-  users-more : (by by′ : List ℕ) (own : ℕ) → own ≡ bit i → ByVariable (usedBy l) i by → Joins by (bitOr (s .reads) (s .writes)) own by′ → ByVariable (usedBy l) (i + 1) by′
-  users-more by by′ own e h j = j (usedBy l) i h (ap (λ (x : Step). bitOr (x .reads) (x .writes)) is) e
+  readers-more : (by by′ : List ℕ) (own : ℕ) → own ≡ bit i → ByVariable (readBy l) i by → Joins by (s .reads) own by′ → ByVariable (readBy l) (i + 1) by′
+  readers-more by by′ own e h j = j (readBy l) i h (ap (λ (x : Step). x .reads) is) e
 
 all-rows : (l : List Step) (n i : ℕ) (rows : List ℕ) → n ≡ length l → n ≤ i → length rows ≡ 64 → Filled (row l) i rows → rows ≡ table l
 unfolding table
 all-rows l n i rows count past room filled = filled-all (row l) i 64 rows room filled (λ k h. row-past l k (omega arith))
 
 abbrev Inv-loop : tie.InvT-loop
-Inv-loop occurrences rows₀ writers₀ users₀ n i₀ rows writers users i =
+Inv-loop occurrences rows₀ writers₀ readers₀ n i₀ rows writers readers i =
     (i ≤ n) × ((length rows ≡ 64) × (Filled (row (stepsIn occurrences)) i rows
-    × (ByVariable (writtenBy (stepsIn occurrences)) i writers × ByVariable (usedBy (stepsIn occurrences)) i users)))
+    × (ByVariable (writtenBy (stepsIn occurrences)) i writers × ByVariable (readBy (stepsIn occurrences)) i readers)))
 
 abbrev μ-loop : tie.MeasureT-loop
-μ-loop occurrences rows₀ writers₀ users₀ n i₀ rows writers users i = n - i
+μ-loop occurrences rows₀ writers₀ readers₀ n i₀ rows writers readers i = n - i
 
 count-requires : tie.Need-count-requires Inv-loop μ-loop
 count-requires c κs = search needs
@@ -74,8 +77,8 @@ step-at-requires c κs = search needs
 gathered-requires : tie.Need-gathered-requires Inv-loop μ-loop
 gathered-requires c κs = search needs
 
-gathered-requires-2 : tie.Need-gathered-requires-2 Inv-loop μ-loop
-gathered-requires-2 c κs = search needs
+written-requires : tie.Need-written-requires Inv-loop μ-loop
+written-requires c κs = search needs
 
 mul-rows : tie.Need-mul-rows Inv-loop μ-loop
 mul-rows c = search needs
@@ -89,9 +92,6 @@ bit64-requires c κs = search needs
 joined-requires : tie.Need-joined-requires Inv-loop μ-loop
 joined-requires c κs = search needs
 
-joined-requires-2 : tie.Need-joined-requires-2 Inv-loop μ-loop
-joined-requires-2 c κs = search needs
-
 add-i : tie.Need-add-i Inv-loop μ-loop
 add-i c = search needs
 
@@ -99,10 +99,10 @@ loop-less : tie.Need-loop-less Inv-loop μ-loop
 loop-less c = search needs
 
 loop-again : tie.Need-loop-again Inv-loop μ-loop
-loop-again c = (search needs, (search needs, (search (needs, row-more), (search (needs, writers-more), search (needs, users-more)))))
+loop-again c = (search needs, (search needs, (search (needs, row-more), (search (needs, writers-more), search (needs, readers-more)))))
 
 returns : tie.Need-returns Inv-loop μ-loop
 returns c = search (needs, all-rows)
 
 pub table-of-spec : {M : Type 1} → statement M
-table-of-spec = tie.close (tie.spec Inv-loop μ-loop count-requires loop-holds step-at-requires gathered-requires gathered-requires-2 mul-rows array-write-rows bit64-requires joined-requires joined-requires-2 add-i loop-less loop-again returns)
+table-of-spec = tie.close (tie.spec Inv-loop μ-loop count-requires loop-holds step-at-requires bit64-requires gathered-requires written-requires mul-rows array-write-rows joined-requires add-i loop-less loop-again returns)
