@@ -1,5 +1,5 @@
 -- A done list that runs to its end on a route has each of its names there, and the steps done have these names.
-use mathlib.Core.Path.{_≡_, refl, sym, ap, ap₂, _∙_}
+use mathlib.Core.Path.{_≡_, refl, ap, ap₂, _∙_}
 use mathlib.Core.List.{List, [], _∷_}
 use mathlib.Core.Option.{Option, some, Option·getD}
 use Prim.Native.Nat.{ℕ, zero, suc, _+_, _<_}

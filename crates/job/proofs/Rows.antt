@@ -10,15 +10,17 @@ use native.Mathlib.Numerals.{add-one}
 use lib.Dec.{eqb, ltb, leb}
 use lib.ListN.{length, drop, getD, drop-of-length-le, length-append}
 use lib.Seq.{drop-cons}
+use borrow.Author.Needs.{needs}
 use borrow.Author.Tests.{le-ltb, lt-ltb, ltb-true, leb-true, not-true, not-false, eqb-false, eq-eqb, ne-eqb}
 use Rattle.mask.proofs.Truth.{both}
 use Rattle.refusal.specs.Rows.{pass, refuse, unless, first}
+use Rattle.route.specs.Flat.{stepsIn}
 use Rattle.route.specs.declared.Step.{Step}
 use Rattle.refusal.specs.declared.Outcome.{Outcome}
 use Rattle.refusal.proofs.Rows.{head-refuses, head-passes, head-passed, row-refuses, row-passes, row-passed, rows-end, rows-pass, rows-refuse, rows-passed}
 use Rattle.job.specs.Lines.{stepRow, stepRows, routeRows, doneRow, doneRows, lineRows, nameFits, placesFit, LinesPass}
 use Rattle.job.specs.Run.{AllNamed}
-use Rattle.job.specs.Job.{Job, afterSteps, newLine, jobLine}
+use Rattle.job.specs.Job.{Job, flatJob, afterSteps, newLine, jobLine}
 
 -- ---- the done lines
 
@@ -227,3 +229,28 @@ lines-fit j e =
 -- the same by the lines' number
 pub pass-fits : (j : Job) → LinesPass j → LinesFit j
 pass-fits j e = lines-fit j (eq-eqb (first (lineRows j) .number) 0 e)
+
+module _ (places : ℕ) (old : List ℕ) (places′ : ℕ) (new done : List ℕ) (e : LinesPass (flatJob places old places′ new done)) where
+  abbrev fits : LinesFit (flatJob places old places′ new done)
+  fits = pass-fits (flatJob places old places′ new done) e
+
+  pub old-places-fit : places ≤ 64
+  old-places-fit = fits .old-fits .places-fit
+
+  pub new-places-fit : places′ ≤ 64
+  new-places-fit = fits .new-fits .places-fit
+
+  pub old-steps-fit : length (stepsIn old) ≤ 64
+  old-steps-fit = fits .old-fits .steps-fit
+
+  pub new-steps-fit : length (stepsIn new) ≤ 64
+  new-steps-fit = fits .new-fits .steps-fit
+
+  pub done-names-fit : length done ≤ 64
+  done-names-fit = fits .done-fit
+
+  pub done-line-fits : (line : ℕ) → line ≡ afterSteps (afterSteps 1 (stepsIn old)) (stepsIn new) + 1 → line ≤ 1000
+  done-line-fits line is = omega (arith, old-steps-fit, new-steps-fit)
+
+-- what the lines of lists of numbers have where they pass
+pub ruleset lists-fit = (needs, old-places-fit, new-places-fit, old-steps-fit, new-steps-fit, done-names-fit)

@@ -6,12 +6,13 @@ use mathlib.Core.Option.{Option·getD}
 use Prim.Native.Nat.{ℕ, _+_, _≤_, _<_}
 use lib.Dec.{eqb}
 use lib.ListN.{length, getD}
-use Rattle.refusal.specs.Rows.{refuse}
+use Rattle.refusal.specs.Rows.{refuse, first}
 use Rattle.route.specs.Steps.{blank, lookup}
 use Rattle.route.specs.Flat.{Holds}
-use Rattle.route.specs.Firing.{ifFires}
+use Rattle.route.specs.Firing.{start, ifFires}
+use Rattle.route.specs.Net.{netRow}
 use Rattle.route.specs.declared.Step.{Step}
-use Rattle.job.specs.Job.{Job, jobLine, oldStart, newStart}
+use Rattle.job.specs.Job.{Job, afterSteps, jobLine, oldStart, newStart}
 use Rattle.job.specs.Lines.{checked}
 use Rattle.job.specs.declared.Ran.{Ran}
 use Rattle.job.specs.declared.Begun.{Begun}
@@ -39,6 +40,15 @@ ran j =
     cond (eqb (checked j .number) 0)
     (runFrom (j .old) (oldStart j) (jobLine j + 1) (j .done))
     (stopped (checked j .number) (checked j .second))
+
+-- rows 6 and 7 of the old route, then of the new, and both starts
+unfoldable pub openedBoth : ℕ → List Step → ℕ → List Step → Begun
+openedBoth oldPlaces old newPlaces new =
+    record {
+      outcome = first (netRow 1 oldPlaces old ∷ netRow (afterSteps 1 old) newPlaces new ∷ []);
+      marking = record { tokens = start oldPlaces old };
+      start = record { tokens = start newPlaces new };
+    }
 
 -- a refusal by rows 6 to 9
 abbrev pub begunStopped : ℕ → ℕ → Begun

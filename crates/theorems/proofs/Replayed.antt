@@ -1,6 +1,6 @@
 -- A replay that comes to the end of its list leaves what performing the list leaves: each step that fires performs its occurrence, with
 -- what the occurrence reads and writes.
-use mathlib.Core.Path.{_≡_, refl, sym, ap, ap₂, _∙_}
+use mathlib.Core.Path.{_≡_, refl, ap, ap₂, _∙_}
 use mathlib.Core.Bool.{true, cond, false≢true}
 use mathlib.Core.List.{List, [], _∷_}
 use mathlib.Core.Option.{some}
