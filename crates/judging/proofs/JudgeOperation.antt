@@ -18,7 +18,7 @@ use Rattle.job.proofs.Performed.{length-performed}
 use Rattle.matching.specs.Straight.{runsStraight}
 use Rattle.matching.specs.Fit.{keptOf}
 use Rattle.matching.specs.KeptRows.{keptRows, rowsTo12}
-use Rattle.matching.specs.Matched.{matched, straightEnd, Ready, PreparedOf}
+use Rattle.matching.specs.inner.Matched.{matched, straightEnd, Ready, PreparedOf}
 use Rattle.matching.specs.declared.Prepared.{Prepared}
 use Rattle.matching.proofs.Choice.{cond-yes, cond-no}
 use Rattle.matching.proofs.Matched.{length-matched}
@@ -26,7 +26,7 @@ use Rattle.matching.proofs.Preparation.{prepared-ran, prepared-ready, prepared-
 use Rattle.search.specs.Candidates.{cleared}
 use Rattle.search.proofs.Clear.{cleared-is}
 use Rattle.judging.specs.Judge.{judgeStopped, judgeRows, judged, searched, workAfter}
-use Rattle.judging.specs.Passing.{Passing}
+use Rattle.judging.specs.inner.Passing.{Passing}
 
 rows-refused :
     (line from : ℕ) (new l : List Step)

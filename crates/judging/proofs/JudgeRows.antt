@@ -20,15 +20,15 @@ use Rattle.slice.proofs.Laws.{kept-below}
 use Rattle.matching.specs.Straight.{fireAll, stepsOn, runsStraight}
 use Rattle.matching.specs.Fit.{keptOf}
 use Rattle.matching.specs.KeptRows.{keptRows}
-use Rattle.matching.specs.Matched.{straightEnd}
+use Rattle.matching.specs.inner.Matched.{straightEnd}
 use Rattle.matching.specs.declared.End.{End}
 use Rattle.matching.specs.declared.End.the-variants.{At, Stuck}
 use Rattle.matching.specs.declared.Prepared.{Prepared}
 use Rattle.matching.proofs.Matched.{length-matched}
 use Rattle.matching.proofs.KeptRows.{limit-holds, members-same}
 use Rattle.judging.specs.Judge.{padded, afterOf, writerOf, judgeStopped, answer, firstFit, judgeFound, judgeRows}
-use Rattle.judging.specs.Columns.{placedOn}
-use Rattle.judging.specs.Passing.{Passing}
+use Rattle.judging.specs.inner.Columns.{placedOn}
+use Rattle.judging.specs.inner.Passing.{Passing}
 use Rattle.judging.specs.declared.Placed.{Placed}
 use Rattle.judging.proofs.CandidateColumns.{AllSame}
 

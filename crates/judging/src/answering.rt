@@ -15,7 +15,7 @@ ghost use Rattle.slice.specs.Slice.{variables};
 ghost use Rattle.slice.specs.Order.{inTurn};
 ghost use Rattle.slice.specs.Table.{table};
 ghost use Rattle.judging.specs.Judge.{padded, afterOf, writerOf, judgeStopped};
-ghost use Rattle.judging.specs.Answers.{Shows};
+ghost use Rattle.judging.specs.inner.Answers.{AnswersList};
 
 // The rows of the kept, with the kept alone.
 pub fn after_rows(rows: &[u64; 64], kept: u64) -> [u64; 64]
@@ -85,7 +85,7 @@ pub fn straight_order(len: usize) -> [u8; 64]
 pub fn answered(occurrences: &[u64], rows: &[u64; 64], vars: u32, kept: u64, list: Placed) -> Judged
     requires { ⌜ (length (stepsIn (now occurrences)) ≤ 64) × (list .len ≤ 64) ⌝ }
     requires { ⌜ count 64 kept ≤ length (stepsIn (now occurrences)) ⌝ }
-    ensures { λ r. ⌜ Shows (now (rows .entry)) vars kept list (stepsIn (now (occurrences .entry))) r ⌝ }
+    ensures { λ r. ⌜ AnswersList (now (rows .entry)) vars kept list (stepsIn (now (occurrences .entry))) r ⌝ }
 {
     let order = list.order;
     let marking = list.marking;

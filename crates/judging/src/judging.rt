@@ -28,13 +28,13 @@ ghost use Rattle.search.specs.Candidates.{cleared};
 ghost use Rattle.job.specs.Job.{jobOf, flatJob};
 ghost use Rattle.job.specs.Lines.{LinesPass};
 ghost use Rattle.judging.specs.Judge.{judged, workAfter};
-ghost use Rattle.judging.specs.Passing.{Passing};
-ghost use Rattle.judging.specs.Answers.{ShowsAll, ShowsFirst, ShowsRows, Works};
+ghost use Rattle.judging.specs.inner.Passing.{Passing};
+ghost use Rattle.judging.specs.inner.Answers.{AnswersStraight, AnswersFirst, AnswersRows, Works};
 
 // The straight list, after which all count as kept.
 fn judge_straight(occurrences: &[u64], rows: [u64; 64], vars: u32, marking: Marking) -> Judged
     requires { ⌜ length (stepsIn (now occurrences)) ≤ 64 ⌝ }
-    ensures { λ r. ⌜ ShowsAll rows vars (marking .tokens) (stepsIn (now (occurrences .entry))) r ⌝ }
+    ensures { λ r. ⌜ AnswersStraight rows vars (marking .tokens) (stepsIn (now (occurrences .entry))) r ⌝ }
 {
     let len = flat::count(occurrences);
     let kept = mask::below64(len as u64);
@@ -59,7 +59,7 @@ fn judge_kept(
     requires { ⌜ p .straight ≡ Stuck ⌝ }
     requires { ⌜ rows ≡ table (stepsIn (now occurrences)) ⌝ }
     requires { ⌜ 8192 ≤ length (now work) ⌝ }
-    ensures { λ r. ⌜ ShowsFirst p (stepsIn (now (occurrences .entry))) (stepsIn (now (matches .entry))) r ⌝ }
+    ensures { λ r. ⌜ AnswersFirst p (stepsIn (now (occurrences .entry))) (stepsIn (now (matches .entry))) r ⌝ }
     ensures { λ _. ⌜ now (work .exit) ≡ cleared 8192 (now (work .entry)) ⌝ }
 {
     let start = p.start;
@@ -78,7 +78,7 @@ fn judge_kept(
 pub fn judge_prepared(p: Prepared, occurrences: &[u64], matches: &[u64], work: &mut [u8]) -> Judged
     requires { ⌜ Passing p (stepsIn (now occurrences)) (stepsIn (now matches)) ⌝ }
     requires { ⌜ 8192 ≤ length (now work) ⌝ }
-    ensures { λ r. ⌜ ShowsRows p (stepsIn (now (occurrences .entry))) (stepsIn (now (matches .entry))) r ⌝ }
+    ensures { λ r. ⌜ AnswersRows p (stepsIn (now (occurrences .entry))) (stepsIn (now (matches .entry))) r ⌝ }
     ensures { λ _. ⌜ Works p (stepsIn (now (occurrences .entry))) (stepsIn (now (matches .entry))) (now (work .entry)) (now (work .exit)) ⌝ }
 {
     let rows = table_of(occurrences);

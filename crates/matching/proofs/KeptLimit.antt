@@ -14,8 +14,8 @@ use Rattle.refusal.proofs.Rows.{row-passes, row-refuses}
 use Rattle.matching.specs.Straight.{fireAll, runsStraight}
 use Rattle.matching.specs.Fit.{keptOf}
 use Rattle.matching.specs.KeptRows.{keptLines, keptRows}
-use Rattle.matching.specs.Matched.{straightEnd}
-use Rattle.matching.specs.Matches.{isAt}
+use Rattle.matching.specs.inner.Matched.{straightEnd}
+use Rattle.matching.specs.inner.Matches.{isAt}
 use Rattle.matching.specs.declared.End.{End}
 use Rattle.matching.specs.declared.End.the-variants.{At, Stuck}
 

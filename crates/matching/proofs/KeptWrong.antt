@@ -22,7 +22,7 @@ use Rattle.refusal.specs.declared.Outcome.{Outcome}
 use Rattle.search.specs.Search.{isSome}
 use Rattle.matching.specs.Straight.{sameStep}
 use Rattle.matching.specs.KeptRows.{keptRow, keptLines}
-use Rattle.matching.specs.Matches.{MatchesOf, present, sameMask}
+use Rattle.matching.specs.inner.Matches.{MatchesOf, present, sameMask}
 use Rattle.matching.proofs.Matched.{stepFor, length-matches, present-at}
 use Rattle.matching.proofs.StraightEnd.{same-at}
 use Rattle.matching.proofs.KeptRows.{row-missing, row-differs, lines-pass, lines-at}

@@ -1,7 +1,6 @@
 -- That the code gives what the specs say.
 pub mod AllOf
 pub mod Choice
-pub mod Each
 pub mod Either
 pub mod KeptLimit
 pub mod KeptRows

@@ -15,8 +15,8 @@ use Rattle.route.proofs.ByName.{lookup-name}
 use Rattle.route.proofs.StepList.{length-names, getD-names}
 use Rattle.job.proofs.Performed.{length-performed, performed-at}
 use Rattle.matching.specs.Straight.{sameData, sameStep}
-use Rattle.matching.specs.Matched.{matched}
-use Rattle.matching.specs.Matches.{MatchesOf, present}
+use Rattle.matching.specs.inner.Matched.{matched}
+use Rattle.matching.specs.inner.Matches.{MatchesOf, present}
 
 -- the new route's step for the occurrence at i, if there is one
 abbrev pub stepFor : List Step → List Step → ℕ → Option Step

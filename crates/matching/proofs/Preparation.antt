@@ -18,8 +18,8 @@ use Rattle.job.proofs.Rows.{lines-fit}
 use Rattle.job.proofs.RunLine.{ran-refused, checked-lines}
 use Rattle.job.proofs.Performed.{length-performed}
 use Rattle.matching.specs.KeptRows.{keptRows, rowsTo12}
-use Rattle.matching.specs.Matched.{matched, Ready, PreparedOf}
-use Rattle.matching.specs.Matches.{MatchesOf, Weighed}
+use Rattle.matching.specs.inner.Matched.{matched, Ready, PreparedOf}
+use Rattle.matching.specs.inner.Matches.{MatchesOf, Weighed}
 use Rattle.matching.specs.declared.Prepared.{Prepared}
 use Rattle.job.proofs.KnownNames.{performed-names}
 

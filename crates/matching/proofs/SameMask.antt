@@ -16,7 +16,7 @@ use Rattle.route.specs.Steps.{blank}
 use Rattle.route.specs.Flat.{stepsIn}
 use Rattle.route.specs.declared.Step.{Step}
 use Rattle.matching.specs.Straight.{sameData, sameStep}
-use Rattle.matching.specs.Matches.{MatchesOf, present, sameMask}
+use Rattle.matching.specs.inner.Matches.{MatchesOf, present, sameMask}
 use Rattle.matching.proofs.Matched.{present-at}
 
 -- ---- the test on an occurrence s and its match t

@@ -17,8 +17,8 @@ ghost use lib.ListN.{length};
 ghost use Rattle.route.specs.Flat.{stepsIn};
 ghost use Rattle.job.specs.Job.{flatJob};
 ghost use Rattle.job.specs.Lines.{LinesPass};
-ghost use Rattle.matching.specs.Matched.{PreparedOf};
-ghost use Rattle.matching.specs.Matches.{MatchesOf, Weighed};
+ghost use Rattle.matching.specs.inner.Matched.{PreparedOf};
+ghost use Rattle.matching.specs.inner.Matches.{MatchesOf, Weighed};
 
 // A job that a row to 9 refuses has nothing more.
 fn refused(outcome: Outcome, line: u64) -> Prepared

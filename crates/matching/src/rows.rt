@@ -15,8 +15,8 @@ ghost use Rattle.route.specs.declared.Step.{Step};
 ghost use Rattle.route.specs.Flat.{stepsIn};
 ghost use Rattle.matching.specs.Fit.{keptOf};
 ghost use Rattle.matching.specs.KeptRows.{keptLines, keptRows};
-ghost use Rattle.matching.specs.Matched.{straightEnd};
-ghost use Rattle.matching.specs.Matches.{MatchesOf, sameMask, isAt};
+ghost use Rattle.matching.specs.inner.Matched.{straightEnd};
+ghost use Rattle.matching.specs.inner.Matches.{MatchesOf, sameMask, isAt};
 
 // At most 16 are kept, or the job is straight.
 fn limited(straight: End, kept: u64) -> bool

@@ -8,7 +8,7 @@ ghost use lib.ListN.{length};
 ghost use Rattle.route.specs.declared.Step.{Step};
 ghost use Rattle.route.specs.Flat.{stepsIn};
 ghost use Rattle.matching.specs.Straight.{sameData};
-ghost use Rattle.matching.specs.Matches.{MatchesOf, present, sameMask};
+ghost use Rattle.matching.specs.inner.Matches.{MatchesOf, present, sameMask};
 
 // The match `t` is there, and reads and writes what `s` does.
 fn same_data(s: Step, t: Step) -> bool

@@ -22,12 +22,12 @@ use Rattle.slice.specs.Slice.{variables}
 use Rattle.slice.proofs.Laws.{kept-below}
 use Rattle.matching.specs.Fit.{keptOf}
 use Rattle.matching.specs.KeptRows.{keptRows, rowsTo12}
-use Rattle.matching.specs.Matched.{matched, Ready, PreparedOf}
+use Rattle.matching.specs.inner.Matched.{matched, Ready, PreparedOf}
 use Rattle.matching.specs.declared.Prepared.{Prepared}
 use Rattle.matching.proofs.Matched.{length-matched}
 use Rattle.matching.proofs.KeptRows.{kept-same}
 use Rattle.trying.specs.Try.{tryList, tried}
-use Rattle.trying.specs.Replayable.{TryReady}
+use Rattle.trying.specs.inner.Replayable.{TryReady}
 use Rattle.trying.specs.declared.Tried.{Tried}
 use Rattle.trying.proofs.TryRows.{tried-list}
 

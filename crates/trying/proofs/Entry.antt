@@ -24,12 +24,12 @@ use Rattle.slice.specs.Precedence.{comesAfter, row}
 use Rattle.slice.specs.Order.{noneOf}
 use Rattle.slice.specs.Table.{table}
 use Rattle.slice.proofs.Laws.{kept-below}
-use Rattle.slice.proofs.Filled.{turn-at}
+use Rattle.slice.proofs.InTurn.{getD-map-inTurn}
 use Rattle.matching.specs.Fit.{keptOf}
 use Rattle.matching.specs.Straight.{sameData, sameStep}
 use Rattle.matching.proofs.Matched.{stepFor, matched-at}
 use Rattle.trying.specs.Try.{tryStopped, isKept, listRow, tryFrom}
-use Rattle.trying.specs.Replayable.{Replayable}
+use Rattle.trying.specs.inner.Replayable.{Replayable}
 use Rattle.trying.specs.declared.Tried.{Tried}
 use Rattle.trying.proofs.Row16.{Passed, passed-at, kept-range}
 use Rattle.trying.proofs.Row17.{positions, order-test}
@@ -88,7 +88,7 @@ module _ (o : List ℕ) (kept : ℕ) (rows : List ℕ) (steps : List Step) (from
         module _ (new l : List Step) (ready : Replayable new l kept steps) (is : rows ≡ table l) where
           row-is : getD rows k 0 ≡ row l k
           unfolding table
-          row-is = ap (λ (x : List ℕ). getD x k 0) is ∙ turn-at (row l) 0 64 k entry-below ∙ ap (row l) (omega arith)
+          row-is = ap (λ (x : List ℕ). getD x k 0) is ∙ getD-map-inTurn (row l) 0 64 k entry-below ∙ ap (row l) (omega arith)
 
           test-is : noneOf (comesAfter l k) (positions (drop (suc i) o)) ≡ t
           test-is =

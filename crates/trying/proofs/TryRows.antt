@@ -25,12 +25,12 @@ use Rattle.slice.specs.Table.{table}
 use Rattle.matching.specs.Straight.{fireAll, runsStraight}
 use Rattle.matching.specs.Fit.{keptOf}
 use Rattle.matching.specs.KeptRows.{keptRows, rowsTo12}
-use Rattle.matching.specs.Matched.{straightEnd}
+use Rattle.matching.specs.inner.Matched.{straightEnd}
 use Rattle.matching.specs.declared.Prepared.{Prepared}
 use Rattle.matching.specs.declared.End.{End}
 use Rattle.matching.specs.declared.End.the-variants.{At, Stuck}
 use Rattle.trying.specs.Try.{tryStopped, sameList, listRow, tryFrom, tryList, tryRows, tried}
-use Rattle.trying.specs.Replayable.{Replayable, TryReady, byRows}
+use Rattle.trying.specs.inner.Replayable.{Replayable, TryReady, byRows}
 use Rattle.trying.specs.declared.Tried.{Tried}
 use Rattle.trying.proofs.Row17.{positions}
 use Rattle.trying.proofs.Entry.{Answers}

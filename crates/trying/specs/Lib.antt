@@ -1,3 +1,3 @@
 -- The operation try.
 pub mod Try
-pub mod Replayable
+pub mod inner

@@ -14,7 +14,7 @@ ghost use Rattle.route.specs.Flat.{stepsIn};
 ghost use Rattle.route.specs.declared.Step.{Step};
 ghost use Rattle.slice.specs.Table.{table};
 ghost use Rattle.trying.specs.Try.{isKept, listRow, tryFrom};
-ghost use Rattle.trying.specs.Replayable.{Replayable, byRows};
+ghost use Rattle.trying.specs.inner.Replayable.{Replayable, byRows};
 
 // Occurrence number b is kept, and is not seen yet.
 fn fresh(kept: u64, seen: u64, b: usize) -> bool

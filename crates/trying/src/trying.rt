@@ -21,7 +21,7 @@ ghost use Rattle.job.specs.Lines.{LinesPass};
 ghost use Rattle.slice.specs.Order.{inTurn};
 ghost use Rattle.matching.specs.declared.End.the-variants as ends;
 ghost use Rattle.trying.specs.Try.{sameList, tryList, tried};
-ghost use Rattle.trying.specs.Replayable.{TryReady};
+ghost use Rattle.trying.specs.inner.Replayable.{TryReady};
 
 // The order is 1, 2, .., len.
 fn in_turn(order: &[u8], len: usize) -> bool

@@ -12,8 +12,8 @@ use borrow.Author.Tests.{not-true, not-false}
 use Rattle.route.specs.Flat.{stepsIn}
 use Rattle.job.specs.Job.{Job, flatJob}
 use Rattle.job.specs.Run.{performed}
-use Rattle.matching.specs.Matched.{PreparedOf}
-use Rattle.judging.specs.Passing.{Passing}
+use Rattle.matching.specs.inner.Matched.{PreparedOf}
+use Rattle.judging.specs.inner.Passing.{Passing}
 use Rattle.judging.proofs.JudgeOperation.{judged-refused, work-refused, done-short, done-is, matched-is, passing, judged-passed, work-passed}
 use Rattle.judging.proofs.judging.judge_checked.Statement.{statement}
 use Rattle.judging.proofs.judging.judge_checked.Tie as tie

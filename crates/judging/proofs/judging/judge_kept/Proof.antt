@@ -5,9 +5,9 @@ use native.Mathlib.Omega.{arith}
 use borrow.Author.Needs.{needs}
 use Rattle.route.specs.Flat.{stepsIn}
 use Rattle.route.specs.declared.Step.{Step}
-use Rattle.matching.specs.Matched.{matched}
-use Rattle.judging.specs.Columns.{ColumnsOf, positions}
-use Rattle.judging.specs.Passing.{Passing}
+use Rattle.matching.specs.inner.Matched.{matched}
+use Rattle.judging.specs.inner.Columns.{ColumnsOf, positions}
+use Rattle.judging.specs.inner.Passing.{Passing}
 use Rattle.judging.specs.declared.Placed.{Placed}
 use Rattle.judging.proofs.CandidateColumns.{Room}
 use Rattle.judging.proofs.FirstFit.{Found, none-fit, order-fit}

@@ -5,7 +5,7 @@ use Prim.Native.Nat.{ℕ}
 use borrow.Author.Needs.{needs}
 use lib.Dec.{leb}
 use Rattle.mask.specs.Mask.{count}
-use Rattle.matching.specs.Matches.{isAt}
+use Rattle.matching.specs.inner.Matches.{isAt}
 use Rattle.matching.specs.declared.End.{End}
 use Rattle.matching.proofs.rows.limited.Statement.{statement}
 use Rattle.matching.proofs.rows.limited.Tie as tie

@@ -1,4 +1,4 @@
--- What the functions of judge promise each other of an answer r. The steps done are l, and t the new route's steps for them.
+-- An inner promise: what the functions of judge say to each other of an answer r. The steps done are l, and t the new route's steps for them.
 use mathlib.Core.Path.{_≡_}
 use mathlib.Core.Bool.{cond}
 use mathlib.Core.List.{List}
@@ -14,14 +14,14 @@ use Rattle.matching.specs.Straight.{fireAll, runsStraight}
 use Rattle.matching.specs.declared.Prepared.{Prepared}
 use Rattle.search.specs.Candidates.{cleared}
 use Rattle.judging.specs.Judge.{answer, firstFit, judgeFound, judgeRows}
-use Rattle.judging.specs.Columns.{placedOn}
-use Rattle.judging.specs.Passing.{Passing}
+use Rattle.judging.specs.inner.Columns.{placedOn}
+use Rattle.judging.specs.inner.Passing.{Passing}
 use Rattle.judging.specs.declared.Placed.{Placed}
 use Rattle.judging.specs.declared.Judged.{Judged}
 
 -- it shows the list, with the table's rows, the new route's variables and the kept
-abbrev pub Shows : List ℕ → ℕ → ℕ → Placed → List Step → Judged → Type 0
-Shows rows vars kept list l r =
+abbrev pub AnswersList : List ℕ → ℕ → ℕ → Placed → List Step → Judged → Type 0
+AnswersList rows vars kept list l r =
     (from : ℕ) (new : List Step) (o : List ℕ)
     → rows ≡ table l
     → vars ≡ variables new
@@ -29,8 +29,8 @@ Shows rows vars kept list l r =
     → r ≡ answer from new l kept o
 
 -- it shows all in turn, which end on the marking, and all of them kept
-abbrev pub ShowsAll : List ℕ → ℕ → ℕ → List Step → Judged → Type 0
-ShowsAll rows vars marking l r =
+abbrev pub AnswersStraight : List ℕ → ℕ → ℕ → List Step → Judged → Type 0
+AnswersStraight rows vars marking l r =
     (from : ℕ) (new : List Step)
     → rows ≡ table l
     → vars ≡ variables new
@@ -38,13 +38,13 @@ ShowsAll rows vars marking l r =
     → r ≡ answer from new l (below (length l)) (inTurn 0 (length l))
 
 -- it is that of the first fit list, or 13
-abbrev pub ShowsFirst : Prepared → List Step → List Step → Judged → Type 0
-ShowsFirst p l t r =
+abbrev pub AnswersFirst : Prepared → List Step → List Step → Judged → Type 0
+AnswersFirst p l t r =
     (k : Passing p l t) → r ≡ judgeFound (p .line) (p .start .tokens) (k .new) l (firstFit (p .start .tokens) (k .new) l)
 
 -- it is that of rows 10 to 13
-abbrev pub ShowsRows : Prepared → List Step → List Step → Judged → Type 0
-ShowsRows p l t r = (k : Passing p l t) → r ≡ judgeRows (p .line) (p .start .tokens) (k .new) l
+abbrev pub AnswersRows : Prepared → List Step → List Step → Judged → Type 0
+AnswersRows p l t r = (k : Passing p l t) → r ≡ judgeRows (p .line) (p .start .tokens) (k .new) l
 
 -- the work slice after it: unchanged where the job runs straight
 abbrev pub Works : Prepared → List Step → List Step → List ℕ → List ℕ → Type 0

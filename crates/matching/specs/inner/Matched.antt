@@ -1,4 +1,4 @@
--- What try and judge start from, over lists of numbers.
+-- An inner promise: what try and judge start from, over lists of numbers.
 use mathlib.Core.Path.{_≡_}
 use mathlib.Core.Bool.{cond}
 use mathlib.Core.List.{List}

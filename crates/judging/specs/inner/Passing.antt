@@ -1,4 +1,4 @@
--- A job that no row to 12 refuses, as judge goes on from there.
+-- An inner promise: a job that no row to 12 refuses, as judge goes on from there.
 use mathlib.Core.Path.{_≡_}
 use mathlib.Core.List.{List}
 use Prim.Native.Nat.{_≤_}
@@ -7,7 +7,7 @@ use Rattle.route.specs.declared.Step.{Step}
 use Rattle.slice.specs.Slice.{variables}
 use Rattle.matching.specs.Fit.{keptOf}
 use Rattle.matching.specs.KeptRows.{keptRows}
-use Rattle.matching.specs.Matched.{matched, straightEnd}
+use Rattle.matching.specs.inner.Matched.{matched, straightEnd}
 use Rattle.matching.specs.declared.Prepared.{Prepared}
 
 -- the steps done are l, and t the new route's steps for them

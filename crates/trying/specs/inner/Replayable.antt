@@ -1,4 +1,4 @@
--- Rows 16 to 18 of a job that no row to 12 refuses.
+-- An inner promise: rows 16 to 18 of a job that no row to 12 refuses.
 use mathlib.Core.Path.{_≡_}
 use mathlib.Core.Bool.{true, cond}
 use mathlib.Core.List.{List, map}
@@ -10,7 +10,7 @@ use Rattle.route.specs.Steps.{blank}
 use Rattle.route.specs.declared.Step.{Step}
 use Rattle.matching.specs.Straight.{sameStep}
 use Rattle.matching.specs.Fit.{keptOf}
-use Rattle.matching.specs.Matched.{matched, straightEnd}
+use Rattle.matching.specs.inner.Matched.{matched, straightEnd}
 use Rattle.matching.specs.declared.Prepared.{Prepared}
 use Rattle.trying.specs.Try.{tryStopped, listRow, tryFrom}
 use Rattle.trying.specs.declared.Tried.{Tried}

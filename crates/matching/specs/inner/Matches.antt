@@ -1,4 +1,4 @@
--- The occurrences l against the new route's steps for them, as numbers: what rows 10 to 12 and straight replay are found
+-- An inner promise: the occurrences l against the new route's steps for them, as numbers: what rows 10 to 12 and straight replay are found
 -- from.
 use mathlib.Core.Path.{_≡_}
 use mathlib.Core.Bool.{Bool, true, false, cond}
@@ -16,7 +16,7 @@ use Rattle.slice.specs.Slice.{variables}
 use Rattle.matching.specs.Straight.{sameStep}
 use Rattle.matching.specs.Fit.{keptOf}
 use Rattle.matching.specs.KeptRows.{keptRows}
-use Rattle.matching.specs.Matched.{matched, straightEnd}
+use Rattle.matching.specs.inner.Matched.{matched, straightEnd}
 use Rattle.matching.specs.declared.End.{End}
 use Rattle.matching.specs.declared.End.the-variants.{At, Stuck}
 use Rattle.matching.specs.declared.Prepared.{Prepared}
