@@ -20,6 +20,7 @@ use Rattle.route.specs.declared.Step.{Step}
 use Rattle.job.specs.Job.{Job, jobOf, flatJob, newLine}
 use Rattle.job.specs.Lines.{placesFit, stepRow, stepRows, routeRows, lineRows, checked}
 use Rattle.job.specs.Run.{ran}
+use Rattle.job.specs.declared.Ran.{Ran}
 
 -- the job with other lists of steps
 abbrev withSteps : Job → List Step → List Step → Job
@@ -208,12 +209,6 @@ module _ (j k : Job) (r : Refused j k) where
   unfolding ran
   ran-off = rw (checked-off) checked-off
 
-pub rows-short : (j : Job) → first (lineRows j) ≡ first (lineRows (short j))
-rows-short j = same-short j (λ (x : Job). first (lineRows x)) (λ a b r. r .alike)
-
-pub ran-short : (j : Job) → ran j ≡ ran (short j)
-ran-short j = same-short j ran ran-alike
-
 -- ---- routes by value, laid as numbers
 
 pub laid-short : (old new : Route) (done : List ℕ) (n : ℕ) (a : List ℕ) (m : ℕ) (b : List ℕ) → Laid (stepsOf old) n a
@@ -221,3 +216,18 @@ pub laid-short : (old new : Route) (done : List ℕ) (n : ℕ) (a : List ℕ) (m
     → flatJob (old .places) (take n a) (new .places) (take m b) done ≡ short (jobOf old new done)
 laid-short old new done n a m b p q =
     ap₂ (λ (x y : List Step). withSteps (jobOf old new done) x y) (p .steps-are) (q .steps-are)
+
+module _ (old new : Route) (done : List ℕ) (n : ℕ) (a : List ℕ) (m : ℕ) (b : List ℕ)
+    (p : Laid (stepsOf old) n a) (q : Laid (stepsOf new) m b) where
+  -- both routes as they are laid
+  abbrev pub laidJob : Job
+  laidJob = flatJob (old .places) (take n a) (new .places) (take m b) done
+
+  pub same-laid : {X : Type 0} (f : Job → X) → ((j k : Job) → Refused j k → f j ≡ f k) → f laidJob ≡ f (jobOf old new done)
+  same-laid f by = ap f (laid-short old new done n a m b p q) ∙ sym (same-short (jobOf old new done) f by)
+
+  pub rows-laid : (o : Outcome) → o ≡ first (lineRows laidJob) → o ≡ first (lineRows (jobOf old new done))
+  rows-laid o e = e ∙ same-laid (λ (j : Job). first (lineRows j)) (λ j k r. r .alike)
+
+  pub ran-laid : (r : Ran) → r ≡ ran laidJob → r ≡ ran (jobOf old new done)
+  ran-laid r e = e ∙ same-laid ran ran-alike

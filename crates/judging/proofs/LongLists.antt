@@ -4,10 +4,13 @@ use mathlib.Core.Bool.{false, cond, and-false}
 use mathlib.Core.List.{List}
 use Prim.Native.Nat.{ℕ}
 use lib.Dec.{eqb, leb}
-use Rattle.job.specs.Job.{Job}
+use Rattle.route.specs.Steps.{stepsOf}
+use Rattle.route.specs.Flat.{Laid}
+use Rattle.route.specs.declared.Route.{Route}
+use Rattle.job.specs.Job.{Job, jobOf}
 use Rattle.job.specs.Run.{ran}
 use Rattle.job.specs.declared.Ran.{Ran}
-use Rattle.job.proofs.LongLists.{Refused, short, same-short, ran-alike, ran-off}
+use Rattle.job.proofs.LongLists.{Refused, ran-alike, ran-off, laidJob, same-laid}
 use Rattle.judging.specs.Judge.{judgeStopped, judged, searched, workAfter}
 use Rattle.judging.specs.declared.Judged.{Judged}
 
@@ -36,9 +39,16 @@ module _ (j k : Job) (r : Refused j k) where
   work-alike : (work : List ℕ) → workAfter j work ≡ workAfter k work
   work-alike work = work-off j off work ∙ sym (work-off k (ran-off j k r) work)
 
-module _ (j : Job) where
-  pub judged-short-lists : (room : ℕ) → judged j room ≡ judged (short j) room
-  judged-short-lists room = same-short j (λ (x : Job). judged x room) (λ a b r. judged-alike a b r room)
+-- ---- both routes laid as numbers
 
-  pub work-short-lists : (work : List ℕ) → workAfter j work ≡ workAfter (short j) work
-  work-short-lists work = same-short j (λ (x : Job). workAfter x work) (λ a b r. work-alike a b r work)
+module _ (old new : Route) (done : List ℕ) (n : ℕ) (a : List ℕ) (m : ℕ) (b : List ℕ)
+    (p : Laid (stepsOf old) n a) (q : Laid (stepsOf new) m b) where
+  pub judged-laid :
+      (room : ℕ) (r : Judged) → r ≡ judged (laidJob old new done n a m b p q) room → r ≡ judged (jobOf old new done) room
+  judged-laid room r e =
+      e ∙ same-laid old new done n a m b p q (λ (j : Job). judged j room) (λ j k x. judged-alike j k x room)
+
+  pub work-laid :
+      (work w : List ℕ) → w ≡ workAfter (laidJob old new done n a m b p q) work → w ≡ workAfter (jobOf old new done) work
+  work-laid work w e =
+      e ∙ same-laid old new done n a m b p q (λ (j : Job). workAfter j work) (λ j k x. work-alike j k x work)

@@ -18,7 +18,7 @@ use Rattle.job.specs.Job.{Job, jobOf, flatJob, jobLine, newStart}
 use Rattle.job.specs.Lines.{lineRows, LinesPass}
 use Rattle.job.specs.Run.{ran, performed}
 use Rattle.job.specs.declared.Ran.{Ran}
-use Rattle.job.proofs.LongLists.{Refused, ran-alike, ran-off, same-short, laid-short}
+use Rattle.job.proofs.LongLists.{Refused, ran-alike, ran-off, same-laid}
 use Rattle.job.proofs.RunLine.{ran-refused, checked-lines}
 use Rattle.slice.specs.Order.{inTurn}
 use Rattle.slice.specs.Table.{table}
@@ -157,7 +157,4 @@ pub tried-laid :
     → Laid (stepsOf new) m b
     → r ≡ tried (flatJob (old .places) (take n a) (new .places) (take m b) done) o
     → r ≡ tried (jobOf old new done) o
-tried-laid old new done o n a m b r p q e =
-    e
-    ∙ ap (λ (j : Job). tried j o) (laid-short old new done n a m b p q)
-    ∙ sym (same-short (jobOf old new done) (λ (j : Job). tried j o) (tried-alike o))
+tried-laid old new done o n a m b r p q e = e ∙ same-laid old new done n a m b p q (λ (j : Job). tried j o) (tried-alike o)

@@ -1,10 +1,7 @@
 -- `job::routes::check_routes`: both routes laid as numbers; what a list has past its 65th step changes nothing.
-use mathlib.Core.Path.{sym, ap, _∙_}
+use mathlib.Core.Path.{sym}
 use lib.Seq.{length-take-le}
-use Rattle.job.specs.Job.{Job, jobOf}
-use Rattle.refusal.specs.Rows.{first}
-use Rattle.job.specs.Lines.{lineRows}
-use Rattle.job.proofs.LongLists.{rows-short, laid-short}
+use Rattle.job.proofs.LongLists.{rows-laid}
 use borrow.Author.Needs.{needs}
 use Rattle.job.proofs.routes.check_routes.Statement.{statement}
 use Rattle.job.proofs.routes.check_routes.Tie as tie
@@ -37,13 +34,7 @@ check-lines-requires : tie.Need-check-lines-requires
 check-lines-requires c κs = search needs
 
 returns : tie.Need-returns
-returns c =
-    let later = c .before .before .before .before in
-    let earlier = later .before .before .before in
-    let a = earlier .before .before .before .args in
-    c .check-lines .ensures
-    ∙ ap (λ (j : Job). first (lineRows j)) (laid-short (a .old) (a .new) (a .done .now) _ _ _ _ (earlier .lay .ensures) (later .lay2 .ensures))
-    ∙ sym (rows-short (jobOf (a .old) (a .new) (a .done .now)))
+returns c = search (needs, rows-laid)
 
 pub check-routes-spec : {M : Type 1} → statement M
 check-routes-spec =

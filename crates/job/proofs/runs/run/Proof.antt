@@ -1,9 +1,7 @@
 -- `job::runs::run`: both routes laid as numbers; what a list has past its 65th step changes nothing.
-use mathlib.Core.Path.{sym, ap, _∙_}
+use mathlib.Core.Path.{sym}
 use lib.Seq.{length-take-le}
-use Rattle.job.specs.Job.{jobOf}
-use Rattle.job.specs.Run.{ran}
-use Rattle.job.proofs.LongLists.{ran-short, laid-short}
+use Rattle.job.proofs.LongLists.{ran-laid}
 use borrow.Author.Needs.{needs}
 use Rattle.job.proofs.runs.run.Statement.{statement}
 use Rattle.job.proofs.runs.run.Tie as tie
@@ -36,13 +34,7 @@ run-lists-requires : tie.Need-run-lists-requires
 run-lists-requires c κs = search needs
 
 returns : tie.Need-returns
-returns c =
-    let second = c .before .before .before .before in
-    let first = second .before .before .before in
-    let a = first .before .before .before .args in
-    c .run-lists .ensures
-    ∙ ap ran (laid-short (a .old) (a .new) (a .done .now) _ _ _ _ (first .lay .ensures) (second .lay2 .ensures))
-    ∙ sym (ran-short (jobOf (a .old) (a .new) (a .done .now)))
+returns c = search (needs, ran-laid)
 
 pub run-spec : {M : Type 1} → statement M
 run-spec =

@@ -1,12 +1,8 @@
 -- `crate::judging::judge`: both routes laid as numbers; what a list has past its 65th step changes nothing.
-use mathlib.Core.Path.{sym, ap, _∙_}
+use mathlib.Core.Path.{sym}
 use borrow.Author.Needs.{needs}
-use lib.ListN.{length}
 use lib.Seq.{length-take-le}
-use Rattle.job.specs.Job.{Job, jobOf}
-use Rattle.job.proofs.LongLists.{laid-short}
-use Rattle.judging.specs.Judge.{judged, workAfter}
-use Rattle.judging.proofs.LongLists.{judged-short-lists, work-short-lists}
+use Rattle.judging.proofs.LongLists.{judged-laid, work-laid}
 use Rattle.judging.proofs.judging.judge.Statement.{statement}
 use Rattle.judging.proofs.judging.judge.Tie as tie
 
@@ -41,16 +37,7 @@ same-length : tie.Need-same-length
 same-length c = search needs
 
 returns : tie.Need-returns
-returns c =
-    let l = c .before .before in
-    let second = l .before .before .before .before .before in
-    let first = second .before .before .before in
-    let a = first .before .before .before .before .args in
-    let j = jobOf (a .old) (a .new) (a .done .now) in
-    let laid = laid-short (a .old) (a .new) (a .done .now) _ _ _ _ (first .lay .ensures) (second .lay2 .ensures) in (
-      l .judge-lists .ensures .0 ∙ ap (λ (x : Job). judged x (length (a .work .now))) laid ∙ sym (judged-short-lists j (length (a .work .now))),
-      l .judge-lists .ensures .1 ∙ ap (λ (x : Job). workAfter x (a .work .now)) laid ∙ sym (work-short-lists j (a .work .now)),
-    )
+returns c = (search (needs, judged-laid), search (needs, work-laid))
 
 pub judge-spec : {M : Type 1} → statement M
 judge-spec =
