@@ -19,16 +19,16 @@ use contract.Lifetimes.{Lfts, Shares, toks}
 use sound.WpLaws.{fmOf}
 use types.Kit.{Given, Item, ‵, raw, _⊛_, given, later, ⋆, mean, _$_, _∵_, !, qed, by, move, keep, drop, use1, split, join, fsplit, fjoin, check, suffices, updating, now as at-once, frame, done as ends-here}
 use denote.Exit.{yes}
-use denote.RattleType.{RattleType, Denots, Valss, flat, owns}
-use denote.Laws.{Is, Are, Ises, valss}
+use denote.RattleType.{RattleType, flat, owns}
+use denote.Laws.{Is, Are, Ises}
 use denote.Plain.{uint-vals, uint-tells}
 use denote.Builtin.{u8, u32, u64, SliceRefOf}
 use denote.Ref.{now}
-use denote.Signature.{Slot, plain}
+use denote.Signature.{Slot, plain, typesAt}
 use denote.Slice.{sliceTy, ShrSlice, slice-vals, shr-slice-tells}
 use denote.Steps.{nothing}
 use denote.Triple.Statement.{Triple}
-use denote.Triple.End.{Fins, Outs, outs, lastsOf}
+use denote.Triple.End.{Fins, outs, lastsOf}
 use denote.Triple.Entry.{onEntry}
 use denote.Triple.Spec.{Meets}
 use denote.Triple.Clauses.{Clauses, Ended, closing}
@@ -40,17 +40,10 @@ use Rattle.route.proofs.Route as Ro
 use Rattle.records.specs.Loaded.{loaded}
 use Rattle.records.proofs.Called.{Known, told, tells, meets}
 use Rattle.records.proofs.load.Symbol.{name as #load}
-use Rattle.lent.proofs.Slices.{Slice, shr, mut, many, slots, keeps, rows, spells, tell, on, on-vals, flat-on, back, owns-on, lasts-back}
+use Rattle.lent.proofs.Slices.{Slice, shr, mut, many, spells, tell, on, on-vals, flat-on, back, owns-on, lasts-back, same, past, alone, behind, alone-kept, behind-kept, Alone, Behind, AloneOut, BehindOut, behind-vals}
 use Rattle.lent.proofs.Loads.{Lent, val, owned-route, Load, Walk, body-one, body-two, body-mut, calls-one, calls-two, calls-mut}
 
 module _ (R : RattleType) (l : List Slice) where
-  -- after both lists' lifetimes come the slices', and they are the only ones of the operation over routes
-  abbrev past : Lfts (suc (suc (many l))) → Lfts (many l)
-  past κs = κs .1 .1
-
-  abbrev same : Lfts (many l) → Lfts (many l)
-  same κs = κs
-
   abbrev places : Slot (suc (suc (many l)))
   places = plain (λ _. u64)
 
@@ -65,10 +58,10 @@ module _ (R : RattleType) (l : List Slice) where
     signature = record {
       lifetimes = suc (suc (many l));
       outlives = [];
-      params = places ∷ old ∷ places ∷ new ∷ slots (suc (suc (many l))) 2 l past;
+      params = places ∷ old ∷ places ∷ new ∷ behind l;
       result = plain (λ _. R);
     };
-    kept = (yes, (yes, (yes, (yes, keeps (suc (suc (many l))) 2 l past))));
+    kept = (yes, (yes, (yes, (yes, behind-kept l))));
   }
 
   abbrev pub core : Ended
@@ -76,32 +69,19 @@ module _ (R : RattleType) (l : List Slice) where
     signature = record {
       lifetimes = many l;
       outlives = [];
-      params = plain (λ _. Ro.the-row) ∷ plain (λ _. Ro.the-row) ∷ slots (many l) 0 l same;
+      params = plain (λ _. Ro.the-row) ∷ plain (λ _. Ro.the-row) ∷ alone l;
       result = plain (λ _. R);
     };
-    kept = (yes, (yes, keeps (many l) 0 l same));
+    kept = (yes, (yes, alone-kept l));
   }
-
-  -- the slices on entry and at exit, among lent's parameters and among core's
-  abbrev pub In : Lfts (suc (suc (many l))) → Type 0
-  In κs = Denots (rows (suc (suc (many l))) κs 2 l past)
-
-  abbrev pub Out : Lfts (suc (suc (many l))) → Type 0
-  Out κs = Outs κs (slots (suc (suc (many l))) 2 l past) (keeps (suc (suc (many l))) 2 l past)
-
-  abbrev pub CoreIn : Lfts (many l) → Type 0
-  CoreIn κs = Denots (rows (many l) κs 0 l same)
-
-  abbrev pub CoreOut : Lfts (many l) → Type 0
-  CoreOut κs = Outs κs (slots (many l) 0 l same) (keeps (many l) 0 l same)
 
   -- what each says
   abbrev pub Fact : Type 1
-  Fact = (κs : Lfts (suc (suc (many l)))) → ℕ → List Step → ℕ → List Step → In κs → R .Denot → Out κs → Type 0
+  Fact = (κs : Lfts (suc (suc (many l)))) → ℕ → List Step → ℕ → List Step → Behind l κs → R .Denot → BehindOut l κs → Type 0
 
   module _ {M : Type 1} (𝓤 : URA M) where
     abbrev pub Says : Type 2
-    Says = (κs : Lfts (many l)) → Route → Route → CoreIn κs → R .Denot → CoreOut κs → SProp 𝓤
+    Says = (κs : Lfts (many l)) → Route → Route → Alone l κs → R .Denot → AloneOut l κs → SProp 𝓤
 
     abbrev pub core-says : Says → Clauses 𝓤 core
     core-says s κs a = record {
@@ -124,31 +104,28 @@ module _ (R : RattleType) (l : List Slice) where
     abbrev k : ℕ
     k = suc (suc (many l))
 
-    abbrev passed : (κs : Lfts k) → In κs → CoreIn (past κs)
-    passed κs = on k (many l) κs (past κs) 2 0 l past same
+    abbrev passed : (κs : Lfts k) → Behind l κs → Alone l (past l κs)
+    passed κs = on k (many l) κs (past l κs) 2 0 l (past l) (same l)
 
-    abbrev vals : (κs : Lfts k) → In κs → Valss (rows k κs 2 l past)
-    vals κs x = valss (rows k κs 2 l past) (spells k κs 2 l past) x
+    abbrev Last : (κs : Lfts k) → Behind l κs → Type 0
+    Last κs x = Fins (past l κs) (alone l) (alone-kept l) (passed κs x)
 
-    abbrev Last : (κs : Lfts k) → In κs → Type 0
-    Last κs x = Fins (past κs) (slots (many l) 0 l same) (keeps (many l) 0 l same) (passed κs x)
-
-    abbrev returned : (κs : Lfts k) (x : In κs) → Last κs x → Fins κs (slots k 2 l past) (keeps k 2 l past) x
-    returned κs x = back k (many l) κs (past κs) 2 0 l past same x
+    abbrev returned : (κs : Lfts k) (x : Behind l κs) → Last κs x → Fins κs (behind l) (behind-kept l) x
+    returned κs x = back k (many l) κs (past l κs) 2 0 l (past l) (same l) x
 
     -- what core says of loaded routes is what lent says of the lists
     abbrev pub Same : Type 1
-    Same = (κs : Lfts k) (p : ℕ) (m : List Step) (q : ℕ) (n : List Step) (x : In κs) (r : R .Denot) (ws : Last κs x)
-        → ent 𝓤 (s (past κs) (loaded p m) (loaded q n) (passed κs x) r
-        (outs (past κs) (slots (many l) 0 l same) (keeps (many l) 0 l same) (passed κs x) ws))
-        (fact 𝓤 (φ κs p m q n x r (outs κs (slots k 2 l past) (keeps k 2 l past) x (returned κs x ws))))
+    Same = (κs : Lfts k) (p : ℕ) (m : List Step) (q : ℕ) (n : List Step) (x : Behind l κs) (r : R .Denot) (ws : Last κs x)
+        → ent 𝓤 (s (past l κs) (loaded p m) (loaded q n) (passed κs x) r
+        (outs (past l κs) (alone l) (alone-kept l) (passed κs x) ws))
+        (fact 𝓤 (φ κs p m q n x r (outs κs (behind l) (behind-kept l) x (returned κs x ws))))
 
     -- the function's MIR is walked
     abbrev pub Walks : Calls 𝓤 H → Loops 𝓤 H → Name → Fn → Type 2
     Walks C Λ name body = (κs : Lfts k) (q₀ q₁ : Share) (p₀ p₁ : ℕ) (x₀ x₁ : Lent) → p₀ < 2 ^ 64 → p₁ < 2 ^ 64
-        → length (x₀ .now) < 2 ^ 64 → length (x₁ .now) < 2 ^ 64 → (x : In κs)
-        → Are (rows k κs 2 l past) (Ises (rows k κs 2 l past)) x (vals κs x)
-        → Walk 𝓤 H A C Λ (κs .0) (κs .1 .0) q₀ q₁ p₀ p₁ x₀ x₁ body name τ (flat (rows k κs 2 l past) (vals κs x))
+        → length (x₀ .now) < 2 ^ 64 → length (x₁ .now) < 2 ^ 64 → (x : Behind l κs)
+        → Are (typesAt (behind l) κs) (Ises (typesAt (behind l) κs)) x (behind-vals l κs x)
+        → Walk 𝓤 H A C Λ (κs .0) (κs .1 .0) q₀ q₁ p₀ p₁ x₀ x₁ body name τ (flat (typesAt (behind l) κs) (behind-vals l κs x))
 
     module _ (same-answer : Same) (name : Name) (body : Fn) (𝓣 : Tables 𝓤 H)
         (known : Triple 𝓤 (𝓣 .C name) (Known 𝓤 H A core (core-says 𝓤 s))) (walks : Walks (𝓣 .C) (𝓣 .Λ) name body) where
@@ -171,7 +148,7 @@ module _ (R : RattleType) (l : List Slice) where
         abbrev x₁ : Lent
         x₁ = y .0 .3 .1 .1 .1 .0
 
-        abbrev x : In κs
+        abbrev x : Behind l κs
         x = y .0 .3 .1 .1 .1 .1
 
         abbrev a : Route
@@ -181,19 +158,19 @@ module _ (R : RattleType) (l : List Slice) where
         b = loaded p₁ (x₁ .now)
 
         abbrev tokens : SProp 𝓤
-        tokens = toks 𝓤 A (many l) (past κs) (qs .1 .1)
+        tokens = toks 𝓤 A (many l) (past l κs) (qs .1 .1)
 
         abbrev Rest : Item 𝓤
-        Rest = raw tokens ⊛ ‵ (owns (rows k κs 2 l past) x (vals κs x))
+        Rest = raw tokens ⊛ ‵ (owns (typesAt (behind l) κs) x (behind-vals l κs x))
 
         abbrev to : Val → Val → Known 𝓤 H A core (core-says 𝓤 s) .Ghost
         to u w = (
           (
-            past κs,
+            past l κs,
             qs .1 .1,
             tt,
             (a, (b, passed κs x)),
-            (u ∷ [], (w ∷ [], on-vals k (many l) κs (past κs) 2 0 l past same (vals κs x))),
+            (u ∷ [], (w ∷ [], on-vals k (many l) κs (past l κs) 2 0 l (past l) (same l) (behind-vals l κs x))),
           ),
           tt,
         )
@@ -203,18 +180,18 @@ module _ (R : RattleType) (l : List Slice) where
         asks u w =
             qed W ((‵ (owned-route a u) ⊛ (‵ (owned-route b w) ⊛ Rest)) ∷ []) ∵ split ! $ move ! (1 ∷ []) $ split ! $
             move ! (1 ∷ []) $ split ! $ move ! (1 ∷ []) $
-            use1 W (‵ (owns (rows (many l) (past κs) 0 l same) (passed κs x)
-            (on-vals k (many l) κs (past κs) 2 0 l past same (vals κs x))))
-            (owns-on k (many l) κs (past κs) 𝓤 H A 2 0 l past same refl x (vals κs x)) $
+            use1 W (‵ (owns (typesAt (alone l) (past l κs)) (passed κs x)
+            (on-vals k (many l) κs (past l κs) 2 0 l (past l) (same l) (behind-vals l κs x))))
+            (owns-on k (many l) κs (past l κs) 𝓤 H A 2 0 l (past l) (same l) refl x (behind-vals l κs x)) $
             -- [the slices; the tokens; the new route; the old one]
             move ! (2 ∷ 0 ∷ []) $ fjoin ! $ move ! (2 ∷ 0 ∷ []) $ fjoin ! $ move ! (1 ∷ 0 ∷ []) $ join ! $ frame ! $
             nothing ! $ ends-here !
 
         met : (u w : Val) → ent 𝓤 (mean 𝓤 H A (‵ (owned-route a u) ⊛ (‵ (owned-route b w) ⊛ Rest)))
-            (𝓣 .C name (u ∷ w ∷ flat (rows k κs 2 l past) (vals κs x)) (Known 𝓤 H A core (core-says 𝓤 s) .post (to u w)))
+            (𝓣 .C name (u ∷ w ∷ flat (typesAt (behind l) κs) (behind-vals l κs x)) (Known 𝓤 H A core (core-says 𝓤 s) .post (to u w)))
         met u w = subst (λ (us : List Val). ent 𝓤 (mean 𝓤 H A (‵ (owned-route a u) ⊛ (‵ (owned-route b w) ⊛ Rest)))
             (𝓣 .C name (u ∷ w ∷ us) (Known 𝓤 H A core (core-says 𝓤 s) .post (to u w))))
-            (flat-on k (many l) κs (past κs) 2 0 l past same (vals κs x))
+            (flat-on k (many l) κs (past l κs) 2 0 l (past l) (same l) (behind-vals l κs x))
             (via 𝓤 (Known 𝓤 H A core (core-says 𝓤 s) .pre (to u w)) (asks u w) (known (to u w)))
 
         -- (what core leaves does not hang on the routes' machine values)
@@ -227,29 +204,29 @@ module _ (R : RattleType) (l : List Slice) where
             qed W (raw (Left v) ∷ ‵ (flft (κs .0) (qs .0)) ∷ ‵ (flft (κs .1 .0) (qs .1 .0)) ∷ []) ∵ updating ! $
             told 𝓤 H A W core (core-says 𝓤 s) (to (val x₀) (val x₁)) v ! tt
             (λ r ws. φ κs p₀ (now x₀) p₁ (now x₁) x r
-            (outs κs (slots k 2 l past) (keeps k 2 l past) x (returned κs x (ws .1 .1))))
+            (outs κs (behind l) (behind-kept l) x (returned κs x (ws .1 .1))))
             (λ r ws. same-answer κs p₀ (now x₀) p₁ (now x₁) x r (ws .1 .1)) (λ r ws e is.
             at-once ! $ check ! (typed r v is) $
             suffices ! _ (tells 𝓤 H A W lent (lent-says 𝓤 φ) y v r (tt, (tt, (tt, (tt, returned κs x (ws .1 .1)))))) $
             -- [the result; the slices' tokens; what is said of them; the lists' tokens]
             move ! (2 ∷ []) $ fsplit ! $ drop ! $ fsplit ! $ drop ! $
-            use1 W (‵ (lastsOf κs (slots k 2 l past) (keeps k 2 l past) x (returned κs x (ws .1 .1))))
-            (lasts-back k (many l) κs (past κs) 𝓤 H A 2 0 l past same x (ws .1 .1)) $
+            use1 W (‵ (lastsOf κs (behind l) (behind-kept l) x (returned κs x (ws .1 .1))))
+            (lasts-back k (many l) κs (past l κs) 𝓤 H A 2 0 l (past l) (same l) x (ws .1 .1)) $
             nothing ! $ fjoin ! $ nothing ! $ fjoin ! $ nothing ! $ fjoin ! $ nothing ! $ fjoin ! $
             move ! (4 ∷ 2 ∷ []) $ join ! $ move ! (3 ∷ 0 ∷ []) $ join ! $ frame ! $ move ! (1 ∷ 0 ∷ []) $ frame ! $
             says ! e $ ends-here !)
 
-        walk : Are (rows k κs 2 l past) (Ises (rows k κs 2 l past)) x (vals κs x) → p₀ < 2 ^ 64 → p₁ < 2 ^ 64
+        walk : Are (typesAt (behind l) κs) (Ises (typesAt (behind l) κs)) x (behind-vals l κs x) → p₀ < 2 ^ 64 → p₁ < 2 ^ 64
             → length (x₀ .now) < 2 ^ 64 → length (x₁ .now) < 2 ^ 64
             → ent 𝓤 (onEntry 𝓤 H A (lent .signature) κs qs (y .0 .3)
-            (vint w64 p₀ ∷ [], (val x₀ ∷ [], (vint w64 p₁ ∷ [], (val x₁ ∷ [], vals κs x)))))
+            (vint w64 p₀ ∷ [], (val x₀ ∷ [], (vint w64 p₁ ∷ [], (val x₁ ∷ [], behind-vals l κs x)))))
             (WpFn 𝓤 H (𝓣 .C) (𝓣 .Λ) body (vint w64 p₀ ∷ val x₀ ∷ vint w64 p₁ ∷ val x₁ ∷
-            flat (rows k κs 2 l past) (vals κs x)) (Known 𝓤 H A lent (lent-says 𝓤 φ) .post y))
+            flat (typesAt (behind l) κs) (behind-vals l κs x)) (Known 𝓤 H A lent (lent-says 𝓤 φ) .post y))
         walk are fits₀ fits₁ room₀ room₁ =
             qed W ((‵ (flft (κs .0) (qs .0)) ⊛ (‵ (flft (κs .1 .0) (qs .1 .0)) ⊛ raw tokens)) ∷ ‵
             (owns (u64 ∷ ShrSlice (named 0) (κs .0) St.the-row ∷ u64 ∷ ShrSlice (named 1) (κs .1 .0) St.the-row ∷
-            rows k κs 2 l past) (y .0 .3)
-            (vint w64 p₀ ∷ [], (val x₀ ∷ [], (vint w64 p₁ ∷ [], (val x₁ ∷ [], vals κs x))))) ∷ []) ∵
+            typesAt (behind l) κs) (y .0 .3)
+            (vint w64 p₀ ∷ [], (val x₀ ∷ [], (vint w64 p₁ ∷ [], (val x₁ ∷ [], behind-vals l κs x))))) ∷ []) ∵
             split ! $ move ! (1 ∷ []) $ split ! $
             -- [the second token; the slices' tokens; the first token; what the parameters own]
             move ! (3 ∷ []) $ fsplit ! $ drop ! $ fsplit ! $ move ! (1 ∷ []) $ fsplit ! $ drop ! $ fsplit ! $
@@ -259,14 +236,14 @@ module _ (R : RattleType) (l : List Slice) where
 
       pub over-lists : Meets 𝓤 H A (lent .signature) (WpFn 𝓤 H (𝓣 .C) (𝓣 .Λ) body) (closing 𝓤 H A lent (lent-says 𝓤 φ))
       over-lists = meets 𝓤 H A W lent (lent-says 𝓤 φ) (WpFn 𝓤 H (𝓣 .C) (𝓣 .Λ) body)
-          (λ κs. (uint-vals w64, (slice-vals, (uint-vals w64, (slice-vals, spells k κs 2 l past)))))
+          (λ κs. (uint-vals w64, (slice-vals, (uint-vals w64, (slice-vals, spells k κs 2 l (past l))))))
           (λ κs. (
             uint-tells w64,
             (
               shr-slice-tells (named 0) (κs .0) St.the-row,
               (
                 uint-tells w64,
-                (shr-slice-tells (named 1) (κs .1 .0) St.the-row, tell k κs 2 l past),
+                (shr-slice-tells (named 1) (κs .1 .0) St.the-row, tell k κs 2 l (past l)),
               ),
             ),
           ))

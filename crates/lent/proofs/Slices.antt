@@ -13,10 +13,10 @@ use ghost.Atoms.{Atoms, sem}
 use contract.Lifetimes.{Lfts}
 use denote.Exit.{yes, left}
 use denote.RattleType.{RattleType, Denots, Valss, flat, owns}
-use denote.Laws.{Ises, Spells, Tellss}
+use denote.Laws.{Ises, Spells, valss, Tellss}
 use denote.Signature.{Slot, plain, typesAt}
 use denote.Slice.{ShrSlice, MutSlice, slice-vals, shr-slice-tells, mut-slice-tells}
-use denote.Triple.End.{Kepts, Fins, all, lastsOf}
+use denote.Triple.End.{Kepts, Fins, Outs, all, lastsOf}
 
 pub data Slice : Type 2 where
   shr : RattleType → Slice
@@ -105,3 +105,43 @@ module _ (n n′ : ℕ) (κs : Lfts n) (κs′ : Lfts n′) where
     lasts-back o o′ (mut R ∷ l) sh sh′ x ws =
         monoR 𝓤 (sem 𝓤 H A (left (MutSlice (named o) (sh κs .0) R .exit yes) (x .0) (ws .0)))
         (lasts-back (suc o) (suc o′) l (λ κs. sh κs .1) (λ κs. sh′ κs .1) (x .1) (ws .1))
+
+-- the slices on their own, and behind two lifetimes that other parameters have
+module _ (l : List Slice) where
+  abbrev pub same : Lfts (many l) → Lfts (many l)
+  same κs = κs
+
+  abbrev pub past : Lfts (suc (suc (many l))) → Lfts (many l)
+  past κs = κs .1 .1
+
+  abbrev pub alone : List (Slot (many l))
+  alone = slots (many l) 0 l same
+
+  abbrev pub behind : List (Slot (suc (suc (many l))))
+  behind = slots (suc (suc (many l))) 2 l past
+
+  abbrev pub alone-kept : Kepts alone
+  alone-kept = keeps (many l) 0 l same
+
+  abbrev pub behind-kept : Kepts behind
+  behind-kept = keeps (suc (suc (many l))) 2 l past
+
+  module _ (κs : Lfts (many l)) where
+    abbrev pub Alone : Type 0
+    Alone = Denots (typesAt alone κs)
+
+    abbrev pub AloneOut : Type 0
+    AloneOut = Outs κs alone alone-kept
+
+    abbrev pub alone-vals : Alone → Valss (typesAt alone κs)
+    alone-vals x = valss (typesAt alone κs) (spells (many l) κs 0 l same) x
+
+  module _ (κs : Lfts (suc (suc (many l)))) where
+    abbrev pub Behind : Type 0
+    Behind = Denots (typesAt behind κs)
+
+    abbrev pub BehindOut : Type 0
+    BehindOut = Outs κs behind behind-kept
+
+    abbrev pub behind-vals : Behind → Valss (typesAt behind κs)
+    behind-vals x = valss (typesAt behind κs) (spells (suc (suc (many l))) κs 2 l past) x
