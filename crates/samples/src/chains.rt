@@ -54,6 +54,29 @@ pub fn line(n: usize) -> Route
     row(n, step(100, 1, 2, 0, 1), false)
 }
 
+// The names of `line(17)`.
+pub fn names() -> [u32; 17] {
+    [
+        100,
+        101,
+        102,
+        103,
+        104,
+        105,
+        106,
+        107,
+        108,
+        109,
+        110,
+        111,
+        112,
+        113,
+        114,
+        115,
+        116,
+    ]
+}
+
 // The same steps in a row, the last one first.
 pub fn turned(n: usize) -> Route
     requires { ⌜ n ≤ 32 ⌝ }

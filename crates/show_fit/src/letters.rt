@@ -1,26 +1,25 @@
 // 01's examples.
-use crate::judge;
-use crate::judged::say;
-use route::Route;
+use crate::judge_in;
 use samples::letters;
+use samples::letters::Sample;
 
-fn say_both(label: &[u8], r: Route, done: &[u32]) {
-    say(label, judge(r, r, done));
+// A work slice of 8,192 bytes is enough; what it holds doesn't matter.
+pub fn say(label: &[u8], x: Sample) {
+    let mut work = [7u8; 8192];
+    judged::say(label, judge_in(x, &mut work));
 }
 
 pub fn show() {
-    let old = letters::a_old();
-    let new = letters::a_new();
-    say(b"A", judge(old, new, &[10, 20, 30]));
-    say(b"B", judge(old, new, &[]));
-    say(b"C", judge(old, new, &[10]));
-    say(b"D", judge(letters::d_old(), letters::d_new(), &[10, 20]));
-    say(b"E", judge(old, letters::e_new(), &[10, 20]));
-    say(b"F", judge(old, letters::f_new(), &[10, 20]));
-    say(b"G", judge(old, letters::g_new(), &[10]));
-    say(b"H", judge(old, new, &[40]));
-    say(b"I", judge(old, new, &[30]));
-    say_both(b"J", letters::j_both(), &[10, 20]);
-    say_both(b"K", letters::k_both(), &[10, 20, 20]);
-    say_both(b"L", letters::l_both(), &[]);
+    say(b"A", letters::a());
+    say(b"B", letters::b());
+    say(b"C", letters::c());
+    say(b"D", letters::d());
+    say(b"E", letters::e());
+    say(b"F", letters::f());
+    say(b"G", letters::g());
+    say(b"H", letters::h());
+    say(b"I", letters::i());
+    say(b"J", letters::j());
+    say(b"K", letters::k());
+    say(b"L", letters::l());
 }

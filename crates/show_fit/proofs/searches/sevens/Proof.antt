@@ -13,26 +13,7 @@ Inv-loop work n₀ i₀ i-end n i = (i ≤ length work) × ((n ≤ i) × (i-end 
 abbrev μ-loop : tie.MeasureT-loop
 μ-loop work n₀ i₀ i-end n i = length work - i
 
-loop-holds : tie.Need-loop-holds Inv-loop μ-loop
-loop-holds c = search needs
-
-shared-slice-read-if1 : tie.Need-shared-slice-read-if1 Inv-loop μ-loop
-shared-slice-read-if1 c = search needs
-
-add-n : tie.Need-add-n Inv-loop μ-loop
-add-n c = search needs
-
-add-i : tie.Need-add-i Inv-loop μ-loop
-add-i c = search needs
-
-loop-less : tie.Need-loop-less Inv-loop μ-loop
-loop-less c = search needs
-
-loop-again : tie.Need-loop-again Inv-loop μ-loop
-loop-again c = ⊎-elim (λ w. search needs) (λ w. search needs) (c .if1 .came)
-
-returns : tie.Need-returns Inv-loop μ-loop
-returns c = search needs
-
 pub sevens-spec : {M : Type 1} → statement M
-sevens-spec = tie.close (tie.spec Inv-loop μ-loop loop-holds shared-slice-read-if1 add-n add-i loop-less loop-again returns)
+sevens-spec =
+    tie.close (tie.spec Inv-loop μ-loop (search needs) (search needs) (search needs) (search needs) (search needs)
+    (λ c. ⊎-elim (λ w. search needs) (λ w. search needs) (c .if1 .came)) (search needs))
