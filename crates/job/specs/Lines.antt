@@ -8,22 +8,20 @@ use lib.Bits.{bitOr}
 use lib.ListN.{length}
 use Rattle.mask.specs.Mask.{below, within, count}
 use Rattle.refusal.specs.Rows.{unless, first}
+use Rattle.version.specs.Limits.{scope, nameFits}
+use Rattle.version.specs.declared.Version.{Version}
 use Rattle.route.specs.Net.{netRow}
 use Rattle.route.specs.declared.Step.{Step}
 use Rattle.refusal.specs.declared.Outcome.{Outcome}
 use Rattle.job.specs.Job.{Job, afterSteps, newLine, jobLine}
 
--- a name is 1 to 65,535
-unfoldable pub nameFits : ℕ → Bool
-nameFits n = leb 1 n && leb n 65535
-
 -- a place count is 1 to 64
 unfoldable pub placesFit : ℕ → Bool
 placesFit places = leb 1 places && leb places 64
 
--- each place that a step names is below the place count. (A variable is below 32 by its mask's width.)
+-- a name is one of 01's, and each place that a step names is below the place count. (A variable is below 32 by its mask's width.)
 unfoldable pub stepFits : ℕ → Step → Bool
-stepFits places s = nameFits (s .name) && within (bitOr (s .ins) (s .outs)) (below places)
+stepFits places s = nameFits scope (s .name) && within (bitOr (s .ins) (s .outs)) (below places)
 
 -- a list of variables has at most 8 entries, a list of places 1 to 8. (A mask's entries rise by themselves.)
 unfoldable pub variableList : ℕ → Bool
@@ -61,19 +59,19 @@ routeRows line places l =
     unless (placesFit places) 2 line
     ∷ (stepRows (line + 1) places [] l ++ (unless (not (eqb (length l) 0)) 4 (afterSteps line l) ∷ []))
 
--- the done lines, with how many stand above
-unfoldable pub doneRow : ℕ → ℕ → ℕ → Outcome
-doneRow line above n = first (unless (ltb above 64) 4 line ∷ unless (nameFits n) 2 line ∷ [])
+-- the done lines of a version, with how many stand above
+unfoldable pub doneRow : Version → ℕ → ℕ → ℕ → Outcome
+doneRow v line above n = first (unless (ltb above 64) 4 line ∷ unless (nameFits v n) 2 line ∷ [])
 
-unfoldable pub doneRows : ℕ → ℕ → List ℕ → List Outcome
-doneRows line above [] = []
-doneRows line above (n ∷ l) = doneRow line above n ∷ doneRows (line + 1) (above + 1) l
+unfoldable pub doneRows : Version → ℕ → ℕ → List ℕ → List Outcome
+doneRows v line above [] = []
+doneRows v line above (n ∷ l) = doneRow v line above n ∷ doneRows v (line + 1) (above + 1) l
 
 -- all lines, top down
 unfoldable pub lineRows : Job → List Outcome
 lineRows j =
     routeRows 1 (j .oldPlaces) (j .old)
-    ++ (routeRows (newLine j) (j .newPlaces) (j .new) ++ doneRows (jobLine j + 1) 0 (j .done))
+    ++ (routeRows (newLine j) (j .newPlaces) (j .new) ++ doneRows scope (jobLine j + 1) 0 (j .done))
 
 -- no line is refused
 abbrev pub LinesPass : Job → Type 0

@@ -3,6 +3,7 @@
 use mathlib.Core.Path.{_≡_, refl}
 use mathlib.Core.List.{List, [], _∷_, reverseAux}
 use Prim.Native.Nat.{ℕ}
+use Rattle.version.specs.declared.Version.{Version}
 use Rattle.layout.specs.Text.{Form, number, entries, stepLine, wordLine, stepLines, doneLines, Shorts, ShortForms}
 use Rattle.layout.specs.declared.Word.the-variants.{Done}
 
@@ -33,10 +34,10 @@ unfolding donesBack doneLines
 dones-back [] r s = refl
 dones-back (n ∷ l) r s = dones-back l (n ∷ r) s
 
-pub shorts-back : (l r : List ℕ) → Shorts l → Shorts r → Shorts (reverseAux l r)
-shorts-back [] r h k = k
-shorts-back (n ∷ l) r h k = shorts-back l (n ∷ r) (h .1) (h .0, k)
+pub shorts-back : (v : Version) (l r : List ℕ) → Shorts v l → Shorts v r → Shorts v (reverseAux l r)
+shorts-back v [] r h k = k
+shorts-back v (n ∷ l) r h k = shorts-back v l (n ∷ r) (h .1) (h .0, k)
 
-pub forms-back : (l r : List Form) → ShortForms l → ShortForms r → ShortForms (reverseAux l r)
-forms-back [] r h k = k
-forms-back (f ∷ l) r h k = forms-back l (f ∷ r) (h .1) (h .0, k)
+pub forms-back : (v : Version) (l r : List Form) → ShortForms v l → ShortForms v r → ShortForms v (reverseAux l r)
+forms-back v [] r h k = k
+forms-back v (f ∷ l) r h k = forms-back v l (f ∷ r) (h .1) (h .0, k)

@@ -4,8 +4,9 @@ use mathlib.Core.Path.{_≡_}
 use mathlib.Core.Bool.{Bool, true, false}
 use mathlib.Core.Logic.{_⊎_}
 use mathlib.Core.List.{List, [], _∷_, _++_}
-use Prim.Native.Nat.{ℕ, _^_, _≤_, _<_}
+use Prim.Native.Nat.{ℕ, _-_, _^_, _≤_, _<_}
 use lib.ListN.{take}
+use Rattle.version.specs.declared.Version.{Version}
 use Rattle.layout.specs.Words.{spelling}
 use Rattle.layout.specs.Text.{Lines, number, wordLine, jobLine, Short, Shorts, ShortLines}
 use Rattle.layout.specs.Parse.{Line}
@@ -161,30 +162,30 @@ After Out c = From Read c
 After Read c = From Write c
 After Write c = Unit {0}
 
--- the number in hand has k digits; a lone 0 counts as five
-abbrev pub Wide : ℕ → ℕ → Type 0
-Wide k n = (k ≤ 5) × (((1 ≤ n) × (n < 10 ^ k)) ⊎ ((n ≡ 0) × (k ≡ 5)))
+-- the number in hand, where k more digits may follow; none may follow a lone 0
+abbrev pub Wide : Version → ℕ → ℕ → Type 0
+Wide v k n = (k < v .digits) × (((1 ≤ n) × (n < 10 ^ (v .digits - k))) ⊎ ((n ≡ 0) × (k ≡ 0)))
 
-abbrev pub Shape : Point → Line → Type 0
-Shape Start c = Unit {0}
-Shape (Open p) c = From Step (rest c)
-Shape (Choice p) c = From Step (rest c)
-Shape (Letters w p k) c = (goes w p ≡ true) × From w (rest c)
-Shape (Past w p) c = (goes w p ≡ true) × After w (rest c)
-Shape (Digit w p) c = (goes w p ≡ true) × After w (rest c)
-Shape (Digits w p k) c = ((goes w p ≡ true) × After w (rest c)) × Wide k (c .num)
-Shape (Gap w p) c = (goes w p ≡ true) × From w (rest c)
-Shape (Closed w p) c = (goes w p ≡ true) × After w (rest c)
-Shape (Lf w p) c = closes w p ≡ true
-Shape Stuck c = Unit {0}
+abbrev pub Shape : Version → Point → Line → Type 0
+Shape v Start c = Unit {0}
+Shape v (Open p) c = From Step (rest c)
+Shape v (Choice p) c = From Step (rest c)
+Shape v (Letters w p k) c = (goes w p ≡ true) × From w (rest c)
+Shape v (Past w p) c = (goes w p ≡ true) × After w (rest c)
+Shape v (Digit w p) c = (goes w p ≡ true) × After w (rest c)
+Shape v (Digits w p k) c = ((goes w p ≡ true) × After w (rest c)) × Wide v k (c .num)
+Shape v (Gap w p) c = (goes w p ≡ true) × From w (rest c)
+Shape v (Closed w p) c = (goes w p ≡ true) × After w (rest c)
+Shape v (Lf w p) c = closes w p ≡ true
+Shape v Stuck c = Unit {0}
 
 -- every number that has been put away is short
-abbrev pub ShortLine : Rest → Type 0
-ShortLine c = Short (c .head) × (Shorts (c .ins) × (Shorts (c .outs) × (Shorts (c .reads) × Shorts (c .writes))))
+abbrev pub ShortLine : Version → Rest → Type 0
+ShortLine v c = Short v (c .head) × (Shorts v (c .ins) × (Shorts v (c .outs) × (Shorts v (c .reads) × Shorts v (c .writes))))
 
 -- one byte on, from p at b to q
-pub record Onward (p : Point) (b : ℕ) (c : Line) (t : Lines) (q : Point) (c′ : Line) (t′ : Lines) : Type 0 where
+pub record Onward (v : Version) (p : Point) (b : ℕ) (c : Line) (t : Lines) (q : Point) (c′ : Line) (t′ : Lines) : Type 0 where
   pub same : (s : List ℕ) → sofar q c′ t′ s ≡ sofar p c t (b ∷ s)
-  pub shape : Shape q c′
-  pub line : ShortLine (rest c′)
-  pub lines : ShortLines t′
+  pub shape : Shape v q c′
+  pub line : ShortLine v (rest c′)
+  pub lines : ShortLines v t′

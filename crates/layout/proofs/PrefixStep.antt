@@ -12,6 +12,10 @@ use lib.Dec.{eqb, ltb, leb}
 use lib.ListN.{length, getD, take}
 use lib.Seq.{take-suc, take-all, append-snoc}
 use borrow.Author.Tests.{eqb-true, eqb-false, ltb-true, lt-ltb, le-ltb, leb-true}
+use Rattle.version.specs.Limits.{Limits}
+use Rattle.version.specs.declared.Version.{Version}
+use Rattle.version.proofs.Tens.{tens-mono}
+use Rattle.version.proofs.Limits.{low-short}
 use Rattle.layout.specs.Words.{spelling}
 use Rattle.layout.specs.Text.{Lines, digits, number, entries, listed, stepLine, wordLine, jobLine, Short, ShortForm, ShortLines}
 use Rattle.layout.specs.Points.{digit, alive, expect, chosen, spelt, inList, pastWord, first, ended, more, closed, next}
@@ -22,6 +26,7 @@ use Rattle.layout.specs.declared.Part.{Part}
 use Rattle.layout.specs.declared.Part.the-variants.{OldRoute, NewRoute, JobPart}
 use Rattle.layout.specs.declared.Point.{Point}
 use Rattle.layout.specs.declared.Point.the-variants.{Start, Open, Choice, Letters, Past, Digit, Digits, Gap, Closed, Lf, Stuck}
+use Rattle.layout.proofs.Numbers.{digits-enough}
 use Rattle.layout.proofs.Back.{entriesBack, stepsBack, donesBack, entries-back, shorts-back}
 use Rattle.layout.proofs.Prefix.{rest, above, gapIn, gapOut, gapRead, gapWrite, gap, listOf, upto, lineEnd, sofar, routed, goes, closes, From, After, Wide, Shape, ShortLine, Onward}
 
@@ -59,56 +64,45 @@ digit-bounds b d = (leb-true 48 b (split (leb 48 b) (leb b 57) d .0), leb-true b
     split true y e = (refl, e)
     split false y e = absurd (apart e)
 
-less-fuel : (k n : ℕ) (s : List ℕ) → n < 10 ^ k → 1 ≤ k → digits (suc k) n s ≡ digits k n s
-unfolding digits
-less-fuel zero n s h l = absurd (omega arith)
-less-fuel (suc zero) n s h l =
-    ap (λ (x : Bool). cond x ((48 + n) ∷ s) (digits 1 (n / 10) ((48 + n % 10) ∷ s))) (lt-ltb n 10 h)
-    ∙ sym (ap (λ (x : Bool). cond x ((48 + n) ∷ s) (digits 0 (n / 10) ((48 + n % 10) ∷ s))) (lt-ltb n 10 h))
-less-fuel (suc (suc k)) n s h l = ap (λ (y : List ℕ). cond (ltb n 10) ((48 + n) ∷ s) y) (less-fuel (suc k) (n / 10) ((48 + n % 10) ∷ s) (tenth (10 ^ suc k) (10 ^ suc (suc k)) (pow-suc 10 (suc k)) h) (omega arith))
-  where
-    tenth : (q r : ℕ) → r ≡ q * 10 → n < r → n / 10 < q
-    tenth q r e h = omega arith
-
-grows : (n b : ℕ) (s : List ℕ) → 1 ≤ n → n < 10000 → digit b ≡ true → number (grown n b) s ≡ number n (b ∷ s)
+grows : (n b : ℕ) (s : List ℕ) → 1 ≤ n → n < 10 ^ 19 → digit b ≡ true → number (grown n b) s ≡ number n (b ∷ s)
 unfolding number digits
 grows n b s low high d =
     let bounds = digit-bounds b d in
     let high-digits : grown n b / 10 ≡ n = omega (arith, bounds .0, bounds .1) in
     let low-digit : 48 + grown n b % 10 ≡ b = omega (arith, bounds .0, bounds .1) in
-    ap (λ (x : Bool). cond x ((48 + grown n b) ∷ s) (digits 4 (grown n b / 10) ((48 + grown n b % 10) ∷ s))) (le-ltb (grown n b) 10 (omega (arith, bounds .0)))
-    ∙ ap₂ (λ (m e : ℕ). digits 4 m (e ∷ s)) high-digits low-digit
-    ∙ sym (less-fuel 4 n (b ∷ s) high (omega arith))
+    ap (λ (x : Bool). cond x ((48 + grown n b) ∷ s) (digits 19 (grown n b / 10) ((48 + grown n b % 10) ∷ s))) (le-ltb (grown n b) 10 (omega (arith, bounds .0)))
+    ∙ ap₂ (λ (m e : ℕ). digits 19 m (e ∷ s)) high-digits low-digit
+    ∙ sym (digits-enough 19 18 n (b ∷ s) (omega arith) high)
 
 single : (b : ℕ) (s : List ℕ) → digit b ≡ true → number (b - 48) s ≡ b ∷ s
 unfolding number digits
 single b s d =
     let bounds = digit-bounds b d in
-    ap (λ (x : Bool). cond x ((48 + (b - 48)) ∷ s) (digits 4 ((b - 48) / 10) ((48 + (b - 48) % 10) ∷ s))) (lt-ltb (b - 48) 10 (omega (arith, bounds .0, bounds .1)))
+    ap (λ (x : Bool). cond x ((48 + (b - 48)) ∷ s) (digits 19 ((b - 48) / 10) ((48 + (b - 48) % 10) ∷ s))) (lt-ltb (b - 48) 10 (omega (arith, bounds .0, bounds .1)))
     ∙ ap (λ (m : ℕ). m ∷ s) (omega (arith, bounds .0))
 
 -- ---- the points
 
-module _ (c : Line) (t : Lines) (line : ShortLine (rest c)) (lines : ShortLines t) where
-  at-start : (b : ℕ) → alive (next Start b) ≡ true → Onward Start b c t (next Start b) c t
+module _ (v : Version) (limits : Limits v) (c : Line) (t : Lines) (line : ShortLine v (rest c)) (lines : ShortLines v t) where
+  at-start : (b : ℕ) → alive (next v Start b) ≡ true → Onward v Start b c t (next v Start b) c t
   unfolding next sofar gap
-  at-start b = expected (λ x q. Onward Start x c t q c t) b 40 (Letters Old OldRoute 0) (record { same = λ s. refl; shape = (unfold goes in refl, tt); line = line; lines = lines })
+  at-start b = expected (λ x q. Onward v Start x c t q c t) b 40 (Letters Old OldRoute 0) (record { same = λ s. refl; shape = (unfold goes in refl, tt); line = line; lines = lines })
 
-  at-open : (p : Part) (b : ℕ) → Shape (Open p) c → alive (next (Open p) b) ≡ true → Onward (Open p) b c t (next (Open p) b) c t
+  at-open : (p : Part) (b : ℕ) → Shape v (Open p) c → alive (next v (Open p) b) ≡ true → Onward v (Open p) b c t (next v (Open p) b) c t
   unfolding next sofar
-  at-open p b h = expected (λ x q. Onward (Open p) x c t q c t) b 40 (Choice p) (record { same = λ s. refl; shape = h; line = line; lines = lines })
+  at-open p b h = expected (λ x q. Onward v (Open p) x c t q c t) b 40 (Choice p) (record { same = λ s. refl; shape = h; line = line; lines = lines })
 
-  at-choice : (p : Part) (b : ℕ) → Shape (Choice p) c → alive (next (Choice p) b) ≡ true → Onward (Choice p) b c t (next (Choice p) b) c t
+  at-choice : (p : Part) (b : ℕ) → Shape v (Choice p) c → alive (next v (Choice p) b) ≡ true → Onward v (Choice p) b c t (next v (Choice p) b) c t
   unfolding next chosen sofar gap spelling goes routed
   at-choice OldRoute b h =
-      either (λ x q. Onward (Choice OldRoute) x c t q c t) b 115 (Letters Step OldRoute 1) (expect b 110 (Letters New NewRoute 1))
+      either (λ x q. Onward v (Choice OldRoute) x c t q c t) b 115 (Letters Step OldRoute 1) (expect b 110 (Letters New NewRoute 1))
       (record { same = λ s. refl; shape = (refl, h); line = line; lines = lines })
-      (λ far. expected (λ x q. Onward (Choice OldRoute) x c t q c t) b 110 (Letters New NewRoute 1) (record { same = λ s. refl; shape = (refl, tt); line = line; lines = lines }))
+      (λ far. expected (λ x q. Onward v (Choice OldRoute) x c t q c t) b 110 (Letters New NewRoute 1) (record { same = λ s. refl; shape = (refl, tt); line = line; lines = lines }))
   at-choice NewRoute b h =
-      either (λ x q. Onward (Choice NewRoute) x c t q c t) b 115 (Letters Step NewRoute 1) (expect b 106 (Letters Job JobPart 1))
+      either (λ x q. Onward v (Choice NewRoute) x c t q c t) b 115 (Letters Step NewRoute 1) (expect b 106 (Letters Job JobPart 1))
       (record { same = λ s. refl; shape = (refl, h); line = line; lines = lines })
-      (λ far. expected (λ x q. Onward (Choice NewRoute) x c t q c t) b 106 (Letters Job JobPart 1) (record { same = λ s. refl; shape = (refl, tt); line = line; lines = lines }))
-  at-choice JobPart b h = expected (λ x q. Onward (Choice JobPart) x c t q c t) b 100 (Letters Done JobPart 1) (record { same = λ s. refl; shape = (refl, tt); line = line; lines = lines })
+      (λ far. expected (λ x q. Onward v (Choice NewRoute) x c t q c t) b 106 (Letters Job JobPart 1) (record { same = λ s. refl; shape = (refl, tt); line = line; lines = lines }))
+  at-choice JobPart b h = expected (λ x q. Onward v (Choice JobPart) x c t q c t) b 100 (Letters Done JobPart 1) (record { same = λ s. refl; shape = (refl, tt); line = line; lines = lines })
 
   from-after : (w : Word) → From w (rest c) → After w (rest c)
   from-after Old h = h
@@ -133,7 +127,7 @@ module _ (c : Line) (t : Lines) (line : ShortLine (rest c)) (lines : ShortLines 
   from-empty Read h = h .0
   from-empty Write h = h
 
-  at-letters : (w : Word) (p : Part) (k b : ℕ) → Shape (Letters w p k) c → alive (next (Letters w p k) b) ≡ true → Onward (Letters w p k) b c t (next (Letters w p k) b) c t
+  at-letters : (w : Word) (p : Part) (k b : ℕ) → Shape v (Letters w p k) c → alive (next v (Letters w p k) b) ≡ true → Onward v (Letters w p k) b c t (next v (Letters w p k) b) c t
   unfolding next spelt sofar upto entriesBack
   at-letters w p k b h = inside (ltb k (length (spelling w))) refl
     where
@@ -143,7 +137,7 @@ module _ (c : Line) (t : Lines) (line : ShortLine (rest c)) (lines : ShortLines 
       target : Bool → Point
       target x = cond x (Past w p) (Letters w p (k + 1))
 
-      reached : (x : Bool) → eqb (k + 1) (length (spelling w)) ≡ x → k < length (spelling w) → Onward (Letters w p k) (getD (spelling w) k 0) c t (target x) c t
+      reached : (x : Bool) → eqb (k + 1) (length (spelling w)) ≡ x → k < length (spelling w) → Onward v (Letters w p k) (getD (spelling w) k 0) c t (target x) c t
       reached true e room =
           record {
             same = λ s.
@@ -163,116 +157,106 @@ module _ (c : Line) (t : Lines) (line : ShortLine (rest c)) (lines : ShortLines 
             lines = lines;
           }
 
-      inside : (x : Bool) → ltb k (length (spelling w)) ≡ x → alive (cond x (expect b (getD (spelling w) k 0) (target (eqb (k + 1) (length (spelling w))))) Stuck) ≡ true → Onward (Letters w p k) b c t (cond x (expect b (getD (spelling w) k 0) (target (eqb (k + 1) (length (spelling w))))) Stuck) c t
-      inside true e l = expected (λ x q. Onward (Letters w p k) x c t q c t) b (getD (spelling w) k 0) (target (eqb (k + 1) (length (spelling w)))) (reached (eqb (k + 1) (length (spelling w))) refl (ltb-true k (length (spelling w)) e)) l
+      inside : (x : Bool) → ltb k (length (spelling w)) ≡ x → alive (cond x (expect b (getD (spelling w) k 0) (target (eqb (k + 1) (length (spelling w))))) Stuck) ≡ true → Onward v (Letters w p k) b c t (cond x (expect b (getD (spelling w) k 0) (target (eqb (k + 1) (length (spelling w))))) Stuck) c t
+      inside true e l = expected (λ x q. Onward v (Letters w p k) x c t q c t) b (getD (spelling w) k 0) (target (eqb (k + 1) (length (spelling w)))) (reached (eqb (k + 1) (length (spelling w))) refl (ltb-true k (length (spelling w)) e)) l
       inside false e l = absurd (never l)
 
-  at-list : (w : Word) (p : Part) (b : ℕ) (c′ : Line) (from : Point) → ((s : List ℕ) → upto w p (rest c′) t s ≡ sofar from c t s) → Shape (Closed w p) c′ → ShortLine (rest c′) → alive (inList w p b) ≡ true → Onward from b c t (inList w p b) c′ t
+  at-list : (w : Word) (p : Part) (b : ℕ) (c′ : Line) (from : Point) → ((s : List ℕ) → upto w p (rest c′) t s ≡ sofar from c t s) → Shape v (Closed w p) c′ → ShortLine v (rest c′) → alive (inList w p b) ≡ true → Onward v from b c t (inList w p b) c′ t
   unfolding inList sofar
   at-list w p b c′ from same h short =
-      either (λ x q. Onward from x c t q c′ t) b 32 (Digit w p) (expect b 41 (Closed w p))
+      either (λ x q. Onward v from x c t q c′ t) b 32 (Digit w p) (expect b 41 (Closed w p))
       (record { same = λ s. same (32 ∷ s); shape = h; line = short; lines = lines })
-      (λ far. expected (λ x q. Onward from x c t q c′ t) b 41 (Closed w p) (record { same = λ s. same (41 ∷ s); shape = h; line = short; lines = lines }))
+      (λ far. expected (λ x q. Onward v from x c t q c′ t) b 41 (Closed w p) (record { same = λ s. same (41 ∷ s); shape = h; line = short; lines = lines }))
 
-  at-past : (w : Word) (p : Part) (b : ℕ) → Shape (Past w p) c → alive (next (Past w p) b) ≡ true → Onward (Past w p) b c t (next (Past w p) b) c t
+  at-past : (w : Word) (p : Part) (b : ℕ) → Shape v (Past w p) c → alive (next v (Past w p) b) ≡ true → Onward v (Past w p) b c t (next v (Past w p) b) c t
   unfolding next pastWord sofar lineEnd closes
-  at-past Old p b h = expected (λ x q. Onward (Past Old p) x c t q c t) b 32 (Digit Old p) (record { same = λ s. refl; shape = h; line = line; lines = lines })
-  at-past New p b h = expected (λ x q. Onward (Past New p) x c t q c t) b 32 (Digit New p) (record { same = λ s. refl; shape = h; line = line; lines = lines })
-  at-past Done p b h = expected (λ x q. Onward (Past Done p) x c t q c t) b 32 (Digit Done p) (record { same = λ s. refl; shape = h; line = line; lines = lines })
-  at-past Step p b h = expected (λ x q. Onward (Past Step p) x c t q c t) b 32 (Digit Step p) (record { same = λ s. refl; shape = h; line = line; lines = lines })
-  at-past Job p b h = expected (λ x q. Onward (Past Job p) x c t q c t) b 41 (Lf Job p) (record { same = λ s. refl; shape = h .0; line = line; lines = lines })
+  at-past Old p b h = expected (λ x q. Onward v (Past Old p) x c t q c t) b 32 (Digit Old p) (record { same = λ s. refl; shape = h; line = line; lines = lines })
+  at-past New p b h = expected (λ x q. Onward v (Past New p) x c t q c t) b 32 (Digit New p) (record { same = λ s. refl; shape = h; line = line; lines = lines })
+  at-past Done p b h = expected (λ x q. Onward v (Past Done p) x c t q c t) b 32 (Digit Done p) (record { same = λ s. refl; shape = h; line = line; lines = lines })
+  at-past Step p b h = expected (λ x q. Onward v (Past Step p) x c t q c t) b 32 (Digit Step p) (record { same = λ s. refl; shape = h; line = line; lines = lines })
+  at-past Job p b h = expected (λ x q. Onward v (Past Job p) x c t q c t) b 41 (Lf Job p) (record { same = λ s. refl; shape = h .0; line = line; lines = lines })
   at-past In p b h = at-list In p b c (Past In p) (λ s. refl) h line
   at-past Out p b h = at-list Out p b c (Past Out p) (λ s. refl) h line
   at-past Read p b h = at-list Read p b c (Past Read p) (λ s. refl) h line
   at-past Write p b h = at-list Write p b c (Past Write p) (λ s. refl) h line
 
-  at-digit : (w : Word) (p : Part) (b : ℕ) → Shape (Digit w p) c → alive (next (Digit w p) b) ≡ true → Onward (Digit w p) b c t (next (Digit w p) b) (withNum (b - 48) c) t
+  at-digit : (w : Word) (p : Part) (b : ℕ) → Shape v (Digit w p) c → alive (next v (Digit w p) b) ≡ true → Onward v (Digit w p) b c t (next v (Digit w p) b) (withNum (b - 48) c) t
   unfolding next first sofar number digits
   at-digit w p b h =
-      either (λ x q. Onward (Digit w p) x c t q (withNum (x - 48) c) t) b 48 (Digits w p 5) (cond (digit b) (Digits w p 1) Stuck)
-      (record { same = λ s. refl; shape = (h, (omega arith, inr (refl, refl))); line = line; lines = lines })
+      either (λ x q. Onward v (Digit w p) x c t q (withNum (x - 48) c) t) b 48 (Digits w p 0) (cond (digit b) (Digits w p (v .digits - 1)) Stuck)
+      (record { same = λ s. refl; shape = (h, (omega (arith, limits .two), inr (refl, refl))); line = line; lines = lines })
       other
     where
-      other : eqb b 48 ≡ false → alive (cond (digit b) (Digits w p 1) Stuck) ≡ true → Onward (Digit w p) b c t (cond (digit b) (Digits w p 1) Stuck) (withNum (b - 48) c) t
+      other : eqb b 48 ≡ false → alive (cond (digit b) (Digits w p (v .digits - 1)) Stuck) ≡ true → Onward v (Digit w p) b c t (cond (digit b) (Digits w p (v .digits - 1)) Stuck) (withNum (b - 48) c) t
       other z = go (digit b) refl
         where
-          go : (x : Bool) → digit b ≡ x → alive (cond x (Digits w p 1) Stuck) ≡ true → Onward (Digit w p) b c t (cond x (Digits w p 1) Stuck) (withNum (b - 48) c) t
+          go : (x : Bool) → digit b ≡ x → alive (cond x (Digits w p (v .digits - 1)) Stuck) ≡ true → Onward v (Digit w p) b c t (cond x (Digits w p (v .digits - 1)) Stuck) (withNum (b - 48) c) t
           go true e l =
               let bounds = digit-bounds b e in
               let far : (b ≡ 48) → ⊥ = eqb-false b 48 z in
-              record { same = λ s. ap (λ (m : List ℕ). upto w p (rest c) t (32 ∷ m)) (single b s e); shape = (h, (omega arith, inl (omega arith, omega arith))); line = line; lines = lines }
+              let left : 1 ≡ v .digits - (v .digits - 1) = omega (arith, limits .two) in
+              let one = subst (λ (m : ℕ). b - 48 < 10 ^ m) left (omega arith) in
+              record { same = λ s. ap (λ (m : List ℕ). upto w p (rest c) t (32 ∷ m)) (single b s e); shape = (h, (omega (arith, limits .two), inl (omega arith, one))); line = line; lines = lines }
           go false e l = absurd (never l)
 
-  -- a number in hand is short, and one that may have another digit has at most four
-  wide-short : (k n : ℕ) → Wide k n → Short n
-  wide-short k n h = ⊎-elim (λ w. few k (h .0) (w .1)) (λ w. omega (arith, w .0)) (h .1)
-    where
-      few : (k : ℕ) → k ≤ 5 → n < 10 ^ k → n < 100000
-      few zero r q = omega arith
-      few (suc zero) r q = omega arith
-      few (suc (suc zero)) r q = omega arith
-      few (suc (suc (suc zero))) r q = omega arith
-      few (suc (suc (suc (suc zero)))) r q = omega arith
-      few (suc (suc (suc (suc (suc zero))))) r q = q
-      few (suc (suc (suc (suc (suc (suc k)))))) r q = absurd (omega arith)
+  -- a number in hand is short, and one that may have another digit is no lone 0
+  wide-short : (k n : ℕ) → Wide v k n → Short v n
+  wide-short k n h =
+      ⊎-elim (λ w. omega (arith, w .1, tens-mono (v .digits - k) (v .digits) (omega arith)))
+      (λ w. low-short v limits n (omega (arith, w .0))) (h .1)
 
-  wide-more : (k n : ℕ) → k < 5 → Wide k n → (1 ≤ n) × (n < 10000) × (n < 10 ^ k)
-  wide-more k n room h = ⊎-elim (λ w. (w .0, few k room (w .1), w .1)) (λ w. absurd (omega (arith, w .1))) (h .1)
-    where
-      few : (k : ℕ) → k < 5 → n < 10 ^ k → n < 10000
-      few zero r q = omega arith
-      few (suc zero) r q = omega arith
-      few (suc (suc zero)) r q = omega arith
-      few (suc (suc (suc zero))) r q = omega arith
-      few (suc (suc (suc (suc zero)))) r q = q
-      few (suc (suc (suc (suc (suc k))))) r q = absurd (omega arith)
+  wide-more : (k n : ℕ) → 1 ≤ k → Wide v k n → (1 ≤ n) × (n < 10 ^ (v .digits - k)) × (n < 10 ^ 19)
+  wide-more k n room h =
+      ⊎-elim (λ w. (w .0, w .1, omega (arith, w .1, tens-mono (v .digits - k) 19 (omega (arith, limits .ten)))))
+      (λ w. absurd (omega (arith, w .1))) (h .1)
 
-  at-ended : (w : Word) (p : Part) (k b : ℕ) → Shape (Digits w p k) c → alive (ended w p b) ≡ true → Onward (Digits w p k) b c t (ended w p b) (stored w c) t
+  at-ended : (w : Word) (p : Part) (k b : ℕ) → Shape v (Digits w p k) c → alive (ended w p b) ≡ true → Onward v (Digits w p k) b c t (ended w p b) (stored w c) t
   unfolding ended stored closes sofar lineEnd upto gap listOf gapIn gapOut gapRead gapWrite entriesBack
-  at-ended Old p k b h = expected (λ x q. Onward (Digits Old p k) x c t q (stored Old c) t) b 41 (Lf Old p) (record { same = λ s. refl; shape = h .0 .0; line = (wide-short k (c .num) (h .1), line .1); lines = lines })
-  at-ended New p k b h = expected (λ x q. Onward (Digits New p k) x c t q (stored New c) t) b 41 (Lf New p) (record { same = λ s. refl; shape = h .0 .0; line = (wide-short k (c .num) (h .1), line .1); lines = lines })
-  at-ended Done p k b h = expected (λ x q. Onward (Digits Done p k) x c t q (stored Done c) t) b 41 (Lf Done p) (record { same = λ s. refl; shape = h .0 .0; line = (wide-short k (c .num) (h .1), line .1); lines = lines })
-  at-ended Step p k b h = expected (λ x q. Onward (Digits Step p k) x c t q (stored Step c) t) b 32 (Gap In p) (record { same = λ s. unfold spelling in refl; shape = unfold goes in h .0; line = (wide-short k (c .num) (h .1), line .1); lines = lines })
+  at-ended Old p k b h = expected (λ x q. Onward v (Digits Old p k) x c t q (stored Old c) t) b 41 (Lf Old p) (record { same = λ s. refl; shape = h .0 .0; line = (wide-short k (c .num) (h .1), line .1); lines = lines })
+  at-ended New p k b h = expected (λ x q. Onward v (Digits New p k) x c t q (stored New c) t) b 41 (Lf New p) (record { same = λ s. refl; shape = h .0 .0; line = (wide-short k (c .num) (h .1), line .1); lines = lines })
+  at-ended Done p k b h = expected (λ x q. Onward v (Digits Done p k) x c t q (stored Done c) t) b 41 (Lf Done p) (record { same = λ s. refl; shape = h .0 .0; line = (wide-short k (c .num) (h .1), line .1); lines = lines })
+  at-ended Step p k b h = expected (λ x q. Onward v (Digits Step p k) x c t q (stored Step c) t) b 32 (Gap In p) (record { same = λ s. unfold spelling in refl; shape = unfold goes in h .0; line = (wide-short k (c .num) (h .1), line .1); lines = lines })
   at-ended Job p k b h = λ l. absurd (never l)
   at-ended In p k b h = at-list In p b (stored In c) (Digits In p k) (λ s. refl) (h .0) (line .0, ((wide-short k (c .num) (h .1), line .1 .0), line .1 .1))
   at-ended Out p k b h = at-list Out p b (stored Out c) (Digits Out p k) (λ s. refl) (h .0) (line .0, (line .1 .0, ((wide-short k (c .num) (h .1), line .1 .1 .0), line .1 .1 .1)))
   at-ended Read p k b h = at-list Read p b (stored Read c) (Digits Read p k) (λ s. refl) (h .0) (line .0, (line .1 .0, (line .1 .1 .0, ((wide-short k (c .num) (h .1), line .1 .1 .1 .0), line .1 .1 .1 .1))))
   at-ended Write p k b h = at-list Write p b (stored Write c) (Digits Write p k) (λ s. refl) (h .0) (line .0, (line .1 .0, (line .1 .1 .0, (line .1 .1 .1 .0, (wide-short k (c .num) (h .1), line .1 .1 .1 .1)))))
 
-  at-digits : (w : Word) (p : Part) (k b : ℕ) → Shape (Digits w p k) c → alive (next (Digits w p k) b) ≡ true → Onward (Digits w p k) b c t (next (Digits w p k) b) (took (Digits w p k) b c) t
+  at-digits : (w : Word) (p : Part) (k b : ℕ) → Shape v (Digits w p k) c → alive (next v (Digits w p k) b) ≡ true → Onward v (Digits w p k) b c t (next v (Digits w p k) b) (took (Digits w p k) b c) t
   unfolding next more took sofar
   at-digits w p k b h = go (digit b) refl
     where
-      grow : digit b ≡ true → k < 5 → Onward (Digits w p k) b c t (Digits w p (k + 1)) (withNum (grown (c .num) b) c) t
+      grow : digit b ≡ true → 1 ≤ k → Onward v (Digits w p k) b c t (Digits w p (k - 1)) (withNum (grown (c .num) b) c) t
       grow e room =
           let few = wide-more k (c .num) room (h .1) in
           let bounds = digit-bounds b e in
-          let up : 10 ^ (k + 1) ≡ 10 ^ k * 10 = ap (λ (n : ℕ). 10 ^ n) (add-one k) ∙ pow-suc 10 k in
+          let left : v .digits - (k - 1) ≡ suc (v .digits - k) = omega (arith, h .1 .0) in
+          let up : 10 ^ (v .digits - (k - 1)) ≡ 10 ^ (v .digits - k) * 10 = ap (λ (n : ℕ). 10 ^ n) left ∙ pow-suc 10 (v .digits - k) in
           record {
-            same = λ s. ap (λ (m : List ℕ). upto w p (rest c) t (32 ∷ m)) (grows (c .num) b s (few .0) (few .1) e);
+            same = λ s. ap (λ (m : List ℕ). upto w p (rest c) t (32 ∷ m)) (grows (c .num) b s (few .0) (few .2) e);
             shape = (h .0, (omega arith, inl (omega (arith, few .0, few .1), omega (arith, few .1, few .2))));
             line = line;
             lines = lines;
           }
 
-      inner : (x : Bool) → ltb k 5 ≡ x → digit b ≡ true → alive (cond x (Digits w p (k + 1)) Stuck) ≡ true → Onward (Digits w p k) b c t (cond x (Digits w p (k + 1)) Stuck) (withNum (grown (c .num) b) c) t
-      inner true r e l = grow e (ltb-true k 5 r)
+      inner : (x : Bool) → ltb 0 k ≡ x → digit b ≡ true → alive (cond x (Digits w p (k - 1)) Stuck) ≡ true → Onward v (Digits w p k) b c t (cond x (Digits w p (k - 1)) Stuck) (withNum (grown (c .num) b) c) t
+      inner true r e l = grow e (ltb-true 0 k r)
       inner false r e l = absurd (never l)
 
-      go : (x : Bool) → digit b ≡ x → alive (cond x (cond (ltb k 5) (Digits w p (k + 1)) Stuck) (ended w p b)) ≡ true → Onward (Digits w p k) b c t (cond x (cond (ltb k 5) (Digits w p (k + 1)) Stuck) (ended w p b)) (cond x (withNum (grown (c .num) b) c) (stored w c)) t
-      go true e l = inner (ltb k 5) refl e l
+      go : (x : Bool) → digit b ≡ x → alive (cond x (cond (ltb 0 k) (Digits w p (k - 1)) Stuck) (ended w p b)) ≡ true → Onward v (Digits w p k) b c t (cond x (cond (ltb 0 k) (Digits w p (k - 1)) Stuck) (ended w p b)) (cond x (withNum (grown (c .num) b) c) (stored w c)) t
+      go true e l = inner (ltb 0 k) refl e l
       go false e l = at-ended w p k b h l
 
-  at-gap : (w : Word) (p : Part) (b : ℕ) → Shape (Gap w p) c → alive (next (Gap w p) b) ≡ true → Onward (Gap w p) b c t (next (Gap w p) b) c t
+  at-gap : (w : Word) (p : Part) (b : ℕ) → Shape v (Gap w p) c → alive (next v (Gap w p) b) ≡ true → Onward v (Gap w p) b c t (next v (Gap w p) b) c t
   unfolding next sofar
-  at-gap w p b h = expected (λ x q. Onward (Gap w p) x c t q c t) b 40 (Letters w p 0) (record { same = λ s. refl; shape = h; line = line; lines = lines })
+  at-gap w p b h = expected (λ x q. Onward v (Gap w p) x c t q c t) b 40 (Letters w p 0) (record { same = λ s. refl; shape = h; line = line; lines = lines })
 
-  at-closed : (w : Word) (p : Part) (b : ℕ) → Shape (Closed w p) c → alive (next (Closed w p) b) ≡ true → Onward (Closed w p) b c t (next (Closed w p) b) c t
+  at-closed : (w : Word) (p : Part) (b : ℕ) → Shape v (Closed w p) c → alive (next v (Closed w p) b) ≡ true → Onward v (Closed w p) b c t (next v (Closed w p) b) c t
   unfolding next closed closes sofar lineEnd upto gap listOf gapOut gapRead gapWrite goes
-  at-closed In p b h = expected (λ x q. Onward (Closed In p) x c t q c t) b 32 (Gap Out p) (record { same = λ s. refl; shape = h; line = line; lines = lines })
-  at-closed Out p b h = expected (λ x q. Onward (Closed Out p) x c t q c t) b 32 (Gap Read p) (record { same = λ s. refl; shape = h; line = line; lines = lines })
-  at-closed Read p b h = expected (λ x q. Onward (Closed Read p) x c t q c t) b 32 (Gap Write p) (record { same = λ s. refl; shape = h; line = line; lines = lines })
-  at-closed Write p b h = expected (λ x q. Onward (Closed Write p) x c t q c t) b 41 (Lf Write p) (record { same = λ s. refl; shape = h .0; line = line; lines = lines })
+  at-closed In p b h = expected (λ x q. Onward v (Closed In p) x c t q c t) b 32 (Gap Out p) (record { same = λ s. refl; shape = h; line = line; lines = lines })
+  at-closed Out p b h = expected (λ x q. Onward v (Closed Out p) x c t q c t) b 32 (Gap Read p) (record { same = λ s. refl; shape = h; line = line; lines = lines })
+  at-closed Read p b h = expected (λ x q. Onward v (Closed Read p) x c t q c t) b 32 (Gap Write p) (record { same = λ s. refl; shape = h; line = line; lines = lines })
+  at-closed Write p b h = expected (λ x q. Onward v (Closed Write p) x c t q c t) b 41 (Lf Write p) (record { same = λ s. refl; shape = h .0; line = line; lines = lines })
   at-closed Old p b h = λ l. absurd (never l)
   at-closed New p b h = λ l. absurd (never l)
   at-closed Job p b h = λ l. absurd (never l)
@@ -297,16 +281,16 @@ step-back c s =
     (listed-back Read (c .reads) _
     ∙ ap (λ (y : List ℕ). 32 ∷ 40 ∷ (spelling Read ++ entriesBack (c .reads) (41 ∷ y))) (listed-back Write (c .writes) (41 ∷ 10 ∷ s)))))
 
-no-line-short : ShortLine (rest noLine)
-no-line-short = (omega arith, (tt, (tt, (tt, tt))))
+no-line-short : (v : Version) → Limits v → ShortLine v (rest noLine)
+no-line-short v limits = (low-short v limits 0 (omega arith), (tt, (tt, (tt, tt))))
 
-form-short : (c : Line) → ShortLine (rest c) → ShortForm (formOf c)
-form-short c h = record { name = h .0; ins = shorts-back (c .ins) [] (h .1 .0) tt; outs = shorts-back (c .outs) [] (h .1 .1 .0) tt; reads = shorts-back (c .reads) [] (h .1 .1 .1 .0) tt; writes = shorts-back (c .writes) [] (h .1 .1 .1 .1) tt }
+form-short : (v : Version) (c : Line) → ShortLine v (rest c) → ShortForm v (formOf c)
+form-short v c h = record { name = h .0; ins = shorts-back v (c .ins) [] (h .1 .0) tt; outs = shorts-back v (c .outs) [] (h .1 .1 .0) tt; reads = shorts-back v (c .reads) [] (h .1 .1 .1 .0) tt; writes = shorts-back v (c .writes) [] (h .1 .1 .1 .1) tt }
 
-module _ (c : Line) (t : Lines) (line : ShortLine (rest c)) (lines : ShortLines t) where
-  line-on : (w : Word) (p : Part) → closes w p ≡ true → ((s : List ℕ) → above p (putLine w p c t) s ≡ lineEnd w p (rest c) t (10 ∷ s)) × ShortLines (putLine w p c t)
+module _ (v : Version) (limits : Limits v) (c : Line) (t : Lines) (line : ShortLine v (rest c)) (lines : ShortLines v t) where
+  line-on : (w : Word) (p : Part) → closes w p ≡ true → ((s : List ℕ) → above p (putLine w p c t) s ≡ lineEnd w p (rest c) t (10 ∷ s)) × ShortLines v (putLine w p c t)
   unfolding closes goes routed above putLine putStep lineEnd upto gap gapIn gapOut gapRead gapWrite listOf wordLine jobLine spelling entriesBack stepsBack donesBack
-  line-on Old OldRoute g = (λ s. refl, record { oldPlaces = line .0; old = tt; newPlaces = omega arith; new = tt; done = tt })
+  line-on Old OldRoute g = (λ s. refl, record { oldPlaces = line .0; old = tt; newPlaces = low-short v limits 0 (omega arith); new = tt; done = tt })
   line-on Old NewRoute g = absurd (apart g)
   line-on Old JobPart g = absurd (apart g)
   line-on New OldRoute g = absurd (apart g)
@@ -322,27 +306,27 @@ module _ (c : Line) (t : Lines) (line : ShortLine (rest c)) (lines : ShortLines 
   line-on In p g = absurd (apart g)
   line-on Out p g = absurd (apart g)
   line-on Read p g = absurd (apart g)
-  line-on Write OldRoute g = (λ s. ap (λ (y : List ℕ). wordLine Old (t .oldPlaces) (stepsBack (t .old) y)) (step-back c s), record { oldPlaces = lines .oldPlaces; old = (form-short c line, lines .old); newPlaces = lines .newPlaces; new = lines .new; done = lines .done })
-  line-on Write NewRoute g = (λ s. ap (λ (y : List ℕ). wordLine Old (t .oldPlaces) (stepsBack (t .old) (wordLine New (t .newPlaces) (stepsBack (t .new) y)))) (step-back c s), record { oldPlaces = lines .oldPlaces; old = lines .old; newPlaces = lines .newPlaces; new = (form-short c line, lines .new); done = lines .done })
+  line-on Write OldRoute g = (λ s. ap (λ (y : List ℕ). wordLine Old (t .oldPlaces) (stepsBack (t .old) y)) (step-back c s), record { oldPlaces = lines .oldPlaces; old = (form-short v c line, lines .old); newPlaces = lines .newPlaces; new = lines .new; done = lines .done })
+  line-on Write NewRoute g = (λ s. ap (λ (y : List ℕ). wordLine Old (t .oldPlaces) (stepsBack (t .old) (wordLine New (t .newPlaces) (stepsBack (t .new) y)))) (step-back c s), record { oldPlaces = lines .oldPlaces; old = lines .old; newPlaces = lines .newPlaces; new = (form-short v c line, lines .new); done = lines .done })
   line-on Write JobPart g = absurd (apart g)
 
-  at-lf : (w : Word) (p : Part) (b : ℕ) → Shape (Lf w p) c → alive (next (Lf w p) b) ≡ true → Onward (Lf w p) b c t (next (Lf w p) b) noLine (putLine w p c t)
+  at-lf : (w : Word) (p : Part) (b : ℕ) → Shape v (Lf w p) c → alive (next v (Lf w p) b) ≡ true → Onward v (Lf w p) b c t (next v (Lf w p) b) noLine (putLine w p c t)
   unfolding next sofar
   at-lf w p b h =
       let on = line-on w p h in
-      expected (λ x q. Onward (Lf w p) x c t q noLine (putLine w p c t)) b 10 (Open p) (record { same = on .0; shape = (refl, (refl, (refl, refl))); line = no-line-short; lines = on .1 })
+      expected (λ x q. Onward v (Lf w p) x c t q noLine (putLine w p c t)) b 10 (Open p) (record { same = on .0; shape = (refl, (refl, (refl, refl))); line = no-line-short v limits; lines = on .1 })
 
   -- every byte that the layout has
-  pub onward : (p : Point) (b : ℕ) → Shape p c → alive (next p b) ≡ true → Onward p b c t (next p b) (took p b c) (keep p c t)
+  pub onward : (p : Point) (b : ℕ) → Shape v p c → alive (next v p b) ≡ true → Onward v p b c t (next v p b) (took p b c) (keep p c t)
   unfolding took keep
-  onward Start b h l = at-start c t line lines b l
-  onward (Open p) b h l = at-open c t line lines p b h l
-  onward (Choice p) b h l = at-choice c t line lines p b h l
-  onward (Letters w p k) b h l = at-letters c t line lines w p k b h l
-  onward (Past w p) b h l = at-past c t line lines w p b h l
-  onward (Digit w p) b h l = at-digit c t line lines w p b h l
-  onward (Digits w p k) b h l = at-digits c t line lines w p k b h l
-  onward (Gap w p) b h l = at-gap c t line lines w p b h l
-  onward (Closed w p) b h l = at-closed c t line lines w p b h l
+  onward Start b h l = at-start v limits c t line lines b l
+  onward (Open p) b h l = at-open v limits c t line lines p b h l
+  onward (Choice p) b h l = at-choice v limits c t line lines p b h l
+  onward (Letters w p k) b h l = at-letters v limits c t line lines w p k b h l
+  onward (Past w p) b h l = at-past v limits c t line lines w p b h l
+  onward (Digit w p) b h l = at-digit v limits c t line lines w p b h l
+  onward (Digits w p k) b h l = at-digits v limits c t line lines w p k b h l
+  onward (Gap w p) b h l = at-gap v limits c t line lines w p b h l
+  onward (Closed w p) b h l = at-closed v limits c t line lines w p b h l
   onward (Lf w p) b h l = at-lf w p b h l
   onward Stuck b h l = absurd (never (unfold next in l))

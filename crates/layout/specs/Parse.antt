@@ -1,7 +1,8 @@
 -- Reading: from point to point through the bytes, gathering the lines. Lists are gathered with the latest first.
 use mathlib.Core.Bool.{cond}
 use mathlib.Core.List.{List, [], _∷_, reverse}
-use Prim.Native.Nat.{ℕ, _+_, _-_, _*_, _%_}
+use Prim.Native.Nat.{ℕ, _+_, _-_, _*_}
+use Rattle.version.specs.declared.Version.{Version}
 use Rattle.layout.specs.Text.{Form, Lines}
 use Rattle.layout.specs.Points.{digit, alive, next}
 use Rattle.layout.specs.declared.Word.{Word}
@@ -26,9 +27,9 @@ noLine = record { num = 0; head = 0; ins = []; outs = []; reads = []; writes = [
 abbrev pub withNum : ℕ → Line → Line
 withNum n c = record { num = n; head = c .head; ins = c .ins; outs = c .outs; reads = c .reads; writes = c .writes }
 
--- one more digit. (The remainder never shows: a sixth digit breaks the layout.)
+-- one more digit
 abbrev pub grown : ℕ → ℕ → ℕ
-grown n b = n % 100000 * 10 + (b - 48)
+grown n b = n * 10 + (b - 48)
 
 -- a number that has ended goes where the word says
 unfoldable pub stored : Word → Line → Line
@@ -118,9 +119,9 @@ atEnd (Closed w p) t = broken []
 atEnd (Lf w p) t = broken []
 atEnd Stuck t = broken []
 
-unfoldable pub run : Point → Line → Lines → List ℕ → Parsed
-run p c t [] = atEnd p t
-run p c t (b ∷ s) = cond (alive (next p b)) (run (next p b) (took p b c) (keep p c t) s) (broken (b ∷ s))
+unfoldable pub run : Version → Point → Line → Lines → List ℕ → Parsed
+run v p c t [] = atEnd p t
+run v p c t (b ∷ s) = cond (alive (next v p b)) (run v (next v p b) (took p b c) (keep p c t) s) (broken (b ∷ s))
 
-unfoldable pub parse : List ℕ → Parsed
-parse s = run Start noLine noLines s
+unfoldable pub parse : Version → List ℕ → Parsed
+parse v s = run v Start noLine noLines s

@@ -1,8 +1,9 @@
 -- The points of the layout, and the step from one to the next. The theorems of proofs/ say that this is the text of specs/Text.antt.
 use mathlib.Core.Bool.{Bool, true, false, cond, _&&_}
-use Prim.Native.Nat.{ℕ, _+_}
+use Prim.Native.Nat.{ℕ, _+_, _-_}
 use lib.Dec.{eqb, ltb, leb}
 use lib.ListN.{length, getD}
+use Rattle.version.specs.declared.Version.{Version}
 use Rattle.layout.specs.Words.{spelling}
 use Rattle.layout.specs.declared.Word.{Word}
 use Rattle.layout.specs.declared.Word.the-variants.{Old, New, Job, Done, Step, In, Out, Read, Write}
@@ -59,8 +60,9 @@ pastWord Out p b = inList Out p b
 pastWord Read p b = inList Read p b
 pastWord Write p b = inList Write p b
 
-unfoldable pub first : Word → Part → ℕ → Point
-first w p b = cond (eqb b 48) (Digits w p 5) (cond (digit b) (Digits w p 1) Stuck)
+-- a number's first digit: nothing follows a 0, and past another all but one of the version's digits may follow
+unfoldable pub first : Version → Word → Part → ℕ → Point
+first v w p b = cond (eqb b 48) (Digits w p 0) (cond (digit b) (Digits w p (v .digits - 1)) Stuck)
 
 -- past a number
 unfoldable pub ended : Word → Part → ℕ → Point
@@ -75,7 +77,7 @@ ended Read p b = inList Read p b
 ended Write p b = inList Write p b
 
 unfoldable pub more : Word → Part → ℕ → ℕ → Point
-more w p k b = cond (digit b) (cond (ltb k 5) (Digits w p (k + 1)) Stuck) (ended w p b)
+more w p k b = cond (digit b) (cond (ltb 0 k) (Digits w p (k - 1)) Stuck) (ended w p b)
 
 -- past a list
 unfoldable pub closed : Word → Part → ℕ → Point
@@ -89,15 +91,15 @@ closed Job p b = Stuck
 closed Done p b = Stuck
 closed Step p b = Stuck
 
-unfoldable pub next : Point → ℕ → Point
-next Start b = expect b 40 (Letters Old OldRoute 0)
-next (Open p) b = expect b 40 (Choice p)
-next (Choice p) b = chosen p b
-next (Letters w p k) b = spelt w p k b
-next (Past w p) b = pastWord w p b
-next (Digit w p) b = first w p b
-next (Digits w p k) b = more w p k b
-next (Gap w p) b = expect b 40 (Letters w p 0)
-next (Closed w p) b = closed w p b
-next (Lf w p) b = expect b 10 (Open p)
-next Stuck b = Stuck
+unfoldable pub next : Version → Point → ℕ → Point
+next v Start b = expect b 40 (Letters Old OldRoute 0)
+next v (Open p) b = expect b 40 (Choice p)
+next v (Choice p) b = chosen p b
+next v (Letters w p k) b = spelt w p k b
+next v (Past w p) b = pastWord w p b
+next v (Digit w p) b = first v w p b
+next v (Digits w p k) b = more w p k b
+next v (Gap w p) b = expect b 40 (Letters w p 0)
+next v (Closed w p) b = closed w p b
+next v (Lf w p) b = expect b 10 (Open p)
+next v Stuck b = Stuck

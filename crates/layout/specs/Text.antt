@@ -2,8 +2,9 @@
 -- the brackets, 32 the space, 10 the LF, 48 the digit 0.
 use mathlib.Core.Bool.{cond}
 use mathlib.Core.List.{List, [], _∷_, _++_}
-use Prim.Native.Nat.{ℕ, zero, suc, _+_, _/_, _%_, _<_}
+use Prim.Native.Nat.{ℕ, zero, suc, _+_, _/_, _%_, _^_, _<_}
 use lib.Dec.{ltb}
+use Rattle.version.specs.declared.Version.{Version}
 use Rattle.layout.specs.Words.{spelling}
 use Rattle.layout.specs.declared.Word.{Word}
 use Rattle.layout.specs.declared.Word.the-variants.{Old, New, Job, Done, Step, In, Out, Read, Write}
@@ -29,9 +30,9 @@ unfoldable pub digits : ℕ → ℕ → List ℕ → List ℕ
 digits zero n s = s
 digits (suc k) n s = cond (ltb n 10) ((48 + n) ∷ s) (digits k (n / 10) ((48 + n % 10) ∷ s))
 
--- "A number has one to five digits"
+-- no number of 64 bits has more than 20. (How many a version allows is `Short`'s matter: the text is the same.)
 unfoldable pub number : ℕ → List ℕ → List ℕ
-number n s = digits 5 n s
+number n s = digits 20 n s
 
 -- "between two entries stands one space": a space and a number for each
 unfoldable pub entries : List ℕ → List ℕ → List ℕ
@@ -71,28 +72,28 @@ jobText done = jobLine (doneLines done [])
 unfoldable pub text : Lines → List ℕ
 text x = wordLine Old (x .oldPlaces) (stepLines (x .old) (wordLine New (x .newPlaces) (stepLines (x .new) (jobText (x .done)))))
 
--- every number has at most five digits
-abbrev pub Short : ℕ → Type 0
-Short n = n < 100000
+-- "A number has one to five digits": every number has at most as many as the version allows
+abbrev pub Short : Version → ℕ → Type 0
+Short v n = n < 10 ^ v .digits
 
-abbrev pub Shorts : List ℕ → Type 0
-Shorts [] = Unit {0}
-Shorts (n ∷ l) = Short n × Shorts l
+abbrev pub Shorts : Version → List ℕ → Type 0
+Shorts v [] = Unit {0}
+Shorts v (n ∷ l) = Short v n × Shorts v l
 
-pub record ShortForm (f : Form) : Type 0 where
-  pub name : Short (f .name)
-  pub ins : Shorts (f .ins)
-  pub outs : Shorts (f .outs)
-  pub reads : Shorts (f .reads)
-  pub writes : Shorts (f .writes)
+pub record ShortForm (v : Version) (f : Form) : Type 0 where
+  pub name : Short v (f .name)
+  pub ins : Shorts v (f .ins)
+  pub outs : Shorts v (f .outs)
+  pub reads : Shorts v (f .reads)
+  pub writes : Shorts v (f .writes)
 
-abbrev pub ShortForms : List Form → Type 0
-ShortForms [] = Unit {0}
-ShortForms (f ∷ l) = ShortForm f × ShortForms l
+abbrev pub ShortForms : Version → List Form → Type 0
+ShortForms v [] = Unit {0}
+ShortForms v (f ∷ l) = ShortForm v f × ShortForms v l
 
-pub record ShortLines (x : Lines) : Type 0 where
-  pub oldPlaces : Short (x .oldPlaces)
-  pub old : ShortForms (x .old)
-  pub newPlaces : Short (x .newPlaces)
-  pub new : ShortForms (x .new)
-  pub done : Shorts (x .done)
+pub record ShortLines (v : Version) (x : Lines) : Type 0 where
+  pub oldPlaces : Short v (x .oldPlaces)
+  pub old : ShortForms v (x .old)
+  pub newPlaces : Short v (x .newPlaces)
+  pub new : ShortForms v (x .new)
+  pub done : Shorts v (x .done)

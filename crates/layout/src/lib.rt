@@ -35,7 +35,7 @@ pub enum Point {
     Past(Word, Part),
     // at a number's first digit
     Digit(Word, Part),
-    // past that many digits of a number; past a lone 0 counts as past five
+    // past a digit of a number, where that many more may follow; none may follow a lone 0
     Digits(Word, Part, usize),
     // at the bracket of the list of that word
     Gap(Word, Part),

@@ -9,6 +9,7 @@ use borrow.Author.Tests.{not-true, not-false}
 use Rattle.refusal.specs.Rows.{first}
 use Rattle.refusal.specs.declared.Outcome.{Outcome}
 use Rattle.job.specs.Job.{Job, flatJob, afterSteps, newLine, jobLine}
+use Rattle.version.specs.Limits.{scope}
 use Rattle.job.specs.Lines.{routeRows, doneRows}
 use Rattle.job.proofs.Rows.{RouteFits, route-fits, lines-old, lines-new, lines-done}
 use borrow.Author.Needs.{needs}
@@ -122,7 +123,7 @@ returns-3 c =
     let f = after-old (passed .before .before) in
     lines-done (job f) _ (f .before .before .check-route .ensures) (old-passes f) _ (new-is (passed .before .before))
     (new-passes passed) _
-    (c .check-done .ensures ∙ ap (λ (n : ℕ). first (doneRows (n + 1) 0 (job f .done))) (line-is last))
+    (c .check-done .ensures ∙ ap (λ (n : ℕ). first (doneRows scope (n + 1) 0 (job f .done))) (line-is last))
 
 pub check-lines-spec : {M : Type 1} → statement M
 check-lines-spec =

@@ -1,14 +1,14 @@
--- `job::lines::name_fits`: the two bounds in turn.
+-- `version::Version::name_fits`: the two bounds in turn.
 use mathlib.Core.Path.{refl}
 use borrow.Author.Tests.{le-leb, lt-leb}
 use Rattle.mask.proofs.Truth.{and-yes, and-no}
-use Rattle.job.specs.Lines.{nameFits}
-use Rattle.job.proofs.lines.name_fits.Statement.{statement}
-use Rattle.job.proofs.lines.name_fits.Tie as tie
+use Rattle.version.specs.Limits.{nameFits}
+use Rattle.version.proofs.Version.name_fits.Statement.{statement}
+use Rattle.version.proofs.Version.name_fits.Tie as tie
 
 returns : tie.Need-returns
 unfolding nameFits
-returns c = and-yes refl (le-leb _ _ (c .if1 .taken)) refl
+returns c = and-yes refl (le-leb _ _ (c .before .if1 .taken)) refl
 
 returns-2 : tie.Need-returns-2
 unfolding nameFits

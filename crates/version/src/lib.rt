@@ -1,0 +1,24 @@
+// The limits that differ between versions of the sheet's layout. All who read or write a sheet take them as one record.
+ghost use mathlib.Core.Path.{_≡_};
+ghost use Rattle.version.specs.Limits.{nameFits};
+
+pub struct Version {
+    // the most digits of a number
+    pub digits: usize,
+    // the greatest name
+    pub greatest: u64,
+}
+
+impl Version {
+    // 01's: five digits, and names to 65,535.
+    pub const SCOPE: Version = Version {
+        digits: 5,
+        greatest: 65535,
+    };
+
+    pub fn name_fits(self, n: u64) -> bool
+        ensures { λ r. ⌜ r ≡ nameFits self n ⌝ }
+    {
+        1 <= n && n <= self.greatest
+    }
+}
