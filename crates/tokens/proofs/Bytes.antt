@@ -8,6 +8,7 @@ use native.Mathlib.Omega.{arith}
 use native.Mathlib.Numerals.{add-one}
 use lib.ListN.{length, drop, getD, drop-of-length-le}
 use lib.Seq.{drop-cons}
+use Rattle.version.specs.declared.Version.{Version}
 use Rattle.layout.specs.Text.{Lines}
 use Rattle.layout.specs.Points.{alive, next}
 use Rattle.layout.specs.Parse.{Line, Parsed, took, keep, atEnd, run, parse}
@@ -18,43 +19,43 @@ use Rattle.tokens.specs.Tokens.{Reading, Broken, Reached}
 pub apart : true ≡ false → ⊥
 apart h = let z : _≡_ {A = ℕ} 0 1 = cc in omega arith
 
-module _ (s : List ℕ) (i : ℕ) (p : Point) (c : Line) (t : Lines) (h : Reading s i p c t) where
-  here : i < length s → parse s ≡ run p c t (getD s i 0 ∷ drop (i + 1) s)
-  here room = h .same ∙ ap (run p c t) (drop-cons s i 0 room ∙ ap (λ (m : ℕ). getD s i 0 ∷ drop m s) (sym (add-one i)))
+module _ (v : Version) (s : List ℕ) (i : ℕ) (p : Point) (c : Line) (t : Lines) (h : Reading v s i p c t) where
+  here : i < length s → parse v s ≡ run v p c t (getD s i 0 ∷ drop (i + 1) s)
+  here room = h .same ∙ ap (run v p c t) (drop-cons s i 0 room ∙ ap (λ (m : ℕ). getD s i 0 ∷ drop m s) (sym (add-one i)))
 
-  pub byte-on : i < length s → (q : Point) → next p (getD s i 0) ≡ q → alive q ≡ true → Reading s (i + 1) q (took p (getD s i 0) c) (keep p c t)
+  pub byte-on : i < length s → (q : Point) → next v p (getD s i 0) ≡ q → alive q ≡ true → Reading v s (i + 1) q (took p (getD s i 0) c) (keep p c t)
   unfolding run
   byte-on room q e live =
       record {
         within = omega (arith, room);
         same = here room
-            ∙ ap (λ (x : Bool). cond x (run (next p (getD s i 0)) (took p (getD s i 0) c) (keep p c t) (drop (i + 1) s)) (Parsed.broken (getD s i 0 ∷ drop (i + 1) s))) (ap alive e ∙ live)
-            ∙ ap (λ (x : Point). run x (took p (getD s i 0) c) (keep p c t) (drop (i + 1) s)) e;
+            ∙ ap (λ (x : Bool). cond x (run v (next v p (getD s i 0)) (took p (getD s i 0) c) (keep p c t) (drop (i + 1) s)) (Parsed.broken (getD s i 0 ∷ drop (i + 1) s))) (ap alive e ∙ live)
+            ∙ ap (λ (x : Point). run v x (took p (getD s i 0) c) (keep p c t) (drop (i + 1) s)) e;
       }
 
-  pub byte-stuck : i < length s → next p (getD s i 0) ≡ Stuck → Broken s i
+  pub byte-stuck : i < length s → next v p (getD s i 0) ≡ Stuck → Broken v s i
   unfolding run alive
   byte-stuck room e =
       record {
         within = h .within;
         same = here room
-            ∙ ap (λ (x : Bool). cond x (run (next p (getD s i 0)) (took p (getD s i 0) c) (keep p c t) (drop (i + 1) s)) (Parsed.broken (getD s i 0 ∷ drop (i + 1) s))) (ap alive e)
+            ∙ ap (λ (x : Bool). cond x (run v (next v p (getD s i 0)) (took p (getD s i 0) c) (keep p c t) (drop (i + 1) s)) (Parsed.broken (getD s i 0 ∷ drop (i + 1) s))) (ap alive e)
             ∙ ap Parsed.broken (sym (drop-cons s i 0 room ∙ ap (λ (m : ℕ). getD s i 0 ∷ drop m s) (sym (add-one i))));
       }
 
-  pub bytes-over : length s ≤ i → atEnd p t ≡ Parsed.broken [] → Broken s i
+  pub bytes-over : length s ≤ i → atEnd p t ≡ Parsed.broken [] → Broken v s i
   unfolding run
   bytes-over over e =
       let none : drop i s ≡ [] = drop-of-length-le s over in
-      record { within = h .within; same = h .same ∙ ap (run p c t) none ∙ e ∙ ap Parsed.broken (sym none) }
+      record { within = h .within; same = h .same ∙ ap (run v p c t) none ∙ e ∙ ap Parsed.broken (sym none) }
 
 -- a break is passed on
-pub break-on : (s : List ℕ) (i : ℕ) (ok : Bool) (p q : Point) (c d : Line) (t u : Lines) → not ok ≡ true → Reached s i ok p c t → Reached s i false q d u
+pub break-on : (v : Version) (s : List ℕ) (i : ℕ) (ok : Bool) (p q : Point) (c d : Line) (t u : Lines) → not ok ≡ true → Reached v s i ok p c t → Reached v s i false q d u
 unfolding Reached
-break-on s i true p q c d t u e h = absurd (apart (sym e))
-break-on s i false p q c d t u e h = h
+break-on v s i true p q c d t u e h = absurd (apart (sym e))
+break-on v s i false p q c d t u e h = h
 
-pub reached : (s : List ℕ) (i : ℕ) (ok : Bool) (p : Point) (c : Line) (t : Lines) → not ok ≡ false → Reached s i ok p c t → Reading s i p c t
+pub reached : (v : Version) (s : List ℕ) (i : ℕ) (ok : Bool) (p : Point) (c : Line) (t : Lines) → not ok ≡ false → Reached v s i ok p c t → Reading v s i p c t
 unfolding Reached
-reached s i true p c t e h = h
-reached s i false p c t e h = absurd (apart e)
+reached v s i true p c t e h = h
+reached v s i false p c t e h = absurd (apart e)

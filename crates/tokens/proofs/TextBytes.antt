@@ -9,6 +9,7 @@ use native.Mathlib.Numerals.{add-one}
 use lib.Dec.{ltb}
 use lib.ListN.{length, drop, getD}
 use borrow.Author.Tests.{ltb-true, ltb-false, not-false}
+use Rattle.version.specs.declared.Version.{Version}
 use Rattle.layout.specs.Text.{Lines}
 use Rattle.layout.specs.Points.{alive, next}
 use Rattle.layout.specs.Parse.{Line, took, keep, run}
@@ -24,42 +25,42 @@ first-byte : (s : List ℕ) (from b n : ℕ) (w : List ℕ) → Agrees s from (b
 first-byte s from b n w h = ap (λ (x : ℕ). getD s x 0) (omega arith) ∙ h 0 (omega arith)
 
 -- one byte of the text
-step : (s : List ℕ) (i : ℕ) (p : Point) (c : Line) (t : Lines) (b : ℕ) → Reading s i p c t → i < length s → getD s i 0 ≡ b → alive (next p b) ≡ true → Reading s (i + 1) (next p b) (took p b c) (keep p c t)
-step s i p c t b h room is live = subst (λ (x : ℕ). Reading s (i + 1) (next p b) (took p x c) (keep p c t)) is (byte-on s i p c t h room (next p b) (ap (next p) is) live)
+step : (v : Version) (s : List ℕ) (i : ℕ) (p : Point) (c : Line) (t : Lines) (b : ℕ) → Reading v s i p c t → i < length s → getD s i 0 ≡ b → alive (next v p b) ≡ true → Reading v s (i + 1) (next v p b) (took p b c) (keep p c t)
+step v s i p c t b h room is live = subst (λ (x : ℕ). Reading v s (i + 1) (next v p b) (took p x c) (keep p c t)) is (byte-on v s i p c t h room (next v p b) (ap (next v p) is) live)
 
-spells-on : (s : List ℕ) (w : List ℕ) (i : ℕ) (p : Point) (c : Line) (t : Lines) (q : Point) (d : Line) (u : Lines) → Spells s i p c t w q d u → Agrees s i w (length w) → i + length w ≤ length s → Reading s i p c t → Reading s (i + length w) q d u
+spells-on : (v : Version) (s : List ℕ) (w : List ℕ) (i : ℕ) (p : Point) (c : Line) (t : Lines) (q : Point) (d : Line) (u : Lines) → Spells v s i p c t w q d u → Agrees s i w (length w) → i + length w ≤ length s → Reading v s i p c t → Reading v s (i + length w) q d u
 unfolding Spells
-spells-on s [] i p c t q d u e h r at =
+spells-on v s [] i p c t q d u e h r at =
     let z : i ≡ i + 0 = omega arith in
-    record { within = omega (arith, r); same = at .same ∙ (λ j. run (e .0 j) (e .1 .0 j) (e .1 .1 j) (drop (z j) s)) }
-spells-on s (b ∷ w) i p c t q d u way h r at =
+    record { within = omega (arith, r); same = at .same ∙ (λ j. run v (e .0 j) (e .1 .0 j) (e .1 .1 j) (drop (z j) s)) }
+spells-on v s (b ∷ w) i p c t q d u way h r at =
     let h′ = subst (λ (x : ℕ). Agrees s i (b ∷ w) x) (sym (add-one (length w))) h in
     let is = first-byte s i b (length w) w h′ in
     let room : i < length s = omega (arith, r) in
     let e : i + 1 + length w ≡ i + suc (length w) = omega arith in
-    subst (λ (x : ℕ). Reading s x q d u) e
-    (spells-on s w (i + 1) (next p b) (took p b c) (keep p c t) q d u (way .1 .1 .1 is) (shifted s i b (length w) w h′) (omega (arith, r)) (step s i p c t b at room is (way .0)))
+    subst (λ (x : ℕ). Reading v s x q d u) e
+    (spells-on v s w (i + 1) (next v p b) (took p b c) (keep p c t) q d u (way .1 .1 .1 is) (shifted s i b (length w) w h′) (omega (arith, r)) (step v s i p c t b at room is (way .0)))
 
-spells-break : (s : List ℕ) (w : List ℕ) (i n : ℕ) (p : Point) (c : Line) (t : Lines) (q : Point) (d : Line) (u : Lines) → Spells s i p c t w q d u → n < length w → Agrees s i w n → i + n ≤ length s → (i + n < length s → getD s (i + n) 0 ≡ getD w n 0 → ⊥) → Reading s i p c t → Broken s (i + n)
+spells-break : (v : Version) (s : List ℕ) (w : List ℕ) (i n : ℕ) (p : Point) (c : Line) (t : Lines) (q : Point) (d : Line) (u : Lines) → Spells v s i p c t w q d u → n < length w → Agrees s i w n → i + n ≤ length s → (i + n < length s → getD s (i + n) 0 ≡ getD w n 0 → ⊥) → Reading v s i p c t → Broken v s (i + n)
 unfolding Spells
-spells-break s [] i n p c t q d u way r h le far at = absurd (omega (arith, r))
-spells-break s (b ∷ w) i zero p c t q d u way r h le far at =
+spells-break v s [] i n p c t q d u way r h le far at = absurd (omega (arith, r))
+spells-break v s (b ∷ w) i zero p c t q d u way r h le far at =
     let e : i ≡ i + 0 = omega arith in
-    subst (λ (x : ℕ). Broken s x) e (by-room (ltb i (length s)) refl)
+    subst (λ (x : ℕ). Broken v s x) e (by-room (ltb i (length s)) refl)
   where
-    by-room : (x : Bool) → ltb i (length s) ≡ x → Broken s i
+    by-room : (x : Bool) → ltb i (length s) ≡ x → Broken v s i
     by-room true x =
         let room = ltb-true i (length s) x in
-        byte-stuck s i p c t at room (way .1 .0 (λ is. far (omega (arith, room)) (ap (λ (y : ℕ). getD s y 0) (omega arith) ∙ is)))
-    by-room false x = let over = ltb-false i (length s) x in bytes-over s i p c t at over (way .1 .1 .0 over)
-spells-break s (b ∷ w) i (suc n) p c t q d u way r h le far at =
+        byte-stuck v s i p c t at room (way .1 .0 (λ is. far (omega (arith, room)) (ap (λ (y : ℕ). getD s y 0) (omega arith) ∙ is)))
+    by-room false x = let over = ltb-false i (length s) x in bytes-over v s i p c t at over (way .1 .1 .0 over)
+spells-break v s (b ∷ w) i (suc n) p c t q d u way r h le far at =
     let h′ = subst (λ (x : ℕ). Agrees s i (b ∷ w) x) (sym (add-one n)) h in
     let is = first-byte s i b n w h′ in
     let room : i < length s = omega (arith, le) in
     let e : i + 1 + n ≡ i + suc n = omega arith in
-    subst (λ (x : ℕ). Broken s x) e
-    (spells-break s w (i + 1) n (next p b) (took p b c) (keep p c t) q d u (way .1 .1 .1 is) (omega (arith, r)) (shifted s i b n w h′) (omega (arith, le))
-    (λ x y. far (omega (arith, x)) (ap (λ (m : ℕ). getD s m 0) (omega arith) ∙ y)) (step s i p c t b at room is (way .0)))
+    subst (λ (x : ℕ). Broken v s x) e
+    (spells-break v s w (i + 1) n (next v p b) (took p b c) (keep p c t) q d u (way .1 .1 .1 is) (omega (arith, r)) (shifted s i b n w h′) (omega (arith, le))
+    (λ x y. far (omega (arith, x)) (ap (λ (m : ℕ). getD s m 0) (omega arith) ∙ y)) (step v s i p c t b at room is (way .0)))
 
 -- ---- as the code meets them
 
@@ -89,15 +90,15 @@ agreed-done s from w i h r =
       later = omega arith;
       past = λ _. omega (arith, r);
       within = h .within;
-      goes = λ p c t q d u way at.
-          subst (λ (x : ℕ). Reading s (from + x) q d u) e
-          (spells-on s w from p c t q d u way (subst (λ (x : ℕ). Agrees s from w x) (sym e) (h .agrees)) (omega (arith, e, h .within)) at);
+      goes = λ v p c t q d u way at.
+          subst (λ (x : ℕ). Reading v s (from + x) q d u) e
+          (spells-on v s w from p c t q d u way (subst (λ (x : ℕ). Agrees s from w x) (sym e) (h .agrees)) (omega (arith, e, h .within)) at);
     }
 
 text-breaks : (s : List ℕ) (from : ℕ) (w : List ℕ) (i : ℕ) → Agreed s from w i → i < length w → (from + i < length s → getD s (from + i) 0 ≡ getD w i 0 → ⊥) → TextOn s from true w (record { at = from + i; ok = false })
 unfolding Reached
 text-breaks s from w i h r far =
-    record { later = omega arith; past = λ e. absurd (apart (sym e)); within = h .within; goes = λ p c t q d u way at. spells-break s w from i p c t q d u way r (h .agrees) (h .within) far at }
+    record { later = omega arith; past = λ e. absurd (apart (sym e)); within = h .within; goes = λ v p c t q d u way at. spells-break v s w from i p c t q d u way r (h .agrees) (h .within) far at }
 
 pub text-over : (s : List ℕ) (from : ℕ) (w : List ℕ) (i : ℕ) → Agreed s from w i → i < length w → length s - from ≤ i → TextOn s from true w (record { at = from + i; ok = false })
 text-over s from w i h r over = text-breaks s from w i h r (λ x. absurd (omega (arith, x, over)))
@@ -141,7 +142,7 @@ agreeing-not s from w = record { agrees = λ e. absurd (apart (sym e)); within =
 -- ---- whether or not the layout holds to there
 
 pub text-passes : (s : List ℕ) (from : ℕ) (ok : Bool) (w : List ℕ) → from ≤ length s → not ok ≡ true → TextOn s from ok w (record { at = from; ok = false })
-text-passes s from ok w h e = record { later = omega arith; past = λ z. absurd (apart (sym z)); within = h; goes = λ p c t q d u way r. break-on s from ok _ _ _ _ _ _ e r }
+text-passes s from ok w h e = record { later = omega arith; past = λ z. absurd (apart (sym z)); within = h; goes = λ v p c t q d u way r. break-on v s from ok _ _ _ _ _ _ e r }
 
 pub text-on : (s : List ℕ) (from : ℕ) (ok : Bool) (w : List ℕ) (r : Cursor) → not ok ≡ false → TextOn s from true w r → TextOn s from ok w r
 text-on s from ok w r e h = subst (λ (x : Bool). TextOn s from x w r) (sym (not-false ok e)) h

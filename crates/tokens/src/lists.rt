@@ -2,10 +2,12 @@
 use crate::Entries;
 use crate::Listed;
 use crate::numbers::digits;
+use version::Version;
 ghost use mathlib.Core.Path.{_≡_};
 ghost use mathlib.Core.Bool.{true};
 ghost use Prim.Native.Nat.{_≤_};
 ghost use lib.ListN.{length};
+ghost use Rattle.version.specs.Limits.{Limits};
 ghost use Rattle.tokens.specs.Tokens.{noEntries, ListOn};
 
 fn none() -> Entries
@@ -19,9 +21,10 @@ fn none() -> Entries
     }
 }
 
-fn entries(s: &[u8], from: usize) -> Listed
+fn entries(v: Version, s: &[u8], from: usize) -> Listed
+    requires { ⌜ Limits v ⌝ }
     requires { ⌜ from ≤ length (now s) ⌝ }
-    ensures { λ r. ⌜ ListOn (now (s .entry)) from true r ⌝ }
+    ensures { λ r. ⌜ ListOn v (now (s .entry)) from true r ⌝ }
 {
     let mut mask = 0u64;
     let mut top = 0u64;
@@ -49,7 +52,7 @@ fn entries(s: &[u8], from: usize) -> Listed
                 entries: none(),
             };
         }
-        let n = digits(s, i + 1);
+        let n = digits(v, s, i + 1);
         i = n.at;
         if !n.ok {
             return Listed {
@@ -58,14 +61,14 @@ fn entries(s: &[u8], from: usize) -> Listed
                 entries: none(),
             };
         }
-        let v = n.value;
-        mask = mask | mask::bit64((v % 64) as usize);
+        let e = n.value;
+        mask = mask | mask::bit64((e % 64) as usize);
         count += 1;
-        if v < top {
+        if e < top {
             falls = true;
             continue;
         }
-        top = v + 1;
+        top = e + 1;
     }
     Listed {
         at: i,
@@ -74,9 +77,10 @@ fn entries(s: &[u8], from: usize) -> Listed
     }
 }
 
-pub fn list(s: &[u8], from: usize, ok: bool) -> Listed
+pub fn list(v: Version, s: &[u8], from: usize, ok: bool) -> Listed
+    requires { ⌜ Limits v ⌝ }
     requires { ⌜ from ≤ length (now s) ⌝ }
-    ensures { λ r. ⌜ ListOn (now (s .entry)) from ok r ⌝ }
+    ensures { λ r. ⌜ ListOn v (now (s .entry)) from ok r ⌝ }
 {
     if !ok {
         return Listed {
@@ -85,5 +89,5 @@ pub fn list(s: &[u8], from: usize, ok: bool) -> Listed
             entries: none(),
         };
     }
-    entries(s, from)
+    entries(v, s, from)
 }

@@ -1,9 +1,11 @@
-// Numbers: one to five digits, nothing after a leading 0.
+// Numbers: one digit to as many as the version allows, nothing after a leading 0.
 use crate::Numeral;
+use version::Version;
 ghost use mathlib.Core.Path.{_≡_};
 ghost use mathlib.Core.Bool.{true};
 ghost use Prim.Native.Nat.{_-_, _≤_};
 ghost use lib.ListN.{length};
+ghost use Rattle.version.specs.Limits.{Limits};
 ghost use Rattle.layout.specs.Points.{digit};
 ghost use Rattle.tokens.specs.Tokens.{NumberOn};
 
@@ -21,9 +23,10 @@ fn value(b: u8) -> u64
     if b'0' <= b { b as u64 - 48 } else { 0 }
 }
 
-pub fn digits(s: &[u8], from: usize) -> Numeral
+pub fn digits(v: Version, s: &[u8], from: usize) -> Numeral
+    requires { ⌜ Limits v ⌝ }
     requires { ⌜ from ≤ length (now s) ⌝ }
-    ensures { λ r. ⌜ NumberOn (now (s .entry)) from true r ⌝ }
+    ensures { λ r. ⌜ NumberOn v (now (s .entry)) from true r ⌝ }
 {
     if s.len() <= from {
         return Numeral {
@@ -49,7 +52,7 @@ pub fn digits(s: &[u8], from: usize) -> Numeral
             value: n,
         };
     }
-    while i < s.len() && i - from < 5 {
+    while i < s.len() && i - from < v.digits {
         let c = s[i];
         if !digit(c) {
             return Numeral {
@@ -68,9 +71,10 @@ pub fn digits(s: &[u8], from: usize) -> Numeral
     }
 }
 
-pub fn number(s: &[u8], from: usize, ok: bool) -> Numeral
+pub fn number(v: Version, s: &[u8], from: usize, ok: bool) -> Numeral
+    requires { ⌜ Limits v ⌝ }
     requires { ⌜ from ≤ length (now s) ⌝ }
-    ensures { λ r. ⌜ NumberOn (now (s .entry)) from ok r ⌝ }
+    ensures { λ r. ⌜ NumberOn v (now (s .entry)) from ok r ⌝ }
 {
     if !ok {
         return Numeral {
@@ -79,5 +83,5 @@ pub fn number(s: &[u8], from: usize, ok: bool) -> Numeral
             value: 0,
         };
     }
-    digits(s, from)
+    digits(v, s, from)
 }

@@ -7,10 +7,10 @@ use Rattle.tokens.proofs.lists.entries.Statement.{statement}
 use Rattle.tokens.proofs.lists.entries.Tie as tie
 
 abbrev Inv-loop : tie.InvT-loop
-Inv-loop s from mask₀ top₀ count₀ falls₀ i₀ mask top count falls i = Entered s from (record { mask = mask; top = top; count = count; falls = falls }) i
+Inv-loop v s from mask₀ top₀ count₀ falls₀ i₀ mask top count falls i = Entered v s from (record { mask = mask; top = top; count = count; falls = falls }) i
 
 abbrev μ-loop : tie.MeasureT-loop
-μ-loop s from mask₀ top₀ count₀ falls₀ i₀ mask top count falls i = length s - i
+μ-loop v s from mask₀ top₀ count₀ falls₀ i₀ mask top count falls i = length s - i
 
 loop-holds : tie.Need-loop-holds Inv-loop μ-loop
 loop-holds c = search (needs, entered-init)
@@ -18,8 +18,8 @@ loop-holds c = search (needs, entered-init)
 shared-slice-read-b : tie.Need-shared-slice-read-b Inv-loop μ-loop
 shared-slice-read-b c = search needs
 
-add-t15 : tie.Need-add-t15 Inv-loop μ-loop
-add-t15 c = search needs
+add-t16 : tie.Need-add-t16 Inv-loop μ-loop
+add-t16 c = search needs
 
 returns : tie.Need-returns Inv-loop μ-loop
 returns c = search (needs, list-closes)
@@ -77,7 +77,7 @@ entries-spec =
     μ-loop
     loop-holds
     shared-slice-read-b
-    add-t15
+    add-t16
     returns
     none-requires
     returns-2

@@ -9,10 +9,10 @@ use Rattle.tokens.proofs.numbers.digits.Statement.{statement}
 use Rattle.tokens.proofs.numbers.digits.Tie as tie
 
 abbrev Inv-loop : tie.InvT-loop
-Inv-loop s from b n₀ i₀ n i = Counts s from n i
+Inv-loop v s from b n₀ i₀ n i = Counts v s from n i
 
 abbrev μ-loop : tie.MeasureT-loop
-μ-loop s from b n₀ i₀ n i = length s - i
+μ-loop v s from b n₀ i₀ n i = length s - i
 
 returns : tie.Need-returns Inv-loop μ-loop
 returns c = search (needs, number-over)
@@ -51,14 +51,14 @@ returns-4 : tie.Need-returns-4 Inv-loop μ-loop
 returns-4 c = search (needs, counts-other)
 
 mul-n : tie.Need-mul-n Inv-loop μ-loop
-mul-n c = let low = counts-low _ _ _ _ (c .before .before .before .before .before .loop .inv) (ltb-true _ _ (c .before .before .before .if4 .taken)) in omega (arith, low)
+mul-n c = let low = counts-low _ _ _ _ _ (c .before .before .before .before .before .before .loop .inv) (ltb-true _ _ (c .before .before .before .if4 .taken)) in omega (arith, low)
 
 value-requires-2 : tie.Need-value-requires-2 Inv-loop μ-loop
 value-requires-2 c κs = search needs
 
 add-n : tie.Need-add-n Inv-loop μ-loop
 add-n c =
-    let low = counts-low _ _ _ _ (c .before .before .before .before .before .before .loop .inv) (ltb-true _ _ (c .before .before .before .before .if4 .taken)) in
+    let low = counts-low _ _ _ _ _ (c .before .before .before .before .before .before .before .loop .inv) (ltb-true _ _ (c .before .before .before .before .if4 .taken)) in
     let small = value-low _ _ (c .before .before .digit2 .ensures) (c .before .if5 .left) in
     omega (arith, low, small, c .value2 .ensures)
 
@@ -70,7 +70,7 @@ loop-less c = search needs
 
 loop-again : tie.Need-loop-again Inv-loop μ-loop
 loop-again c =
-    counts-step _ _ _ _ _ _ (c .before .before .before .before .before .before .loop .inv) (c .before .before .before .before .before .loop-test .taken)
+    counts-step _ _ _ _ _ _ _ (c .before .before .before .before .before .before .before .loop .inv) (c .before .before .before .before .before .before .loop-test .taken)
     (c .before .before .digit2 .ensures) (c .before .if5 .left) (ltb-true _ _ (c .before .before .before .before .if4 .taken)) (c .value2 .ensures)
 
 returns-5 : tie.Need-returns-5 Inv-loop μ-loop
