@@ -11,11 +11,12 @@ use borrow.Author.Tests.{ltb-true}
 use Rattle.route.specs.declared.Step.{Step}
 use Rattle.route.specs.declared.Route.{Route}
 use Rattle.refusal.specs.declared.Outcome.{Outcome}
+use Rattle.version.specs.declared.Version.{Version}
 use Rattle.layout.specs.Text.{Form, Lines}
 use Rattle.layout.specs.Parse.{Parsed, parse}
 use Rattle.layout.specs.declared.Part.{Part}
 use Rattle.layout.specs.declared.Part.the-variants.{OldRoute, NewRoute, JobPart}
-use Rattle.facts.specs.Facts.{State, failed, settled, headed, stepped, oldHead, newHead, jobHead, doneIn, stepIn, more, moreSteps, moreDones, nothing, factsOf, answered, readOf}
+use Rattle.facts.specs.Facts.{State, failed, settled, headed, stepped, oldHead, newHead, jobHead, doneIn, stepIn, more, moreSteps, moreDones, nothing, factsOf, answered, readBy}
 use Rattle.facts.specs.declared.Sheet.{Sheet}
 
 pub record Few (s : Sheet) : Type 0 where
@@ -42,11 +43,11 @@ stepped-few r s h = go (ltb (r .len) 64) refl
     go true e = omega (arith, ltb-true (r .len) 64 e)
     go false e = h
 
-step-few : (p : Part) (n : ℕ) (f : Form) (s : Sheet) → Few s → Few (stepIn p n f s)
+step-few : (v : Version) (p : Part) (n : ℕ) (f : Form) (s : Sheet) → Few s → Few (stepIn v p n f s)
 unfolding stepIn
-step-few OldRoute n f s h = settled-few _ _ (record { old = stepped-few (s .old) _ (h .old); new = h .new })
-step-few NewRoute n f s h = settled-few _ _ (record { old = h .old; new = stepped-few (s .new) _ (h .new) })
-step-few JobPart n f s h = h
+step-few v OldRoute n f s h = settled-few _ _ (record { old = stepped-few (s .old) _ (h .old); new = h .new })
+step-few v NewRoute n f s h = settled-few _ _ (record { old = h .old; new = stepped-few (s .new) _ (h .new) })
+step-few v JobPart n f s h = h
 
 more-few : (line : ℕ → Sheet → Sheet) (k : State) → ((n : ℕ) (s : Sheet) → Few s → Few (line n s)) → Few (k .sheet) → Few (more line k .sheet)
 unfolding more
@@ -56,30 +57,30 @@ more-few line k keeps h = go (eqb (k .sheet .number) 0)
     go true = keeps (k .lines + 1) (k .sheet) h
     go false = h
 
-steps-few : (p : Part) (l : List Form) (k : State) → Few (k .sheet) → Few (moreSteps p l k .sheet)
+steps-few : (v : Version) (p : Part) (l : List Form) (k : State) → Few (k .sheet) → Few (moreSteps v p l k .sheet)
 unfolding moreSteps
-steps-few p [] k h = h
-steps-few p (f ∷ l) k h = steps-few p l (more (λ n s. stepIn p n f s) k) (more-few _ k (λ n s. step-few p n f s) h)
+steps-few v p [] k h = h
+steps-few v p (f ∷ l) k h = steps-few v p l (more (λ n s. stepIn v p n f s) k) (more-few _ k (λ n s. step-few v p n f s) h)
 
-dones-few : (l : List ℕ) (k : State) → Few (k .sheet) → Few (moreDones l k .sheet)
+dones-few : (v : Version) (l : List ℕ) (k : State) → Few (k .sheet) → Few (moreDones v l k .sheet)
 unfolding moreDones doneIn
-dones-few [] k h = h
-dones-few (n ∷ l) k h = dones-few l (more (λ i s. doneIn i n s) k) (more-few _ k (λ i s g. settled-few _ _ (record { old = g .old; new = g .new })) h)
+dones-few v [] k h = h
+dones-few v (n ∷ l) k h = dones-few v l (more (λ i s. doneIn v i n s) k) (more-few _ k (λ i s g. settled-few _ _ (record { old = g .old; new = g .new })) h)
 
-facts-few : (x : Lines) → Few (factsOf x)
+facts-few : (v : Version) (x : Lines) → Few (factsOf v x)
 unfolding factsOf oldHead newHead jobHead headed
-facts-few x =
-    dones-few (x .done) _
+facts-few v x =
+    dones-few v (x .done) _
     (more-few jobHead _ (λ i s g. settled-few _ s g)
-    (steps-few NewRoute (x .new) _
+    (steps-few v NewRoute (x .new) _
     (more-few _ _ (λ i s g. settled-few _ _ (record { old = g .old; new = g .new }))
-    (steps-few OldRoute (x .old) _
+    (steps-few v OldRoute (x .old) _
     (more-few _ nothing (λ i s g. settled-few _ _ (record { old = g .old; new = g .new })) (failed-few 0 0))))))
 
-pub read-few : (s : List ℕ) → Few (readOf s)
-unfolding readOf answered
-read-few s = go (parse s)
+pub read-few : (v : Version) (s : List ℕ) → Few (readBy v s)
+unfolding readBy answered
+read-few v s = go (parse v s)
   where
-    go : (p : Parsed) → Few (answered (length s) p)
-    go (Parsed.read x) = facts-few x
+    go : (p : Parsed) → Few (answered v (length s) p)
+    go (Parsed.read x) = facts-few v x
     go (Parsed.broken r) = failed-few 1 _

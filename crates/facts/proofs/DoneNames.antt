@@ -5,9 +5,10 @@ use mathlib.Core.List.{List}
 use Prim.Native.Nat.{ℕ, _-_, _≤_}
 use native.Mathlib.Omega.{arith}
 use lib.ListN.{length, replicate, length-append, length-replicate}
+use Rattle.version.specs.declared.Version.{Version}
 use Rattle.layout.specs.Text.{Lines}
 use Rattle.layout.specs.Parse.{Parsed, parse}
-use Rattle.facts.specs.Facts.{failed, factsOf, answered, readOf}
+use Rattle.facts.specs.Facts.{failed, factsOf, answered, readBy}
 use Rattle.facts.specs.SheetRows.{sheetRows, factsRecord}
 use Rattle.facts.specs.declared.Sheet.{Sheet}
 use Rattle.facts.proofs.RowsFold.{Stand, stands, fails, facts-stand}
@@ -20,18 +21,18 @@ no-dones : (n k : ℕ) → Dones (failed n k)
 unfolding failed
 no-dones n k = record { few = omega arith; room = length-replicate {A = ℕ} 64 0 }
 
-facts-dones : (x : Lines) → Dones (factsOf x)
+facts-dones : (v : Version) (x : Lines) → Dones (factsOf v x)
 unfolding factsRecord
-facts-dones x = go (facts-stand x)
+facts-dones v x = go (facts-stand v x)
   where
-    go : Stand (factsOf x) (sheetRows x) (factsRecord x) (length (x .done) ≤ 64) → Dones (factsOf x)
+    go : Stand (factsOf v x) (sheetRows v x) (factsRecord x) (length (x .done) ≤ 64) → Dones (factsOf v x)
     go (stands e q h) = subst Dones (sym q) (record { few = h; room = length-append (x .done) (replicate (64 - length (x .done)) 0) ∙ omega (arith, length-replicate {A = ℕ} (64 - length (x .done)) 0, h) })
     go (fails e q) = subst Dones (sym q) (no-dones _ _)
 
-pub read-dones : (s : List ℕ) → Dones (readOf s)
-unfolding readOf answered
-read-dones s = go (parse s)
+pub read-dones : (v : Version) (s : List ℕ) → Dones (readBy v s)
+unfolding readBy answered
+read-dones v s = go (parse v s)
   where
-    go : (p : Parsed) → Dones (answered (length s) p)
-    go (Parsed.read x) = facts-dones x
+    go : (p : Parsed) → Dones (answered v (length s) p)
+    go (Parsed.read x) = facts-dones v x
     go (Parsed.broken r) = no-dones 1 _

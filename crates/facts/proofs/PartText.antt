@@ -9,6 +9,8 @@ use lib.Dec.{eqb, ltb}
 use lib.ListN.{length, replicate, length-map}
 use lib.Seq.{take-append-seam}
 use borrow.Author.Tests.{ne-eqb, eq-eqb}
+use Rattle.version.specs.Limits.{scope}
+use Rattle.version.proofs.Limits.{scope-limits}
 use Rattle.layout.specs.Words.{spelling}
 use Rattle.layout.specs.Text.{Form, Lines, digits, number, entries, listed, stepLine, wordLine, stepLines, jobText, text}
 use Rattle.layout.specs.declared.Word.{Word}
@@ -36,7 +38,7 @@ over-digits (suc f) k n s = go (ltb n 10) (over-digits f k (n / 10) ((48 + n % 1
 
 over-number : (k n : ℕ) (s : List ℕ) → afterLines (suc k) (number n s) ≡ afterLines (suc k) s
 unfolding number
-over-number k n s = over-digits 5 k n s
+over-number k n s = over-digits 20 k n s
 
 over-entries : (k : ℕ) (l s : List ℕ) → afterLines (suc k) (entries l s) ≡ afterLines (suc k) s
 unfolding entries
@@ -80,12 +82,12 @@ unfolding jobPart factsRecord filled
 job-part-text s z =
     ap (λ (t : Bool). cond t (afterLines (readOf s .old .len + readOf s .new .len + 2) s) []) (eq-eqb (readOf s .number) 0 z)
     ∙ ap (λ (y : Sheet). afterLines (y .old .len + y .new .len + 2) s) (r .facts)
-    ∙ (λ i. afterLines (length-map (x .old) recordOf i + length-map (x .new) recordOf i + 2) (sound s x (r .parsed) .same i))
+    ∙ (λ i. afterLines (length-map (x .old) recordOf i + length-map (x .new) recordOf i + 2) (sound scope scope-limits s x (r .parsed) .same i))
     ∙ over-text x
     ∙ ap jobText (sym (ap (λ (y : Sheet). jobRead y .done) (r .facts) ∙ take-append-seam (x .done) (replicate (64 - length (x .done)) 0)))
   where
-    r : ReadAs s
-    r = reads-as s z
+    r : ReadAs scope s
+    r = reads-as scope s z
 
     x : Lines
     x = r .lines

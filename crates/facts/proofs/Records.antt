@@ -14,11 +14,14 @@ use Rattle.route.specs.Steps.{stepsOf}
 use Rattle.refusal.specs.Rows.{first}
 use Rattle.route.specs.declared.Step.{Step}
 use Rattle.refusal.specs.declared.Outcome.{Outcome}
-use Rattle.job.specs.Lines.{nameFits, lineRows, LinesPass}
+use Rattle.version.specs.Limits.{scope, nameFits}
+use Rattle.version.proofs.Limits.{scope-limits}
+use Rattle.job.specs.Lines.{lineRows, LinesPass}
+use Rattle.version.specs.declared.Version.{Version}
 use Rattle.layout.specs.Text.{Form, Lines}
 use Rattle.layout.specs.Parse.{Parsed, parse}
 use Rattle.facts.specs.Forms.{allBelow, rising, listFits, formFits, formLists, recordOf}
-use Rattle.facts.specs.Facts.{failed, factsOf, answered, readOf, jobRead}
+use Rattle.facts.specs.Facts.{failed, factsOf, answered, readBy, readOf, jobRead}
 use Rattle.facts.specs.SheetRows.{sheetRows, filled, factsRecord}
 use Rattle.facts.specs.Back.{formOf, linesOf, Wide, AllWide}
 use Rattle.facts.specs.declared.Sheet.{Sheet}
@@ -48,10 +51,10 @@ risen : (l : List ℕ) → listFits l ≡ true → rising 0 l ≡ true
 unfolding listFits
 risen l e = both (leb (length l) 8) (rising 0 l) e .1
 
-pub form-record : (places : ℕ) (f : Form) → places ≤ 64 → Fine places f → formOf (recordOf f) ≡ f
+pub form-record : (v : Version) (places : ℕ) (f : Form) → places ≤ 64 → Fine v places f → formOf (recordOf f) ≡ f
 unfolding recordOf formOf formFits formLists
-form-record places f h fine =
-    let a = both (nameFits (f .name)) _ (fine .fits) in
+form-record v places f h fine =
+    let a = both (nameFits v (f .name)) _ (fine .fits) in
     let b = both (allBelow places (f .ins)) _ (a .1) in
     let c = both (allBelow places (f .outs)) _ (b .1) in
     let d = both (allBelow 32 (f .reads)) _ (c .1) in
@@ -65,27 +68,27 @@ form-record places f h fine =
     let writes = members-mask 32 (f .writes) (risen (f .writes) (s .1)) (d .1) in
     λ i. record { name = f .name; ins = ins i; outs = outs i; reads = reads i; writes = writes i }
 
-forms-records : (l : List Form) (places : ℕ) → places ≤ 64 → AllFine places l → map formOf (map recordOf l) ≡ l
-forms-records [] places h fine = refl
-forms-records (f ∷ l) places h fine = ap₂ {C = List Form} (λ (x : Form) (k : List Form). x ∷ k) (form-record places f h (fine .0)) (forms-records l places h (fine .1))
+forms-records : (v : Version) (l : List Form) (places : ℕ) → places ≤ 64 → AllFine v places l → map formOf (map recordOf l) ≡ l
+forms-records v [] places h fine = refl
+forms-records v (f ∷ l) places h fine = ap₂ {C = List Form} (λ (x : Form) (k : List Form). x ∷ k) (form-record v places f h (fine .0)) (forms-records v l places h (fine .1))
 
 -- ---- the whole
 
 -- the records that reading gives
-pub lines-back : (x : Lines) → AllLines x → linesOf (jobRead (factsRecord x)) ≡ x
+pub lines-back : (v : Version) (x : Lines) → AllLines v x → linesOf (jobRead (factsRecord x)) ≡ x
 unfolding linesOf factsRecord filled
-lines-back x h =
+lines-back v x h =
     λ i. record {
       oldPlaces = x .oldPlaces;
-      old = (ap (map formOf) (filled-steps (x .oldPlaces) (map recordOf (x .old)) (omega (arith, length-map (x .old) recordOf, h .oldFew))) ∙ forms-records (x .old) (x .oldPlaces) (h .oldPlaces) (h .old)) i;
+      old = (ap (map formOf) (filled-steps (x .oldPlaces) (map recordOf (x .old)) (omega (arith, length-map (x .old) recordOf, h .oldFew))) ∙ forms-records v (x .old) (x .oldPlaces) (h .oldPlaces) (h .old)) i;
       newPlaces = x .newPlaces;
-      new = (ap (map formOf) (filled-steps (x .newPlaces) (map recordOf (x .new)) (omega (arith, length-map (x .new) recordOf, h .newFew))) ∙ forms-records (x .new) (x .newPlaces) (h .newPlaces) (h .new)) i;
+      new = (ap (map formOf) (filled-steps (x .newPlaces) (map recordOf (x .new)) (omega (arith, length-map (x .new) recordOf, h .newFew))) ∙ forms-records v (x .new) (x .newPlaces) (h .newPlaces) (h .new)) i;
       done = take-append-seam (x .done) (replicate (64 - length (x .done)) 0) i;
     }
 
-pub read-is : (s : List ℕ) (x : Lines) → parse s ≡ Parsed.read x → readOf s ≡ factsOf x
-unfolding readOf answered
-read-is s x e = ap (answered (length s)) e
+pub read-is : (v : Version) (s : List ℕ) (x : Lines) → parse v s ≡ Parsed.read x → readBy v s ≡ factsOf v x
+unfolding readBy answered
+read-is v s x e = ap (answered v (length s)) e
 
 -- ---- the records that reading gives pass the rows
 
@@ -97,35 +100,35 @@ wide-records (f ∷ l) = (record { ins = masked-below 64 0 (f .ins) (omega arith
 wide-filled : (n : ℕ) (l : List Form) → length l ≤ 64 → AllWide (stepsOf (filled n (map recordOf l)))
 wide-filled n l h = subst AllWide (sym (filled-steps n (map recordOf l) (omega (arith, length-map l recordOf)))) (wide-records l)
 
-records-pass : (x : Lines) → Passes (sheetRows x) → Passes (lineRows (jobRead (factsRecord x)))
+records-pass : (x : Lines) → Passes (sheetRows scope x) → Passes (lineRows (jobRead (factsRecord x)))
 unfolding factsRecord
 records-pass x h =
-    let fine = lines-fine x h in
+    let fine = lines-fine scope scope-limits x h in
     ap (λ (rows : List Outcome). eqb (first rows .number) 0)
     (sym (tie (jobRead (factsRecord x)) (wide-filled (x .oldPlaces) (x .old) (fine .oldFew)) (wide-filled (x .newPlaces) (x .new) (fine .newFew)))
-    ∙ ap sheetRows (lines-back x fine))
+    ∙ ap (sheetRows scope) (lines-back scope x fine))
     ∙ h
 
-pub not-broken : (s r : List ℕ) → readOf s .number ≡ 0 → parse s ≡ Parsed.broken r → ⊥
-unfolding readOf answered failed
-not-broken s r z e = let one : _≡_ {A = ℕ} 1 0 = sym (ap (λ (p : Parsed). answered (length s) p .number) e) ∙ z in omega arith
+pub not-broken : (v : Version) (s r : List ℕ) → readBy v s .number ≡ 0 → parse v s ≡ Parsed.broken r → ⊥
+unfolding readBy answered failed
+not-broken v s r z e = let one : _≡_ {A = ℕ} 1 0 = sym (ap (λ (p : Parsed). answered v (length s) p .number) e) ∙ z in omega arith
 
 -- a sheet that reads: its lines, which no row refuses, and its facts
-pub record ReadAs (s : List ℕ) : Type 0 where
+pub record ReadAs (v : Version) (s : List ℕ) : Type 0 where
   pub lines : Lines
-  pub parsed : parse s ≡ Parsed.read lines
-  pub passes : Passes (sheetRows lines)
-  pub facts : readOf s ≡ factsRecord lines
+  pub parsed : parse v s ≡ Parsed.read lines
+  pub passes : Passes (sheetRows v lines)
+  pub facts : readBy v s ≡ factsRecord lines
 
-pub reads-as : (s : List ℕ) → readOf s .number ≡ 0 → ReadAs s
-reads-as s z = go (parse s) refl
+pub reads-as : (v : Version) (s : List ℕ) → readBy v s .number ≡ 0 → ReadAs v s
+reads-as v s z = go (parse v s) refl
   where
-    go : (p : Parsed) → parse s ≡ p → ReadAs s
+    go : (p : Parsed) → parse v s ≡ p → ReadAs v s
     go (Parsed.read x) e =
-        let passed = reads-facts x (ap (λ (y : Sheet). y .number) (sym (read-is s x e)) ∙ z) in
-        record { lines = x; parsed = e; passes = passed .0; facts = read-is s x e ∙ passed .1 }
-    go (Parsed.broken r) e = absurd (not-broken s r z e)
+        let passed = reads-facts v x (ap (λ (y : Sheet). y .number) (sym (read-is v s x e)) ∙ z) in
+        record { lines = x; parsed = e; passes = passed .0; facts = read-is v s x e ∙ passed .1 }
+    go (Parsed.broken r) e = absurd (not-broken v s r z e)
 
 -- a sheet that reads passes the rows of its lines
 pub read-lines : (s : List ℕ) → readOf s .number ≡ 0 → LinesPass (jobRead (readOf s))
-read-lines s z = let r = reads-as s z in ap (λ (y : Sheet). first (lineRows (jobRead y)) .number) (r .facts) ∙ eqb-true _ 0 (records-pass (r .lines) (r .passes))
+read-lines s z = let r = reads-as scope s z in ap (λ (y : Sheet). first (lineRows (jobRead y)) .number) (r .facts) ∙ eqb-true _ 0 (records-pass (r .lines) (r .passes))

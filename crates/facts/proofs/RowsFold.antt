@@ -16,6 +16,7 @@ use Rattle.route.specs.declared.Route.{Route}
 use Rattle.refusal.specs.declared.Outcome.{Outcome}
 use Rattle.refusal.proofs.Rows.{rows-pass, rows-refuse, head-passed, unless-elim, first-clean, first-alone}
 use Rattle.job.specs.Lines.{placesFit, doneRow, doneRows}
+use Rattle.version.specs.declared.Version.{Version}
 use Rattle.layout.specs.Text.{Form, Lines}
 use Rattle.layout.specs.declared.Part.{Part}
 use Rattle.layout.specs.declared.Part.the-variants.{OldRoute, NewRoute, JobPart}
@@ -109,11 +110,11 @@ isRoute OldRoute = true
 isRoute NewRoute = true
 isRoute JobPart = false
 
-step-in : (p : Part) (line : ℕ) (f : Form) (r : Route) (s : Sheet) → isRoute p ≡ true → stepIn p line f (inRoute p r s) ≡ settled (formRow line (r .places) (r .len) (names (stepsOf r)) f) (inRoute p (stepped r (recordOf f)) s)
+step-in : (v : Version) (p : Part) (line : ℕ) (f : Form) (r : Route) (s : Sheet) → isRoute p ≡ true → stepIn v p line f (inRoute p r s) ≡ settled (formRow v line (r .places) (r .len) (names (stepsOf r)) f) (inRoute p (stepped r (recordOf f)) s)
 unfolding stepIn inRoute isRoute
-step-in OldRoute line f r s e = refl
-step-in NewRoute line f r s e = refl
-step-in JobPart line f r s e = absurd (apart (sym e))
+step-in v OldRoute line f r s e = refl
+step-in v NewRoute line f r s e = refl
+step-in v JobPart line f r s e = absurd (apart (sym e))
 
 number-in : (p : Part) (r : Route) (s : Sheet) → inRoute p r s .number ≡ s .number
 unfolding inRoute
@@ -122,20 +123,20 @@ number-in NewRoute r s = refl
 number-in JobPart r s = refl
 
 -- a step whose rows pass had room
-room : (line places above : ℕ) (earlier : List ℕ) (f : Form) → eqb (first (formRow line places above earlier f ∷ []) .number) 0 ≡ true → above < 64
+room : (v : Version) (line places above : ℕ) (earlier : List ℕ) (f : Form) → eqb (first (formRow v line places above earlier f ∷ []) .number) 0 ≡ true → above < 64
 unfolding formRow
-room line places above earlier f e = ltb-true above 64 (unless-elim (ltb above 64) 4 line refl (head-passed _ _ (head-passed _ [] e .0) .0))
+room v line places above earlier f e = ltb-true above 64 (unless-elim (ltb above 64) 4 line refl (head-passed _ _ (head-passed _ [] e .0) .0))
 
 -- one step's line, after the steps j
-step-stand : (p : Part) (n places : ℕ) (j : List Form) (f : Form) (s : Sheet) → isRoute p ≡ true → length j ≤ 64 → Stand (stepIn p n f (inRoute p (filled places (map recordOf j)) s)) (formRow n places (length (formNames j)) (formNames j) f ∷ []) (inRoute p (filled places (map recordOf (j ++ (f ∷ [])))) s) (length (j ++ (f ∷ [])) ≤ 64)
+step-stand : (v : Version) (p : Part) (n places : ℕ) (j : List Form) (f : Form) (s : Sheet) → isRoute p ≡ true → length j ≤ 64 → Stand (stepIn v p n f (inRoute p (filled places (map recordOf j)) s)) (formRow v n places (length (formNames j)) (formNames j) f ∷ []) (inRoute p (filled places (map recordOf (j ++ (f ∷ [])))) s) (length (j ++ (f ∷ [])) ≤ 64)
 unfolding filled
-step-stand p n places j f s e few =
-    subst (λ (k : Sheet). Stand k (formRow n places (length (formNames j)) (formNames j) f ∷ []) (inRoute p (filled places (map recordOf (j ++ (f ∷ [])))) s) (length (j ++ (f ∷ [])) ≤ 64))
+step-stand v p n places j f s e few =
+    subst (λ (k : Sheet). Stand k (formRow v n places (length (formNames j)) (formNames j) f ∷ []) (inRoute p (filled places (map recordOf (j ++ (f ∷ [])))) s) (length (j ++ (f ∷ [])) ≤ 64))
     (sym
-    (step-in p n f (filled places (map recordOf j)) s e
+    (step-in v p n f (filled places (map recordOf j)) s e
     ∙ ap (λ (o : Outcome). settled o (inRoute p (stepped (filled places (map recordOf j)) (recordOf f)) s)) (row ∙ sym (outer f))))
-    (settle (formRow n places (length (formNames j)) (formNames j) f ∷ []) _ _ _
-    (λ passes. let below : length (formNames j) < 64 = room n places (length (formNames j)) (formNames j) f passes in (
+    (settle (formRow v n places (length (formNames j)) (formNames j) f ∷ []) _ _ _
+    (λ passes. let below : length (formNames j) < 64 = room v n places (length (formNames j)) (formNames j) f passes in (
       ap (λ (r : Route). inRoute p r s) (filled-more places (map recordOf j) (recordOf f) (omega (arith, length-map j recordOf, names-long)) ∙ ap (filled places) (sym (map-more Form Step recordOf j f))),
       omega (arith, length-append j (f ∷ []), names-long),
     )))
@@ -143,10 +144,10 @@ step-stand p n places j f s e few =
     names-long : length (formNames j) ≡ length j
     names-long = unfold formNames in length-map j (λ (g : Form). g .name)
 
-    row : formRow n (filled places (map recordOf j) .places) (filled places (map recordOf j) .len) (names (stepsOf (filled places (map recordOf j)))) f ≡ formRow n places (length (formNames j)) (formNames j) f
-    row = ap₂ (λ (m : ℕ) (k : List ℕ). formRow n places m k f) (length-map j recordOf ∙ sym names-long) (ap names (filled-steps places (map recordOf j) (omega (arith, length-map j recordOf))) ∙ map-map j)
+    row : formRow v n (filled places (map recordOf j) .places) (filled places (map recordOf j) .len) (names (stepsOf (filled places (map recordOf j)))) f ≡ formRow v n places (length (formNames j)) (formNames j) f
+    row = ap₂ (λ (m : ℕ) (k : List ℕ). formRow v n places m k f) (length-map j recordOf ∙ sym names-long) (ap names (filled-steps places (map recordOf j) (omega (arith, length-map j recordOf))) ∙ map-map j)
 
-    outer : (f : Form) → first (formRow n places (length (formNames j)) (formNames j) f ∷ []) ≡ formRow n places (length (formNames j)) (formNames j) f
+    outer : (f : Form) → first (formRow v n places (length (formNames j)) (formNames j) f ∷ []) ≡ formRow v n places (length (formNames j)) (formNames j) f
     outer f = unfold formRow in first-alone _
 
 -- ---- the steps of a route, and the done lines
@@ -161,51 +162,51 @@ unfolding more
 one-line line k n rows new s s′ v v′ z stood on =
     record { lines = ap (λ (m : ℕ). m + 1) (stood .lines); stand = next-line line k rows new s s′ v v′ z (stood .stand) (λ h. subst (λ (m : ℕ). Stand (line (m + 1) s) new s′ v′) (sym (stood .lines)) (on h)) }
 
-steps-stood : (p : Part) (l : List Form) (k : State) (n places : ℕ) (rows : List Outcome) (j : List Form) (s : Sheet) → isRoute p ≡ true → s .number ≡ 0 → Stood k n rows (inRoute p (filled places (map recordOf j)) s) (length j ≤ 64) → Stood (moreSteps p l k) (n + length l) (rows ++ formRows (n + 1) places (formNames j) l) (inRoute p (filled places (map recordOf (j ++ l))) s) (length (j ++ l) ≤ 64)
+steps-stood : (v : Version) (p : Part) (l : List Form) (k : State) (n places : ℕ) (rows : List Outcome) (j : List Form) (s : Sheet) → isRoute p ≡ true → s .number ≡ 0 → Stood k n rows (inRoute p (filled places (map recordOf j)) s) (length j ≤ 64) → Stood (moreSteps v p l k) (n + length l) (rows ++ formRows v (n + 1) places (formNames j) l) (inRoute p (filled places (map recordOf (j ++ l))) s) (length (j ++ l) ≤ 64)
 unfolding moreSteps formRows
-steps-stood p [] k n places rows j s e z stood =
+steps-stood v p [] k n places rows j s e z stood =
     subst₃ (λ (m : ℕ) (r : List Outcome) (i : List Form). Stood k m r (inRoute p (filled places (map recordOf i)) s) (length i ≤ 64)) (omega arith) (sym (append-nil rows)) (sym (append-nil j)) stood
-steps-stood p (f ∷ l) k n places rows j s e z stood =
+steps-stood v p (f ∷ l) k n places rows j s e z stood =
     again
-    (steps-stood p l (more (λ i x. stepIn p i f x) k) (n + 1) places (rows ++ (formRow (n + 1) places (length (formNames j)) (formNames j) f ∷ [])) (j ++ (f ∷ [])) s e z
-    (one-line (λ i x. stepIn p i f x) k n rows _ _ _ _ _ (number-in p _ s ∙ z) stood (λ few. step-stand p (n + 1) places j f s e few)))
+    (steps-stood v p l (more (λ i x. stepIn v p i f x) k) (n + 1) places (rows ++ (formRow v (n + 1) places (length (formNames j)) (formNames j) f ∷ [])) (j ++ (f ∷ [])) s e z
+    (one-line (λ i x. stepIn v p i f x) k n rows _ _ _ _ _ (number-in p _ s ∙ z) stood (λ few. step-stand v p (n + 1) places j f s e few)))
   where
-    again : Stood (moreSteps p l (more (λ i x. stepIn p i f x) k)) (n + 1 + length l) ((rows ++ (formRow (n + 1) places (length (formNames j)) (formNames j) f ∷ [])) ++ formRows (n + 1 + 1) places (formNames (j ++ (f ∷ []))) l) (inRoute p (filled places (map recordOf ((j ++ (f ∷ [])) ++ l))) s) (length ((j ++ (f ∷ [])) ++ l) ≤ 64) → Stood (moreSteps p l (more (λ i x. stepIn p i f x) k)) (n + suc (length l)) (rows ++ (formRow (n + 1) places (length (formNames j)) (formNames j) f ∷ formRows (n + 1 + 1) places (formNames j ++ (f .name ∷ [])) l)) (inRoute p (filled places (map recordOf (j ++ (f ∷ l)))) s) (length (j ++ (f ∷ l)) ≤ 64)
-    again = subst₃ (λ (m : ℕ) (r : List Outcome) (i : List Form). Stood (moreSteps p l (more (λ i x. stepIn p i f x) k)) m r (inRoute p (filled places (map recordOf i)) s) (length i ≤ 64))
+    again : Stood (moreSteps v p l (more (λ i x. stepIn v p i f x) k)) (n + 1 + length l) ((rows ++ (formRow v (n + 1) places (length (formNames j)) (formNames j) f ∷ [])) ++ formRows v (n + 1 + 1) places (formNames (j ++ (f ∷ []))) l) (inRoute p (filled places (map recordOf ((j ++ (f ∷ [])) ++ l))) s) (length ((j ++ (f ∷ [])) ++ l) ≤ 64) → Stood (moreSteps v p l (more (λ i x. stepIn v p i f x) k)) (n + suc (length l)) (rows ++ (formRow v (n + 1) places (length (formNames j)) (formNames j) f ∷ formRows v (n + 1 + 1) places (formNames j ++ (f .name ∷ [])) l)) (inRoute p (filled places (map recordOf (j ++ (f ∷ l)))) s) (length (j ++ (f ∷ l)) ≤ 64)
+    again = subst₃ (λ (m : ℕ) (r : List Outcome) (i : List Form). Stood (moreSteps v p l (more (λ i x. stepIn v p i f x) k)) m r (inRoute p (filled places (map recordOf i)) s) (length i ≤ 64))
         (omega arith)
-        (append-assoc rows _ _ ∙ ap (λ (m : List ℕ). rows ++ (formRow (n + 1) places (length (formNames j)) (formNames j) f ∷ formRows (n + 1 + 1) places m l)) (unfold formNames in map-more Form ℕ (λ (g : Form). g .name) j f))
+        (append-assoc rows _ _ ∙ ap (λ (m : List ℕ). rows ++ (formRow v (n + 1) places (length (formNames j)) (formNames j) f ∷ formRows v (n + 1 + 1) places m l)) (unfold formNames in map-more Form ℕ (λ (g : Form). g .name) j f))
         (append-assoc j (f ∷ []) l)
 
 withDones : List ℕ → Sheet → Sheet
 withDones l s = record { number = s .number; second = s .second; old = s .old; new = s .new; «done_len» = length l; done = l ++ replicate (64 - length l) 0 }
 
-done-stand : (n : ℕ) (j : List ℕ) (m : ℕ) (s : Sheet) → length j ≤ 64 → Stand (doneIn n m (withDones j s)) (doneRow n (length j) m ∷ []) (withDones (j ++ (m ∷ [])) s) (length (j ++ (m ∷ [])) ≤ 64)
+done-stand : (v : Version) (n : ℕ) (j : List ℕ) (m : ℕ) (s : Sheet) → length j ≤ 64 → Stand (doneIn v n m (withDones j s)) (doneRow v n (length j) m ∷ []) (withDones (j ++ (m ∷ [])) s) (length (j ++ (m ∷ [])) ≤ 64)
 unfolding doneIn withDones doneRow
-done-stand n j m s few =
-    subst (λ (k : Sheet). Stand k (doneRow n (length j) m ∷ []) (withDones (j ++ (m ∷ [])) s) (length (j ++ (m ∷ [])) ≤ 64))
+done-stand v n j m s few =
+    subst (λ (k : Sheet). Stand k (doneRow v n (length j) m ∷ []) (withDones (j ++ (m ∷ [])) s) (length (j ++ (m ∷ [])) ≤ 64))
     (ap (λ (o : Outcome). settled o (withDone m (withDones j s))) (first-alone _))
-    (settle (doneRow n (length j) m ∷ []) _ _ _
+    (settle (doneRow v n (length j) m ∷ []) _ _ _
     (λ passes. let below : length j < 64 = has-room passes in (
       (λ i. record { number = s .number; second = s .second; old = s .old; new = s .new; «done_len» = sym (length-append j (m ∷ [])) i; done = fill ℕ j m 0 below i }),
       omega (arith, length-append j (m ∷ [])),
     )))
   where
-    has-room : eqb (first (doneRow n (length j) m ∷ []) .number) 0 ≡ true → length j < 64
+    has-room : eqb (first (doneRow v n (length j) m ∷ []) .number) 0 ≡ true → length j < 64
     has-room e = ltb-true (length j) 64 (unless-elim (ltb (length j) 64) 4 n refl (head-passed _ _ (head-passed _ [] e .0) .0))
 
-dones-stood : (l : List ℕ) (k : State) (n : ℕ) (rows : List Outcome) (j : List ℕ) (s : Sheet) → s .number ≡ 0 → Stood k n rows (withDones j s) (length j ≤ 64) → Stood (moreDones l k) (n + length l) (rows ++ doneRows (n + 1) (length j) l) (withDones (j ++ l) s) (length (j ++ l) ≤ 64)
+dones-stood : (v : Version) (l : List ℕ) (k : State) (n : ℕ) (rows : List Outcome) (j : List ℕ) (s : Sheet) → s .number ≡ 0 → Stood k n rows (withDones j s) (length j ≤ 64) → Stood (moreDones v l k) (n + length l) (rows ++ doneRows v (n + 1) (length j) l) (withDones (j ++ l) s) (length (j ++ l) ≤ 64)
 unfolding moreDones doneRows withDones
-dones-stood [] k n rows j s z stood =
+dones-stood v [] k n rows j s z stood =
     subst₃ (λ (m : ℕ) (r : List Outcome) (i : List ℕ). Stood k m r (withDones i s) (length i ≤ 64)) (omega arith) (sym (append-nil rows)) (sym (append-nil j)) stood
-dones-stood (m ∷ l) k n rows j s z stood =
+dones-stood v (m ∷ l) k n rows j s z stood =
     again
-    (dones-stood l (more (λ i x. doneIn i m x) k) (n + 1) (rows ++ (doneRow (n + 1) (length j) m ∷ [])) (j ++ (m ∷ [])) s z
-    (one-line (λ i x. doneIn i m x) k n rows _ _ _ _ _ z stood (λ few. done-stand (n + 1) j m s few)))
+    (dones-stood v l (more (λ i x. doneIn v i m x) k) (n + 1) (rows ++ (doneRow v (n + 1) (length j) m ∷ [])) (j ++ (m ∷ [])) s z
+    (one-line (λ i x. doneIn v i m x) k n rows _ _ _ _ _ z stood (λ few. done-stand v (n + 1) j m s few)))
   where
-    again : Stood (moreDones l (more (λ i x. doneIn i m x) k)) (n + 1 + length l) ((rows ++ (doneRow (n + 1) (length j) m ∷ [])) ++ doneRows (n + 1 + 1) (length (j ++ (m ∷ []))) l) (withDones ((j ++ (m ∷ [])) ++ l) s) (length ((j ++ (m ∷ [])) ++ l) ≤ 64) → Stood (moreDones l (more (λ i x. doneIn i m x) k)) (n + suc (length l)) (rows ++ (doneRow (n + 1) (length j) m ∷ doneRows (n + 1 + 1) (length j + 1) l)) (withDones (j ++ (m ∷ l)) s) (length (j ++ (m ∷ l)) ≤ 64)
-    again = subst₃ (λ (q : ℕ) (r : List Outcome) (i : List ℕ). Stood (moreDones l (more (λ i x. doneIn i m x) k)) q r (withDones i s) (length i ≤ 64))
+    again : Stood (moreDones v l (more (λ i x. doneIn v i m x) k)) (n + 1 + length l) ((rows ++ (doneRow v (n + 1) (length j) m ∷ [])) ++ doneRows v (n + 1 + 1) (length (j ++ (m ∷ []))) l) (withDones ((j ++ (m ∷ [])) ++ l) s) (length ((j ++ (m ∷ [])) ++ l) ≤ 64) → Stood (moreDones v l (more (λ i x. doneIn v i m x) k)) (n + suc (length l)) (rows ++ (doneRow v (n + 1) (length j) m ∷ doneRows v (n + 1 + 1) (length j + 1) l)) (withDones (j ++ (m ∷ l)) s) (length (j ++ (m ∷ l)) ≤ 64)
+    again = subst₃ (λ (q : ℕ) (r : List Outcome) (i : List ℕ). Stood (moreDones v l (more (λ i x. doneIn v i m x) k)) q r (withDones i s) (length i ≤ 64))
         (omega arith)
-        (append-assoc rows _ _ ∙ ap (λ (q : ℕ). rows ++ (doneRow (n + 1) (length j) m ∷ doneRows (n + 1 + 1) q l)) (length-append j (m ∷ [])))
+        (append-assoc rows _ _ ∙ ap (λ (q : ℕ). rows ++ (doneRow v (n + 1) (length j) m ∷ doneRows v (n + 1 + 1) q l)) (length-append j (m ∷ [])))
         (append-assoc j (m ∷ []) l)
 
 -- ---- the heads, and the whole
@@ -241,12 +242,12 @@ job-stand line places l s few =
 regroup : (r₀ a b c : Outcome) (x y z : List Outcome) → (((((r₀ ∷ []) ++ x) ++ (a ∷ b ∷ [])) ++ y) ++ (c ∷ [])) ++ z ≡ (r₀ ∷ (x ++ (a ∷ []))) ++ ((b ∷ (y ++ (c ∷ []))) ++ z)
 regroup r₀ a b c x y z = simp append-assoc
 
-module _ (x : Lines) where
+module _ (v : Version) (x : Lines) where
   old-state : State
-  old-state = moreSteps OldRoute (x .old) (more (λ i s. oldHead i (x .oldPlaces) s) nothing)
+  old-state = moreSteps v OldRoute (x .old) (more (λ i s. oldHead i (x .oldPlaces) s) nothing)
 
   old-rows : List Outcome
-  old-rows = (unless (placesFit (x .oldPlaces)) 2 1 ∷ []) ++ formRows (1 + 1) (x .oldPlaces) [] (x .old)
+  old-rows = (unless (placesFit (x .oldPlaces)) 2 1 ∷ []) ++ formRows v (1 + 1) (x .oldPlaces) [] (x .old)
 
   old-facts : Sheet
   old-facts = inRoute OldRoute (filled (x .oldPlaces) (map recordOf (x .old))) (failed 0 0)
@@ -254,17 +255,17 @@ module _ (x : Lines) where
   old-part : Stood old-state (1 + length (x .old)) old-rows old-facts (length (x .old) ≤ 64)
   unfolding old-state old-rows old-facts formNames first failed isRoute
   old-part =
-      steps-stood OldRoute (x .old) _ 1 (x .oldPlaces) _ [] (failed 0 0) refl refl
+      steps-stood v OldRoute (x .old) _ 1 (x .oldPlaces) _ [] (failed 0 0) refl refl
       (one-line (λ i s. oldHead i (x .oldPlaces) s) nothing 0 [] _ (failed 0 0) _ (Unit {0}) _ refl (record { lines = refl; stand = stands refl refl tt }) (λ h. old-stand (x .oldPlaces)))
 
   new-at : ℕ
   new-at = 1 + length (x .old) + 1
 
   new-state : State
-  new-state = moreSteps NewRoute (x .new) (more (λ i s. newHead i (x .newPlaces) s) old-state)
+  new-state = moreSteps v NewRoute (x .new) (more (λ i s. newHead i (x .newPlaces) s) old-state)
 
   new-rows : List Outcome
-  new-rows = (old-rows ++ (unless (not (eqb (length (x .old)) 0)) 4 new-at ∷ unless (placesFit (x .newPlaces)) 2 new-at ∷ [])) ++ formRows (new-at + 1) (x .newPlaces) [] (x .new)
+  new-rows = (old-rows ++ (unless (not (eqb (length (x .old)) 0)) 4 new-at ∷ unless (placesFit (x .newPlaces)) 2 new-at ∷ [])) ++ formRows v (new-at + 1) (x .newPlaces) [] (x .new)
 
   new-facts : Sheet
   new-facts = inRoute NewRoute (filled (x .newPlaces) (map recordOf (x .new))) old-facts
@@ -272,26 +273,26 @@ module _ (x : Lines) where
   new-part : Stood new-state (new-at + length (x .new)) new-rows new-facts (length (x .new) ≤ 64)
   unfolding new-state new-rows new-facts new-at formNames old-facts inRoute failed isRoute
   new-part =
-      steps-stood NewRoute (x .new) _ new-at (x .newPlaces) _ [] old-facts refl refl
+      steps-stood v NewRoute (x .new) _ new-at (x .newPlaces) _ [] old-facts refl refl
       (one-line (λ i s. newHead i (x .newPlaces) s) old-state (1 + length (x .old)) old-rows _ old-facts _ _ _ refl old-part (λ few. new-stand new-at (x .newPlaces) (x .oldPlaces) (x .old) few))
 
   job-at : ℕ
   job-at = new-at + length (x .new) + 1
 
-  whole-part : Stood (moreDones (x .done) (more jobHead new-state)) (job-at + length (x .done)) ((new-rows ++ (unless (not (eqb (length (x .new)) 0)) 4 job-at ∷ [])) ++ doneRows (job-at + 1) 0 (x .done)) (factsRecord x) (length (x .done) ≤ 64)
+  whole-part : Stood (moreDones v (x .done) (more jobHead new-state)) (job-at + length (x .done)) ((new-rows ++ (unless (not (eqb (length (x .new)) 0)) 4 job-at ∷ [])) ++ doneRows v (job-at + 1) 0 (x .done)) (factsRecord x) (length (x .done) ≤ 64)
   unfolding job-at new-facts old-facts inRoute failed withDones factsRecord
   whole-part =
-      dones-stood (x .done) _ job-at _ [] new-facts refl
+      dones-stood v (x .done) _ job-at _ [] new-facts refl
       (one-line jobHead new-state (new-at + length (x .new)) new-rows _ new-facts new-facts _ _ refl new-part (λ few. job-stand job-at (x .newPlaces) (x .new) old-facts few))
 
   all-rows : ℕ → ℕ → List Outcome
   all-rows a b =
-      (unless (placesFit (x .oldPlaces)) 2 1 ∷ (formRows (1 + 1) (x .oldPlaces) [] (x .old) ++ (unless (not (eqb (length (x .old)) 0)) 4 a ∷ [])))
-      ++ ((unless (placesFit (x .newPlaces)) 2 a ∷ (formRows (a + 1) (x .newPlaces) [] (x .new) ++ (unless (not (eqb (length (x .new)) 0)) 4 b ∷ []))) ++ doneRows (b + 1) 0 (x .done))
+      (unless (placesFit (x .oldPlaces)) 2 1 ∷ (formRows v (1 + 1) (x .oldPlaces) [] (x .old) ++ (unless (not (eqb (length (x .old)) 0)) 4 a ∷ [])))
+      ++ ((unless (placesFit (x .newPlaces)) 2 a ∷ (formRows v (a + 1) (x .newPlaces) [] (x .new) ++ (unless (not (eqb (length (x .new)) 0)) 4 b ∷ []))) ++ doneRows v (b + 1) 0 (x .done))
 
-  rows-are : (new-rows ++ (unless (not (eqb (length (x .new)) 0)) 4 job-at ∷ [])) ++ doneRows (job-at + 1) 0 (x .done) ≡ sheetRows x
+  rows-are : (new-rows ++ (unless (not (eqb (length (x .new)) 0)) 4 job-at ∷ [])) ++ doneRows v (job-at + 1) 0 (x .done) ≡ sheetRows v x
   unfolding new-rows old-rows all-rows sheetRows routeFormRows job-at new-at
-  rows-are = regroup _ _ _ _ (formRows (1 + 1) (x .oldPlaces) [] (x .old)) (formRows (new-at + 1) (x .newPlaces) [] (x .new)) (doneRows (job-at + 1) 0 (x .done)) ∙ ap₂ all-rows new-line job-line
+  rows-are = regroup _ _ _ _ (formRows v (1 + 1) (x .oldPlaces) [] (x .old)) (formRows v (new-at + 1) (x .newPlaces) [] (x .new)) (doneRows v (job-at + 1) 0 (x .done)) ∙ ap₂ all-rows new-line job-line
     where
       new-line : 1 + length (x .old) + 1 ≡ afterForms 1 (x .old)
       new-line = omega arith
@@ -300,24 +301,24 @@ module _ (x : Lines) where
       job-line = omega arith
 
   -- the facts of a sheet are those of its lines where no row refuses, and else the first refusal
-  pub facts-stand : Stand (factsOf x) (sheetRows x) (factsRecord x) (length (x .done) ≤ 64)
+  pub facts-stand : Stand (factsOf v x) (sheetRows v x) (factsRecord x) (length (x .done) ≤ 64)
   unfolding factsOf new-state old-state
-  facts-stand = subst (λ (rows : List Outcome). Stand (factsOf x) rows (factsRecord x) (length (x .done) ≤ 64)) rows-are (whole-part .stand)
+  facts-stand = subst (λ (rows : List Outcome). Stand (factsOf v x) rows (factsRecord x) (length (x .done) ≤ 64)) rows-are (whole-part .stand)
 
   -- a sheet reads exactly where its rows pass, and then gives the facts of its lines
-  pub reads-facts : factsOf x .number ≡ 0 → (eqb (first (sheetRows x) .number) 0 ≡ true) × (factsOf x ≡ factsRecord x)
+  pub reads-facts : factsOf v x .number ≡ 0 → (eqb (first (sheetRows v x) .number) 0 ≡ true) × (factsOf v x ≡ factsRecord x)
   unfolding failed
   reads-facts z = go facts-stand
     where
-      go : Stand (factsOf x) (sheetRows x) (factsRecord x) (length (x .done) ≤ 64) → (eqb (first (sheetRows x) .number) 0 ≡ true) × (factsOf x ≡ factsRecord x)
+      go : Stand (factsOf v x) (sheetRows v x) (factsRecord x) (length (x .done) ≤ 64) → (eqb (first (sheetRows v x) .number) 0 ≡ true) × (factsOf v x ≡ factsRecord x)
       go (stands e q h) = (e, q)
-      go (fails e q) = absurd (eqb-false (first (sheetRows x) .number) 0 e (sym (ap (λ (s : Sheet). s .number) q) ∙ z))
+      go (fails e q) = absurd (eqb-false (first (sheetRows v x) .number) 0 e (sym (ap (λ (s : Sheet). s .number) q) ∙ z))
 
   -- the rows of a sheet say what reading it answers
-  pub rows-answer : (factsOf x .number ≡ first (sheetRows x) .number) × (factsOf x .second ≡ first (sheetRows x) .second)
+  pub rows-answer : (factsOf v x .number ≡ first (sheetRows v x) .number) × (factsOf v x .second ≡ first (sheetRows v x) .second)
   unfolding failed factsRecord
   rows-answer = go facts-stand
     where
-      go : Stand (factsOf x) (sheetRows x) (factsRecord x) (length (x .done) ≤ 64) → (factsOf x .number ≡ first (sheetRows x) .number) × (factsOf x .second ≡ first (sheetRows x) .second)
-      go (stands e q h) = let passes = first-clean (sheetRows x) e in (ap (λ (s : Sheet). s .number) q ∙ ap (λ (o : Outcome). o .number) (sym passes), ap (λ (s : Sheet). s .second) q ∙ ap (λ (o : Outcome). o .second) (sym passes))
+      go : Stand (factsOf v x) (sheetRows v x) (factsRecord x) (length (x .done) ≤ 64) → (factsOf v x .number ≡ first (sheetRows v x) .number) × (factsOf v x .second ≡ first (sheetRows v x) .second)
+      go (stands e q h) = let passes = first-clean (sheetRows v x) e in (ap (λ (s : Sheet). s .number) q ∙ ap (λ (o : Outcome). o .number) (sym passes), ap (λ (s : Sheet). s .second) q ∙ ap (λ (o : Outcome). o .second) (sym passes))
       go (fails e q) = (ap (λ (s : Sheet). s .number) q, ap (λ (s : Sheet). s .second) q)

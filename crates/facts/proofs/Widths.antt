@@ -16,7 +16,8 @@ use Rattle.refusal.specs.declared.Outcome.{Outcome}
 use Rattle.refusal.proofs.Rows.{head-passed, unless-elim, rows-passed}
 use Rattle.route.specs.declared.Step.{Step}
 use Rattle.job.specs.Job.{Job, newLine, jobLine}
-use Rattle.job.specs.Lines.{nameFits, placesFit, stepFits, variableList, placeList, listsFit, among, stepRow, stepRows, routeRows, doneRows, lineRows}
+use Rattle.version.specs.Limits.{scope, nameFits}
+use Rattle.job.specs.Lines.{placesFit, stepFits, variableList, placeList, listsFit, among, stepRow, stepRows, routeRows, doneRows, lineRows}
 use Rattle.job.proofs.Rows.{route-fits}
 use Rattle.layout.specs.Text.{Form}
 use Rattle.facts.specs.Back.{formOf, linesOf, Wide, AllWide, asRecord, asRecords}
@@ -69,8 +70,8 @@ pub rows-as-records : (j : Job) → lineRows (asRecords j) ≡ lineRows j
 unfolding lineRows asRecords
 rows-as-records j =
     (λ i. routeRows 1 (j .oldPlaces) (map asRecord (j .old))
-    ++ (routeRows (1 + 1 + length-map (j .old) asRecord i) (j .newPlaces) (map asRecord (j .new)) ++ doneRows (1 + 1 + length-map (j .old) asRecord i + 1 + length-map (j .new) asRecord i + 1) 0 (j .done)))
-    ∙ ap₂ (λ (x y : List Outcome). x ++ (y ++ doneRows (jobLine j + 1) 0 (j .done))) (route-same 1 (j .oldPlaces) (j .old)) (route-same (newLine j) (j .newPlaces) (j .new))
+    ++ (routeRows (1 + 1 + length-map (j .old) asRecord i) (j .newPlaces) (map asRecord (j .new)) ++ doneRows scope (1 + 1 + length-map (j .old) asRecord i + 1 + length-map (j .new) asRecord i + 1) 0 (j .done)))
+    ∙ ap₂ (λ (x y : List Outcome). x ++ (y ++ doneRows scope (jobLine j + 1) 0 (j .done))) (route-same 1 (j .oldPlaces) (j .old)) (route-same (newLine j) (j .newPlaces) (j .new))
 
 -- ---- where the rows pass, it has the masks' widths
 
@@ -79,7 +80,7 @@ step-wide : (line places : ℕ) (earlier : List ℕ) (s : Step) → places ≤ 6
 unfolding stepRow stepFits asRecord
 step-wide line places earlier s few h =
     let fits = unless-elim (stepFits places s) 2 line refl (head-passed _ _ (head-passed _ _ h .1) .0) in
-    let places-in = both (nameFits (s .name)) _ fits .1 in
+    let places-in = both (nameFits scope (s .name)) _ fits .1 in
     let (ins, outs) = both (within (s .ins) (below places)) (within (s .outs) (below places)) (sym (within-or (s .ins) (s .outs) (below places)) ∙ places-in) in
     record { ins = wide (s .ins) ins; outs = wide (s .outs) outs; reads = cut-below (s .reads) 32; writes = cut-below (s .writes) 32 }
   where

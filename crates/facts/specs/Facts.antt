@@ -11,6 +11,8 @@ use Rattle.route.specs.declared.Route.{Route}
 use Rattle.refusal.specs.declared.Outcome.{Outcome}
 use Rattle.job.specs.Job.{Job, jobOf}
 use Rattle.job.specs.Lines.{placesFit, doneRow}
+use Rattle.version.specs.Limits.{scope}
+use Rattle.version.specs.declared.Version.{Version}
 use Rattle.layout.specs.Text.{Form, Lines}
 use Rattle.layout.specs.Parse.{Parsed, parse}
 use Rattle.layout.specs.declared.Part.{Part}
@@ -53,13 +55,13 @@ newHead line n s = settled (first (unless (not (eqb (s .old .len) 0)) 4 line ∷
 unfoldable pub jobHead : ℕ → Sheet → Sheet
 jobHead line s = settled (unless (not (eqb (s .new .len) 0)) 4 line) s
 
-unfoldable pub doneIn : ℕ → ℕ → Sheet → Sheet
-doneIn line n s = settled (doneRow line (s .«done_len») n) (withDone n s)
+unfoldable pub doneIn : Version → ℕ → ℕ → Sheet → Sheet
+doneIn v line n s = settled (doneRow v line (s .«done_len») n) (withDone n s)
 
-unfoldable pub stepIn : Part → ℕ → Form → Sheet → Sheet
-stepIn OldRoute line f s = settled (formRow line (s .old .places) (s .old .len) (names (stepsOf (s .old))) f) (withOld (stepped (s .old) (recordOf f)) s)
-stepIn NewRoute line f s = settled (formRow line (s .new .places) (s .new .len) (names (stepsOf (s .new))) f) (withNew (stepped (s .new) (recordOf f)) s)
-stepIn JobPart line f s = s
+unfoldable pub stepIn : Version → Part → ℕ → Form → Sheet → Sheet
+stepIn v OldRoute line f s = settled (formRow v line (s .old .places) (s .old .len) (names (stepsOf (s .old))) f) (withOld (stepped (s .old) (recordOf f)) s)
+stepIn v NewRoute line f s = settled (formRow v line (s .new .places) (s .new .len) (names (stepsOf (s .new))) f) (withNew (stepped (s .new) (recordOf f)) s)
+stepIn v JobPart line f s = s
 
 -- ---- the lines top down: how many have been read, and what they gave
 
@@ -71,33 +73,37 @@ pub record State : Type 0 where
 unfoldable pub more : (ℕ → Sheet → Sheet) → State → State
 more line k = record { lines = k .lines + 1; sheet = cond (eqb (k .sheet .number) 0) (line (k .lines + 1) (k .sheet)) (k .sheet) }
 
-unfoldable pub moreSteps : Part → List Form → State → State
-moreSteps p [] k = k
-moreSteps p (f ∷ l) k = moreSteps p l (more (λ n s. stepIn p n f s) k)
+unfoldable pub moreSteps : Version → Part → List Form → State → State
+moreSteps v p [] k = k
+moreSteps v p (f ∷ l) k = moreSteps v p l (more (λ n s. stepIn v p n f s) k)
 
-unfoldable pub moreDones : List ℕ → State → State
-moreDones [] k = k
-moreDones (n ∷ l) k = moreDones l (more (λ i s. doneIn i n s) k)
+unfoldable pub moreDones : Version → List ℕ → State → State
+moreDones v [] k = k
+moreDones v (n ∷ l) k = moreDones v l (more (λ i s. doneIn v i n s) k)
 
 abbrev pub nothing : State
 nothing = record { lines = 0; sheet = failed 0 0 }
 
-unfoldable pub factsOf : Lines → Sheet
-factsOf x =
-    moreDones (x .done)
+unfoldable pub factsOf : Version → Lines → Sheet
+factsOf v x =
+    moreDones v (x .done)
     (more jobHead
-    (moreSteps NewRoute (x .new)
+    (moreSteps v NewRoute (x .new)
     (more (λ i s. newHead i (x .newPlaces) s)
-    (moreSteps OldRoute (x .old) (more (λ i s. oldHead i (x .oldPlaces) s) nothing)))))
+    (moreSteps v OldRoute (x .old) (more (λ i s. oldHead i (x .oldPlaces) s) nothing)))))
     .sheet
 
 -- row 1 over the whole sheet, then its lines
-unfoldable pub answered : ℕ → Parsed → Sheet
-answered long (Parsed.read x) = factsOf x
-answered long (Parsed.broken r) = failed 1 (long - length r)
+unfoldable pub answered : Version → ℕ → Parsed → Sheet
+answered v long (Parsed.read x) = factsOf v x
+answered v long (Parsed.broken r) = failed 1 (long - length r)
 
-unfoldable pub readOf : List ℕ → Sheet
-readOf s = answered (length s) (parse s)
+unfoldable pub readBy : Version → List ℕ → Sheet
+readBy v s = answered v (length s) (parse v s)
+
+-- by 01's version
+abbrev pub readOf : List ℕ → Sheet
+readOf s = readBy scope s
 
 -- the job that a sheet's facts tell of, as records
 abbrev pub jobRead : Sheet → Job

@@ -9,7 +9,9 @@ use Rattle.mask.specs.Mask.{bit}
 use Rattle.refusal.specs.Rows.{unless, first}
 use Rattle.route.specs.declared.Step.{Step}
 use Rattle.refusal.specs.declared.Outcome.{Outcome}
-use Rattle.job.specs.Lines.{nameFits, among}
+use Rattle.version.specs.Limits.{nameFits}
+use Rattle.job.specs.Lines.{among}
+use Rattle.version.specs.declared.Version.{Version}
 use Rattle.layout.specs.Text.{Form}
 
 -- every entry is below n
@@ -23,8 +25,8 @@ rising low [] = true
 rising low (v ∷ l) = leb low v && rising (suc v) l
 
 -- 2: a number outside its range, or a place not below N
-unfoldable pub formFits : ℕ → Form → Bool
-formFits places f = nameFits (f .name) && (allBelow places (f .ins) && (allBelow places (f .outs) && (allBelow 32 (f .reads) && allBelow 32 (f .writes))))
+unfoldable pub formFits : Version → ℕ → Form → Bool
+formFits v places f = nameFits v (f .name) && (allBelow places (f .ins) && (allBelow places (f .outs) && (allBelow 32 (f .reads) && allBelow 32 (f .writes))))
 
 -- 3: in or out empty, a list over 8, or an entry not above the one before
 unfoldable pub listFits : List ℕ → Bool
@@ -36,11 +38,11 @@ formLists f =
     && (not (eqb (length (f .outs)) 0) && (listFits (f .ins) && (listFits (f .outs) && (listFits (f .reads) && listFits (f .writes)))))
 
 -- the rows of one step's line, given how many steps stand above it and their names
-unfoldable pub formRow : ℕ → ℕ → ℕ → List ℕ → Form → Outcome
-formRow line places above earlier f =
+unfoldable pub formRow : Version → ℕ → ℕ → ℕ → List ℕ → Form → Outcome
+formRow v line places above earlier f =
     first
     (unless (ltb above 64) 4 line
-    ∷ unless (formFits places f) 2 line
+    ∷ unless (formFits v places f) 2 line
     ∷ unless (formLists f) 3 line
     ∷ unless (not (among (f .name) earlier)) 5 line
     ∷ [])

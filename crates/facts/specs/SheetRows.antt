@@ -11,28 +11,29 @@ use Rattle.route.specs.declared.Route.{Route}
 use Rattle.refusal.specs.declared.Outcome.{Outcome}
 use Rattle.job.specs.Job.{Job}
 use Rattle.job.specs.Lines.{placesFit, doneRows}
+use Rattle.version.specs.declared.Version.{Version}
 use Rattle.layout.specs.Text.{Form, Lines}
 use Rattle.facts.specs.Forms.{formRow, recordOf}
 use Rattle.facts.specs.declared.Sheet.{Sheet}
 
-unfoldable pub formRows : ℕ → ℕ → List ℕ → List Form → List Outcome
-formRows line places earlier [] = []
-formRows line places earlier (f ∷ l) = formRow line places (length earlier) earlier f ∷ formRows (line + 1) places (earlier ++ (f .name ∷ [])) l
+unfoldable pub formRows : Version → ℕ → ℕ → List ℕ → List Form → List Outcome
+formRows v line places earlier [] = []
+formRows v line places earlier (f ∷ l) = formRow v line places (length earlier) earlier f ∷ formRows v (line + 1) places (earlier ++ (f .name ∷ [])) l
 
 -- the line of the head that follows a route's
 abbrev pub afterForms : ℕ → List Form → ℕ
 afterForms line l = line + 1 + length l
 
-unfoldable pub routeFormRows : ℕ → ℕ → List Form → List Outcome
-routeFormRows line places l =
+unfoldable pub routeFormRows : Version → ℕ → ℕ → List Form → List Outcome
+routeFormRows v line places l =
     unless (placesFit places) 2 line
-    ∷ (formRows (line + 1) places [] l ++ (unless (not (eqb (length l) 0)) 4 (afterForms line l) ∷ []))
+    ∷ (formRows v (line + 1) places [] l ++ (unless (not (eqb (length l) 0)) 4 (afterForms line l) ∷ []))
 
 -- all lines, top down, as for records
-unfoldable pub sheetRows : Lines → List Outcome
-sheetRows x =
-    routeFormRows 1 (x .oldPlaces) (x .old)
-    ++ (routeFormRows (afterForms 1 (x .old)) (x .newPlaces) (x .new) ++ doneRows (afterForms (afterForms 1 (x .old)) (x .new) + 1) 0 (x .done))
+unfoldable pub sheetRows : Version → Lines → List Outcome
+sheetRows v x =
+    routeFormRows v 1 (x .oldPlaces) (x .old)
+    ++ (routeFormRows v (afterForms 1 (x .old)) (x .newPlaces) (x .new) ++ doneRows v (afterForms (afterForms 1 (x .old)) (x .new) + 1) 0 (x .done))
 
 -- a route by value of these steps, and a done list of these names
 unfoldable pub filled : ℕ → List Step → Route
