@@ -11,7 +11,9 @@ use lib.ListN.{length}
 use lib.Bits.{bitOr}
 use borrow.Author.Tests.{lt-ltb, le-leb, lt-leb, ltb-true, ltb-false, leb-true}
 use Rattle.mask.specs.Mask.{bit}
-use Rattle.job.specs.Lines.{nameFits}
+use Rattle.version.specs.Limits.{nameFits, Limits}
+use Rattle.version.specs.declared.Version.{Version}
+use Rattle.version.proofs.Limits.{name-stored}
 use Rattle.layout.specs.Text.{Form}
 use Rattle.facts.specs.Forms.{allBelow, rising, listFits, formFits, formLists, masked, recordOf}
 use Rattle.facts.proofs.Masks.{masked-below}
@@ -102,10 +104,10 @@ fits-is l = ap₂ (λ (x y : Bool). x && y) (ap (λ (n : ℕ). leb n 8) (count-i
 -- ---- a step's line
 
 module _ (r : StepLine) (f : Form) (h : IsForm r f) where
-  pub fits-form : (places : ℕ) → lineFits places r ≡ formFits places f
+  pub fits-form : (v : Version) (places : ℕ) → lineFits v places r ≡ formFits v places f
   unfolding lineFits formFits
-  fits-form places =
-      ap₂ (λ (x y : Bool). x && y) (ap nameFits (h .name))
+  fits-form v places =
+      ap₂ (λ (x y : Bool). x && y) (ap (nameFits v) (h .name))
       (ap₂ (λ (x y : Bool). x && y) (ap (λ (e : Entries). leb (e .top) places) (h .ins) ∙ top-is (f .ins) places)
       (ap₂ (λ (x y : Bool). x && y) (ap (λ (e : Entries). leb (e .top) places) (h .outs) ∙ top-is (f .outs) places)
       (ap₂ (λ (x y : Bool). x && y) (ap (λ (e : Entries). leb (e .top) 32) (h .reads) ∙ top-is (f .reads) 32)
@@ -120,17 +122,17 @@ module _ (r : StepLine) (f : Form) (h : IsForm r f) where
       (ap₂ (λ (x y : Bool). x && y) (ap entriesFit (h .outs) ∙ fits-is (f .outs))
       (ap₂ (λ (x y : Bool). x && y) (ap entriesFit (h .reads) ∙ fits-is (f .reads)) (ap entriesFit (h .writes) ∙ fits-is (f .writes))))))
 
-  pub step-form : (places : ℕ) → places ≤ 64 → formFits places f ≡ true → record { name = r .name % 4294967296; ins = r .ins .mask; outs = r .outs .mask; reads = r .reads .mask % 4294967296; writes = r .writes .mask % 4294967296 } ≡ recordOf f
+  pub step-form : (v : Version) (places : ℕ) → Limits v → places ≤ 64 → formFits v places f ≡ true → record { name = r .name % 4294967296; ins = r .ins .mask; outs = r .outs .mask; reads = r .reads .mask % 4294967296; writes = r .writes .mask % 4294967296 } ≡ recordOf f
   unfolding formFits recordOf
-  step-form places few fits =
-      let rest = and-right (nameFits (f .name)) _ fits in
+  step-form v places limits few fits =
+      let rest = and-right (nameFits v (f .name)) _ fits in
       let rest₁ = and-right (allBelow places (f .ins)) _ rest in
       let rest₂ = and-right (allBelow places (f .outs)) _ rest₁ in
       let ins = places-mask (f .ins) (and-left (allBelow places (f .ins)) _ rest) in
       let outs = places-mask (f .outs) (and-left (allBelow places (f .outs)) _ rest₁) in
       let reads = vars-mask (f .reads) (and-left (allBelow 32 (f .reads)) _ rest₂) in
       let writes = vars-mask (f .writes) (and-right (allBelow 32 (f .reads)) _ rest₂) in
-      let name : r .name % 4294967296 ≡ f .name = omega (arith, h .small, h .name) in
+      let name : r .name % 4294967296 ≡ f .name = omega (arith, name-stored v limits (f .name) (and-left (nameFits v (f .name)) _ fits), h .name) in
       λ j. record {
         name = name j;
         ins = (ap (λ (e : Entries). e .mask) (h .ins) ∙ ins) j;

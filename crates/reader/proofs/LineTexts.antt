@@ -8,6 +8,7 @@ use native.Mathlib.Omega.{arith}
 use lib.Dec.{eqb}
 use lib.ListN.{length, getD}
 use borrow.Author.Tests.{ne-eqb}
+use Rattle.version.specs.declared.Version.{Version}
 use Rattle.layout.specs.Words.{spelling}
 use Rattle.layout.specs.Text.{Lines}
 use Rattle.layout.specs.Points.{digit, alive, next, expect, chosen, spelt, more, ended, closed, pastWord}
@@ -46,9 +47,9 @@ no-letter s i h = sym (ne-eqb (getD s (i + 1) 0) 115 (λ e. omega (arith, e, pas
 
 -- ---- the heads and the done lines
 
-pub old-spells : (s : List ℕ) (i : ℕ) (c : Line) (t : Lines) → Spells s i Start c t (40 ∷ 111 ∷ 108 ∷ 100 ∷ 32 ∷ []) (Digit Old OldRoute) c t
+pub old-spells : (v : Version) (s : List ℕ) (i : ℕ) (c : Line) (t : Lines) → Spells v s i Start c t (40 ∷ 111 ∷ 108 ∷ 100 ∷ 32 ∷ []) (Digit Old OldRoute) c t
 unfolding Spells next expect alive took keep atEnd spelt spelling pastWord
-old-spells s i c t = (
+old-spells v s i c t = (
   refl,
   (
     λ far. other _ 40 _ far,
@@ -96,9 +97,9 @@ old-spells s i c t = (
   ),
 )
 
-pub new-spells : (s : List ℕ) (i : ℕ) (c : Line) (t : Lines) → (getD s (i + 1) 0 ≡ 115 → ⊥) → Spells s i (Open OldRoute) c t (40 ∷ 110 ∷ 101 ∷ 119 ∷ 32 ∷ []) (Digit New NewRoute) c t
+pub new-spells : (v : Version) (s : List ℕ) (i : ℕ) (c : Line) (t : Lines) → (getD s (i + 1) 0 ≡ 115 → ⊥) → Spells v s i (Open OldRoute) c t (40 ∷ 110 ∷ 101 ∷ 119 ∷ 32 ∷ []) (Digit New NewRoute) c t
 unfolding Spells next expect alive took keep atEnd chosen spelt spelling pastWord
-new-spells s i c t far₀ = (
+new-spells v s i c t far₀ = (
   refl,
   (
     λ far. other _ 40 _ far,
@@ -146,9 +147,9 @@ new-spells s i c t far₀ = (
   ),
 )
 
-pub job-spells : (s : List ℕ) (i : ℕ) (c : Line) (t : Lines) → (getD s (i + 1) 0 ≡ 115 → ⊥) → Spells s i (Open NewRoute) c t (40 ∷ 106 ∷ 111 ∷ 98 ∷ 41 ∷ 10 ∷ []) (Open JobPart) noLine (putLine Job JobPart c t)
+pub job-spells : (v : Version) (s : List ℕ) (i : ℕ) (c : Line) (t : Lines) → (getD s (i + 1) 0 ≡ 115 → ⊥) → Spells v s i (Open NewRoute) c t (40 ∷ 106 ∷ 111 ∷ 98 ∷ 41 ∷ 10 ∷ []) (Open JobPart) noLine (putLine Job JobPart c t)
 unfolding Spells next expect alive took keep atEnd chosen spelt spelling pastWord
-job-spells s i c t far₀ = (
+job-spells v s i c t far₀ = (
   refl,
   (
     λ far. other _ 40 _ far,
@@ -205,9 +206,9 @@ job-spells s i c t far₀ = (
   ),
 )
 
-pub done-spells : (s : List ℕ) (i : ℕ) (c : Line) (t : Lines) → i < length s → Spells s i (Open JobPart) c t (40 ∷ 100 ∷ 111 ∷ 110 ∷ 101 ∷ 32 ∷ []) (Digit Done JobPart) c t
+pub done-spells : (v : Version) (s : List ℕ) (i : ℕ) (c : Line) (t : Lines) → i < length s → Spells v s i (Open JobPart) c t (40 ∷ 100 ∷ 111 ∷ 110 ∷ 101 ∷ 32 ∷ []) (Digit Done JobPart) c t
 unfolding Spells next expect alive took keep atEnd chosen spelt spelling pastWord
-done-spells s i c t room = (
+done-spells v s i c t room = (
   refl,
   (
     λ far. other _ 40 _ far,
@@ -265,9 +266,9 @@ done-spells s i c t room = (
 )
 
 -- past the number of such a line: the bracket and the LF
-pub end-spells : (s : List ℕ) (i : ℕ) (w : Word) (q : Part) (c : Line) (t : Lines) → headWord w ≡ true → Spells s i (Digits w q 5) c t (41 ∷ 10 ∷ []) (Open q) noLine (putLine w q (stored w c) t)
+pub end-spells : (v : Version) (s : List ℕ) (i : ℕ) (w : Word) (q : Part) (c : Line) (t : Lines) → headWord w ≡ true → Spells v s i (Digits w q 0) c t (41 ∷ 10 ∷ []) (Open q) noLine (putLine w q (stored w c) t)
 unfolding Spells headWord next more ended expect digit alive took keep atEnd
-end-spells s i Old q c t h = (
+end-spells v s i Old q c t h = (
   refl,
   (
     λ far. after (digit (getD s i 0)) (getD s i 0) 41 (Lf Old q) far,
@@ -287,7 +288,7 @@ end-spells s i Old q c t h = (
     ),
   ),
 )
-end-spells s i New q c t h = (
+end-spells v s i New q c t h = (
   refl,
   (
     λ far. after (digit (getD s i 0)) (getD s i 0) 41 (Lf New q) far,
@@ -307,7 +308,7 @@ end-spells s i New q c t h = (
     ),
   ),
 )
-end-spells s i Done q c t h = (
+end-spells v s i Done q c t h = (
   refl,
   (
     λ far. after (digit (getD s i 0)) (getD s i 0) 41 (Lf Done q) far,
@@ -327,18 +328,18 @@ end-spells s i Done q c t h = (
     ),
   ),
 )
-end-spells s i Job q c t h = absurd (apart (sym h))
-end-spells s i Step q c t h = absurd (apart (sym h))
-end-spells s i In q c t h = absurd (apart (sym h))
-end-spells s i Out q c t h = absurd (apart (sym h))
-end-spells s i Read q c t h = absurd (apart (sym h))
-end-spells s i Write q c t h = absurd (apart (sym h))
+end-spells v s i Job q c t h = absurd (apart (sym h))
+end-spells v s i Step q c t h = absurd (apart (sym h))
+end-spells v s i In q c t h = absurd (apart (sym h))
+end-spells v s i Out q c t h = absurd (apart (sym h))
+end-spells v s i Read q c t h = absurd (apart (sym h))
+end-spells v s i Write q c t h = absurd (apart (sym h))
 
 -- ---- a step's line
 
-pub step-spells : (s : List ℕ) (i : ℕ) (q : Part) (c : Line) (t : Lines) → hasSteps q ≡ true → getD s (i + 1) 0 ≡ 115 → Spells s i (Open q) c t (40 ∷ 115 ∷ 116 ∷ 101 ∷ 112 ∷ 32 ∷ []) (Digit Step q) c t
+pub step-spells : (v : Version) (s : List ℕ) (i : ℕ) (q : Part) (c : Line) (t : Lines) → hasSteps q ≡ true → getD s (i + 1) 0 ≡ 115 → Spells v s i (Open q) c t (40 ∷ 115 ∷ 116 ∷ 101 ∷ 112 ∷ 32 ∷ []) (Digit Step q) c t
 unfolding hasSteps Spells next expect alive took keep atEnd chosen spelt spelling pastWord
-step-spells s i OldRoute c t r h = (
+step-spells v s i OldRoute c t r h = (
   refl,
   (
     λ far. other _ 40 _ far,
@@ -394,7 +395,7 @@ step-spells s i OldRoute c t r h = (
     ),
   ),
 )
-step-spells s i NewRoute c t r h = (
+step-spells v s i NewRoute c t r h = (
   refl,
   (
     λ far. other _ 40 _ far,
@@ -450,11 +451,11 @@ step-spells s i NewRoute c t r h = (
     ),
   ),
 )
-step-spells s i JobPart c t r h = absurd (apart (sym r))
+step-spells v s i JobPart c t r h = absurd (apart (sym r))
 
-pub in-spells : (s : List ℕ) (i : ℕ) (q : Part) (c : Line) (t : Lines) → Spells s i (Digits Step q 5) c t (32 ∷ 40 ∷ 105 ∷ 110 ∷ []) (Past In q) (stored Step c) t
+pub in-spells : (v : Version) (s : List ℕ) (i : ℕ) (q : Part) (c : Line) (t : Lines) → Spells v s i (Digits Step q 0) c t (32 ∷ 40 ∷ 105 ∷ 110 ∷ []) (Past In q) (stored Step c) t
 unfolding Spells next expect alive took keep atEnd more ended digit spelt spelling
-in-spells s i q c t = (
+in-spells v s i q c t = (
   refl,
   (
     λ far. after (digit (getD s i 0)) (getD s i 0) 32 (Gap In q) far,
@@ -493,9 +494,9 @@ in-spells s i q c t = (
   ),
 )
 
-pub out-spells : (s : List ℕ) (i : ℕ) (q : Part) (c : Line) (t : Lines) → Spells s i (Closed In q) c t (32 ∷ 40 ∷ 111 ∷ 117 ∷ 116 ∷ []) (Past Out q) c t
+pub out-spells : (v : Version) (s : List ℕ) (i : ℕ) (q : Part) (c : Line) (t : Lines) → Spells v s i (Closed In q) c t (32 ∷ 40 ∷ 111 ∷ 117 ∷ 116 ∷ []) (Past Out q) c t
 unfolding Spells next expect alive took keep atEnd closed spelt spelling
-out-spells s i q c t = (
+out-spells v s i q c t = (
   refl,
   (
     λ far. other _ 32 _ far,
@@ -543,9 +544,9 @@ out-spells s i q c t = (
   ),
 )
 
-pub read-spells : (s : List ℕ) (i : ℕ) (q : Part) (c : Line) (t : Lines) → Spells s i (Closed Out q) c t (32 ∷ 40 ∷ 114 ∷ 101 ∷ 97 ∷ 100 ∷ []) (Past Read q) c t
+pub read-spells : (v : Version) (s : List ℕ) (i : ℕ) (q : Part) (c : Line) (t : Lines) → Spells v s i (Closed Out q) c t (32 ∷ 40 ∷ 114 ∷ 101 ∷ 97 ∷ 100 ∷ []) (Past Read q) c t
 unfolding Spells next expect alive took keep atEnd closed spelt spelling
-read-spells s i q c t = (
+read-spells v s i q c t = (
   refl,
   (
     λ far. other _ 32 _ far,
@@ -602,9 +603,9 @@ read-spells s i q c t = (
   ),
 )
 
-pub write-spells : (s : List ℕ) (i : ℕ) (q : Part) (c : Line) (t : Lines) → Spells s i (Closed Read q) c t (32 ∷ 40 ∷ 119 ∷ 114 ∷ 105 ∷ 116 ∷ 101 ∷ []) (Past Write q) c t
+pub write-spells : (v : Version) (s : List ℕ) (i : ℕ) (q : Part) (c : Line) (t : Lines) → Spells v s i (Closed Read q) c t (32 ∷ 40 ∷ 119 ∷ 114 ∷ 105 ∷ 116 ∷ 101 ∷ []) (Past Write q) c t
 unfolding Spells next expect alive took keep atEnd closed spelt spelling
-write-spells s i q c t = (
+write-spells v s i q c t = (
   refl,
   (
     λ far. other _ 32 _ far,
@@ -670,9 +671,9 @@ write-spells s i q c t = (
   ),
 )
 
-pub write-end-spells : (s : List ℕ) (i : ℕ) (q : Part) (c : Line) (t : Lines) → Spells s i (Closed Write q) c t (41 ∷ 10 ∷ []) (Open q) noLine (putLine Write q c t)
+pub write-end-spells : (v : Version) (s : List ℕ) (i : ℕ) (q : Part) (c : Line) (t : Lines) → Spells v s i (Closed Write q) c t (41 ∷ 10 ∷ []) (Open q) noLine (putLine Write q c t)
 unfolding Spells next expect alive took keep atEnd closed
-write-end-spells s i q c t = (
+write-end-spells v s i q c t = (
   refl,
   (
     λ far. other _ 41 _ far,

@@ -8,6 +8,7 @@ use lib.Dec.{eqb}
 use borrow.Author.Tests.{eq-eqb, ne-eqb}
 use Rattle.refusal.specs.Rows.{pass}
 use Rattle.refusal.specs.declared.Outcome.{Outcome}
+use Rattle.version.specs.declared.Version.{Version}
 use Rattle.layout.specs.Text.{Form, Lines}
 use Rattle.layout.specs.Parse.{noLine, inOrder}
 use Rattle.layout.specs.declared.Part.{Part}
@@ -51,41 +52,41 @@ module _ (line : ℕ → Sheet → Sheet) (n : ℕ) (o : Outcome) (z z′ : Shee
 pub broken-is : (i : ℕ) (o : Outcome) → o ≡ pass → record { at = i; ok = false; lines = 0; outcome = o } ≡ brokenAt i
 broken-is i o e = ap (λ (x : Outcome). record { at = i; ok = false; lines = 0; outcome = x }) e
 
-pub prefix-of : (s : List ℕ) (i : ℕ) (ok : Bool) (q : Part) (t : Lines) (k : State) → Reached s i ok (Open q) noLine t → stateOf q t ≡ k → Upto s i ok q k
+pub prefix-of : (v : Version) (s : List ℕ) (i : ℕ) (ok : Bool) (q : Part) (t : Lines) (k : State) → Reached v s i ok (Open q) noLine t → stateOf v q t ≡ k → Upto v s i ok q k
 unfolding Reached Upto
-prefix-of s i true q t k h e = record { lines = t; reading = h; state = e }
-prefix-of s i false q t k h e = h
+prefix-of v s i true q t k h e = record { lines = t; reading = h; state = e }
+prefix-of v s i false q t k h e = h
 
-pub upto-held : (s : List ℕ) (i : ℕ) (ok : Bool) (q : Part) (k : State) → not ok ≡ false → Upto s i ok q k → Prefix s i q k
+pub upto-held : (v : Version) (s : List ℕ) (i : ℕ) (ok : Bool) (q : Part) (k : State) → not ok ≡ false → Upto v s i ok q k → Prefix v s i q k
 unfolding Upto
-upto-held s i true q k e h = h
-upto-held s i false q k e h = absurd (apart e)
+upto-held v s i true q k e h = h
+upto-held v s i false q k e h = absurd (apart e)
 
-pub upto-on : (s : List ℕ) (i : ℕ) (ok : Bool) (q : Part) (k : State) → not ok ≡ false → Upto s i ok q k → Upto s i true q k
-upto-on s i true q k e h = h
-upto-on s i false q k e h = absurd (apart e)
+pub upto-on : (v : Version) (s : List ℕ) (i : ℕ) (ok : Bool) (q : Part) (k : State) → not ok ≡ false → Upto v s i ok q k → Upto v s i true q k
+upto-on v s i true q k e h = h
+upto-on v s i false q k e h = absurd (apart e)
 
-pub upto-broken : (s : List ℕ) (i : ℕ) (ok : Bool) (q q′ : Part) (k k′ : State) → not ok ≡ true → Upto s i ok q k → Upto s i false q′ k′
+pub upto-broken : (v : Version) (s : List ℕ) (i : ℕ) (ok : Bool) (q q′ : Part) (k k′ : State) → not ok ≡ true → Upto v s i ok q k → Upto v s i false q′ k′
 unfolding Upto
-upto-broken s i true q q′ k k′ e h = absurd (apart (sym e))
-upto-broken s i false q q′ k k′ e h = h
+upto-broken v s i true q q′ k k′ e h = absurd (apart (sym e))
+upto-broken v s i false q q′ k k′ e h = h
 
 -- ---- all lines
 
-steps-forth : (p : Part) (l r : List Form) (k : State) → moreSteps p (reverseAux l r) k ≡ moreSteps p r (backSteps p l k)
+steps-forth : (v : Version) (p : Part) (l r : List Form) (k : State) → moreSteps v p (reverseAux l r) k ≡ moreSteps v p r (backSteps v p l k)
 unfolding moreSteps backSteps
-steps-forth p [] r k = refl
-steps-forth p (f ∷ l) r k = steps-forth p l (f ∷ r) k
+steps-forth v p [] r k = refl
+steps-forth v p (f ∷ l) r k = steps-forth v p l (f ∷ r) k
 
-dones-forth : (l r : List ℕ) (k : State) → moreDones (reverseAux l r) k ≡ moreDones r (backDones l k)
+dones-forth : (v : Version) (l r : List ℕ) (k : State) → moreDones v (reverseAux l r) k ≡ moreDones v r (backDones v l k)
 unfolding moreDones backDones
-dones-forth [] r k = refl
-dones-forth (n ∷ l) r k = dones-forth l (n ∷ r) k
+dones-forth v [] r k = refl
+dones-forth v (n ∷ l) r k = dones-forth v l (n ∷ r) k
 
-pub whole-state : (t : Lines) → jobState t .sheet ≡ factsOf (inOrder t)
+pub whole-state : (v : Version) (t : Lines) → jobState v t .sheet ≡ factsOf v (inOrder t)
 unfolding jobState newState oldState factsOf moreSteps moreDones
-whole-state t =
+whole-state v t =
     sym
-    (ap (λ (k : State). k .sheet) (dones-forth (t .done) [] _)
-    ∙ ap (λ (k : State). backDones (t .done) (more jobHead k) .sheet)
-    (steps-forth NewRoute (t .new) [] _ ∙ ap (λ (k : State). backSteps NewRoute (t .new) (more (λ i s. newHead i (t .newPlaces) s) k)) (steps-forth OldRoute (t .old) [] _)))
+    (ap (λ (k : State). k .sheet) (dones-forth v (t .done) [] _)
+    ∙ ap (λ (k : State). backDones v (t .done) (more jobHead k) .sheet)
+    (steps-forth v NewRoute (t .new) [] _ ∙ ap (λ (k : State). backSteps v NewRoute (t .new) (more (λ i s. newHead i (t .newPlaces) s) k)) (steps-forth v OldRoute (t .old) [] _)))

@@ -13,16 +13,17 @@ use Rattle.route.specs.Steps.{blank}
 use Rattle.route.specs.Flat.{stepsIn}
 use Rattle.route.specs.declared.Step.{Step}
 use Rattle.route.specs.declared.Route.{Route}
+use Rattle.version.specs.declared.Version.{Version}
 use Rattle.layout.specs.Parse.{noLine, atEnd, run}
 use Rattle.layout.specs.declared.Part.the-variants.{OldRoute, NewRoute, JobPart}
 use Rattle.layout.specs.declared.Point.the-variants.{Open}
-use Rattle.facts.specs.Facts.{State, failed, settled, headed, answered, readOf}
+use Rattle.facts.specs.Facts.{State, failed, settled, headed, answered, readBy, readOf}
 use Rattle.facts.specs.JobPart.{afterLines, jobPart, PastLines}
 use Rattle.facts.specs.declared.Sheet.{Sheet}
 use Rattle.tokens.specs.Tokens.{Broken}
 use Rattle.reader.specs.Lines.{hasSteps}
 use Rattle.reader.specs.Prefix.{stateOf, Prefix, Upto, passed, withRoute, withDones, OldOn, NewOn, JobOn, StepsOn, DonesOn}
-use Rattle.reader.specs.Read.{noCounts, ReadTo, routeIn}
+use Rattle.reader.specs.Read.{noCounts, ReadInto, ReadTo, routeIn}
 use Rattle.reader.specs.declared.Pass.{Pass}
 use Rattle.reader.specs.declared.Head.{Head}
 use Rattle.reader.specs.declared.Filled.{Filled}
@@ -31,15 +32,15 @@ use Rattle.reader.proofs.PrefixStep.{settled-yes, settled-no, whole-sta
 
 -- ---- where the bytes end
 
-broken-read : (s : List ℕ) (i : ℕ) → Broken s i → readOf s ≡ failed 1 i
-unfolding readOf answered
-broken-read s i h = ap (answered (length s)) (h .same) ∙ ap (failed 1) (omega (arith, length-drop i s, h .within))
+broken-read : (v : Version) (s : List ℕ) (i : ℕ) → Broken v s i → readBy v s ≡ failed 1 i
+unfolding readBy answered
+broken-read v s i h = ap (answered v (length s)) (h .same) ∙ ap (failed 1) (omega (arith, length-drop i s, h .within))
 
-whole-read : (s : List ℕ) (i : ℕ) (k : State) → Prefix s i JobPart k → length s ≤ i → readOf s ≡ k .sheet
-unfolding readOf answered run atEnd stateOf
-whole-read s i k h over =
-    ap (answered (length s)) (h .reading .same ∙ ap (run (Open JobPart) noLine (h .lines)) (drop-of-length-le s over))
-    ∙ sym (whole-state (h .lines)) ∙ ap (λ (x : State). x .sheet) (h .state)
+whole-read : (v : Version) (s : List ℕ) (i : ℕ) (k : State) → Prefix v s i JobPart k → length s ≤ i → readBy v s ≡ k .sheet
+unfolding readBy answered run atEnd stateOf
+whole-read v s i k h over =
+    ap (answered v (length s)) (h .reading .same ∙ ap (run v (Open JobPart) noLine (h .lines)) (drop-of-length-le s over))
+    ∙ sym (whole-state v (h .lines)) ∙ ap (λ (x : State). x .sheet) (h .state)
 
 -- ---- the parts
 
@@ -54,18 +55,18 @@ sheetWith op ol np nl dl old new done =
       done = done;
     }
 
-module _ (s : List ℕ) (old new : List ℕ) (done₀ done : List ℕ) (a : Head) (b : Filled) (c : Head) (d : Filled) (e : Pass) (f : Filled)
-    (ha : OldOn s a)
-    (hb : StepsOn s (a .pass) (a .places) b (stepsIn old))
-    (hc : NewOn s (b .pass) (b .len) c)
-    (hd : StepsOn s (c .pass) (c .places) d (stepsIn new))
+module _ (v : Version) (s : List ℕ) (old new : List ℕ) (done₀ done : List ℕ) (a : Head) (b : Filled) (c : Head) (d : Filled) (e : Pass) (f : Filled)
+    (ha : OldOn v s a)
+    (hb : StepsOn v s (a .pass) (a .places) b (stepsIn old))
+    (hc : NewOn v s (b .pass) (b .len) c)
+    (hd : StepsOn v s (c .pass) (c .places) d (stepsIn new))
     (he : JobOn s (d .pass) (d .len) e)
-    (hf : DonesOn s e f done₀ done)
+    (hf : DonesOn v s e f done₀ done)
     (none : done₀ ≡ replicate 64 0) where
   abbrev sheet : Sheet
   sheet = sheetWith (a .places) (b .len) (c .places) (d .len) (f .len) (stepsIn old) (stepsIn new) done
 
-  all-parts : Upto s (f .pass .at) (f .pass .ok) JobPart (passed (f .pass .lines) (f .pass .outcome) sheet)
+  all-parts : Upto v s (f .pass .at) (f .pass .ok) JobPart (passed (f .pass .lines) (f .pass .outcome) sheet)
   unfolding hasSteps withRoute failed headed
   all-parts =
       let one = sheetWith (a .places) (b .len) 0 0 0 (stepsIn old) (replicate 64 blank) (replicate 64 0) in
@@ -73,23 +74,23 @@ module _ (s : List ℕ) (old new : List ℕ) (done₀ done : List ℕ) (a : Head
       let old-steps = hb .goes OldRoute (failed 0 0) refl refl (ha .goes) in
       let new-head = hc .goes one refl refl (hb .over) old-steps in
       let new-steps = hd .goes NewRoute one refl refl new-head in
-      let job = he .goes two refl refl (hd .over) new-steps in
-      hf .goes two refl (subst (λ (l : List ℕ). Upto s (e .at) (e .ok) JobPart (passed (e .lines) (e .outcome) (withDones 0 l two))) (sym none) job)
+      let job = he .goes v two refl refl (hd .over) new-steps in
+      hf .goes two refl (subst (λ (l : List ℕ). Upto v s (e .at) (e .ok) JobPart (passed (e .lines) (e .outcome) (withDones 0 l two))) (sym none) job)
 
-  broken-to : (r : Counts) → r ≡ noCounts 1 (f .pass .at) → not (f .pass .ok) ≡ true → readOf s ≡ failed 1 (f .pass .at)
+  broken-to : (r : Counts) → r ≡ noCounts 1 (f .pass .at) → not (f .pass .ok) ≡ true → readBy v s ≡ failed 1 (f .pass .at)
   unfolding Upto
-  broken-to r is bad = broken-read s (f .pass .at) (subst (λ (x : Bool). Upto s (f .pass .at) x JobPart (passed (f .pass .lines) (f .pass .outcome) sheet)) (not-true (f .pass .ok) bad) all-parts)
+  broken-to r is bad = broken-read v s (f .pass .at) (subst (λ (x : Bool). Upto v s (f .pass .at) x JobPart (passed (f .pass .lines) (f .pass .outcome) sheet)) (not-true (f .pass .ok) bad) all-parts)
 
-  reads : not (f .pass .ok) ≡ false → readOf s ≡ settled (f .pass .outcome) sheet
+  reads : not (f .pass .ok) ≡ false → readBy v s ≡ settled (f .pass .outcome) sheet
   unfolding Upto
   reads good =
       let held = not-false (f .pass .ok) good in
-      whole-read s (f .pass .at) _ (subst (λ (x : Bool). Upto s (f .pass .at) x JobPart (passed (f .pass .lines) (f .pass .outcome) sheet)) held all-parts) (hf .all held)
+      whole-read v s (f .pass .at) _ (subst (λ (x : Bool). Upto v s (f .pass .at) x JobPart (passed (f .pass .lines) (f .pass .outcome) sheet)) held all-parts) (hf .all held)
 
-  refused-to : (n k : ℕ) (r : Counts) → (n ≡ 0 → ⊥) → r ≡ noCounts n k → readOf s ≡ failed n k → ReadTo s r old new done
+  refused-to : (n k : ℕ) (r : Counts) → (n ≡ 0 → ⊥) → r ≡ noCounts n k → readBy v s ≡ failed n k → ReadInto v s r old new done
   unfolding failed
   refused-to n k r far is h =
-      subst (λ (x : Counts). ReadTo s x old new done) (sym is)
+      subst (λ (x : Counts). ReadInto v s x old new done) (sym is)
       (record {
         number = ap (λ (x : Sheet). x .number) (sym h);
         second = ap (λ (x : Sheet). x .second) (sym h);
@@ -108,13 +109,13 @@ module _ (s : List ℕ) (old new : List ℕ) (done₀ done : List ℕ) (a : Head
         done-names = λ z. absurd (far z);
       })
 
-  pub read-broken : (r : Counts) → r ≡ noCounts 1 (f .pass .at) → not (f .pass .ok) ≡ true → ReadTo s r old new done
+  pub read-broken : (r : Counts) → r ≡ noCounts 1 (f .pass .at) → not (f .pass .ok) ≡ true → ReadInto v s r old new done
   read-broken r is bad = refused-to 1 (f .pass .at) r (λ z. omega (arith, z)) is (broken-to r is bad)
 
-  pub read-refused : (r : Counts) → r ≡ noCounts (f .pass .outcome .number) (f .pass .outcome .second) → not (f .pass .ok) ≡ false → (f .pass .outcome .number ≡ 0 → ⊥) → ReadTo s r old new done
+  pub read-refused : (r : Counts) → r ≡ noCounts (f .pass .outcome .number) (f .pass .outcome .second) → not (f .pass .ok) ≡ false → (f .pass .outcome .number ≡ 0 → ⊥) → ReadInto v s r old new done
   read-refused r is good far = refused-to (f .pass .outcome .number) (f .pass .outcome .second) r far is (reads good ∙ settled-no (f .pass .outcome) sheet far)
 
-  pub read-facts : not (f .pass .ok) ≡ false → f .pass .outcome .number ≡ 0 → ReadTo s (record { number = 0; second = 0; «old_places» = a .places; «old_len» = b .len; «new_places» = c .places; «new_len» = d .len; «done_len» = f .len }) old new done
+  pub read-facts : not (f .pass .ok) ≡ false → f .pass .outcome .number ≡ 0 → ReadInto v s (record { number = 0; second = 0; «old_places» = a .places; «old_len» = b .len; «new_places» = c .places; «new_len» = d .len; «done_len» = f .len }) old new done
   read-facts good zero =
       let h = reads good ∙ settled-yes (f .pass .outcome) sheet zero in
       record {

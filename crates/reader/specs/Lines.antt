@@ -5,7 +5,8 @@ use mathlib.Core.List.{List}
 use Prim.Native.Nat.{ℕ, _+_, _≤_, _<_}
 use lib.Dec.{eqb, leb}
 use lib.ListN.{length, getD}
-use Rattle.job.specs.Lines.{nameFits}
+use Rattle.version.specs.Limits.{nameFits}
+use Rattle.version.specs.declared.Version.{Version}
 use Rattle.layout.specs.Text.{Form, Lines}
 use Rattle.layout.specs.Parse.{Line, noLine, withNum, stored, putStep, putLine}
 use Rattle.layout.specs.declared.Word.{Word}
@@ -31,15 +32,13 @@ headWord Out = false
 headWord Read = false
 headWord Write = false
 
-pub record NumberedOn (s : List ℕ) (from : ℕ) (w : List ℕ) (r : Numeral) : Type 0 where
+pub record NumberedOn (v : Version) (s : List ℕ) (from : ℕ) (w : List ℕ) (r : Numeral) : Type 0 where
   pub past : r .ok ≡ true → from < r .at
   pub within : r .at ≤ length s
-  pub small : r .value < 100000
-  pub goes : (p : Point) (c : Line) (t : Lines) (x : Word) (q : Part) → headWord x ≡ true → Spells s from p c t w (Digit x q) c t → Reading s from p c t → Reached s (r .at) (r .ok) (Open q) noLine (putLine x q (stored x (withNum (r .value) c)) t)
+  pub goes : (p : Point) (c : Line) (t : Lines) (x : Word) (q : Part) → headWord x ≡ true → Spells v s from p c t w (Digit x q) c t → Reading v s from p c t → Reached v s (r .at) (r .ok) (Open q) noLine (putLine x q (stored x (withNum (r .value) c)) t)
 
 -- what is kept of a step's line is that of its form
 pub record IsForm (r : StepLine) (f : Form) : Type 0 where
-  pub small : r .name < 100000
   pub name : r .name ≡ f .name
   pub ins : r .ins ≡ along noEntries (f .ins)
   pub outs : r .outs ≡ along noEntries (f .outs)
@@ -52,17 +51,17 @@ hasSteps OldRoute = true
 hasSteps NewRoute = true
 hasSteps JobPart = false
 
-pub record StepOn (s : List ℕ) (from : ℕ) (r : StepLine) : Type 0 where
+pub record StepOn (v : Version) (s : List ℕ) (from : ℕ) (r : StepLine) : Type 0 where
   pub past : r .ok ≡ true → from < r .at
   pub within : r .at ≤ length s
   pub form : Form
   pub is : IsForm r form
-  pub goes : (q : Part) (t : Lines) → hasSteps q ≡ true → getD s (from + 1) 0 ≡ 115 → Reading s from (Open q) noLine t → Reached s (r .at) (r .ok) (Open q) noLine (putStep q form t)
+  pub goes : (q : Part) (t : Lines) → hasSteps q ≡ true → getD s (from + 1) 0 ≡ 115 → Reading v s from (Open q) noLine t → Reached v s (r .at) (r .ok) (Open q) noLine (putStep q form t)
 
 -- ---- rows 2 and 3
 
-unfoldable pub lineFits : ℕ → StepLine → Bool
-lineFits places l = nameFits (l .name) && (leb (l .ins .top) places && (leb (l .outs .top) places && (leb (l .reads .top) 32 && leb (l .writes .top) 32)))
+unfoldable pub lineFits : Version → ℕ → StepLine → Bool
+lineFits v places l = nameFits v (l .name) && (leb (l .ins .top) places && (leb (l .outs .top) places && (leb (l .reads .top) 32 && leb (l .writes .top) 32)))
 
 unfoldable pub entriesFit : Entries → Bool
 entriesFit e = leb (e .count) 8 && not (e .falls)

@@ -2,12 +2,12 @@
 use refusal::Outcome;
 use tokens::Entries;
 
-pub mod lines;
+mod lines;
 pub mod lists;
 pub mod part;
-pub mod parts;
+mod parts;
 pub mod reads;
-pub mod rows;
+mod rows;
 
 // A step's line: how far reading came and whether the layout holds to there, the name, and what is kept of its lists.
 pub struct StepLine {

@@ -1,9 +1,11 @@
 // Reading a sheet into lent lists.
 use crate::Counts;
 use crate::parts;
+use version::Version;
 ghost use mathlib.Core.Path.{_≡_};
 ghost use lib.ListN.{replicate};
-ghost use Rattle.reader.specs.Read.{noCounts, ReadTo};
+ghost use Rattle.version.specs.Limits.{Limits};
+ghost use Rattle.reader.specs.Read.{noCounts, ReadInto, ReadTo};
 
 fn refused(number: u32, second: u64) -> Counts
     ensures { λ r. ⌜ r ≡ noCounts number second ⌝ }
@@ -19,24 +21,26 @@ fn refused(number: u32, second: u64) -> Counts
     }
 }
 
-// The lists hold 0 throughout.
-pub fn read_lists(
+// Reading by a version. The lists hold 0 throughout.
+pub fn read_by(
+    v: Version,
     sheet: &[u8],
     old: &mut [u64; 256],
     new: &mut [u64; 256],
     done: &mut [u32; 64],
 ) -> Counts
+    requires { ⌜ Limits v ⌝ }
     requires { ⌜ now old ≡ replicate 256 0 ⌝ }
     requires { ⌜ now new ≡ replicate 256 0 ⌝ }
     requires { ⌜ now done ≡ replicate 64 0 ⌝ }
-    ensures { λ r. ⌜ ReadTo (now (sheet .entry)) r (now (old .exit)) (now (new .exit)) (now (done .exit)) ⌝ }
+    ensures { λ r. ⌜ ReadInto v (now (sheet .entry)) r (now (old .exit)) (now (new .exit)) (now (done .exit)) ⌝ }
 {
-    let a = parts::old_head(sheet);
-    let b = parts::steps(sheet, a.pass, a.places, old);
-    let c = parts::new_head(sheet, b.pass, b.len);
-    let d = parts::steps(sheet, c.pass, c.places, new);
+    let a = parts::old_head(v, sheet);
+    let b = parts::steps(v, sheet, a.pass, a.places, old);
+    let c = parts::new_head(v, sheet, b.pass, b.len);
+    let d = parts::steps(v, sheet, c.pass, c.places, new);
     let e = parts::job_head(sheet, d.pass, d.len);
-    let f = parts::dones(sheet, e, done);
+    let f = parts::dones(v, sheet, e, done);
     let end = f.pass;
     if !end.ok {
         return refused(1, end.at as u64);
@@ -53,4 +57,19 @@ pub fn read_lists(
         new_len: d.len,
         done_len: f.len,
     }
+}
+
+// By 01's version.
+pub fn read_lists(
+    sheet: &[u8],
+    old: &mut [u64; 256],
+    new: &mut [u64; 256],
+    done: &mut [u32; 64],
+) -> Counts
+    requires { ⌜ now old ≡ replicate 256 0 ⌝ }
+    requires { ⌜ now new ≡ replicate 256 0 ⌝ }
+    requires { ⌜ now done ≡ replicate 64 0 ⌝ }
+    ensures { λ r. ⌜ ReadTo (now (sheet .entry)) r (now (old .exit)) (now (new .exit)) (now (done .exit)) ⌝ }
+{
+    read_by(Version::SCOPE, sheet, old, new, done)
 }

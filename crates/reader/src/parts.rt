@@ -16,10 +16,12 @@ use route::flat;
 use route::lookup;
 use tokens::texts;
 use tokens::texts::text;
+use version::Version;
 ghost use mathlib.Core.Path.{_≡_};
 ghost use mathlib.Core.Bool.{true};
 ghost use Prim.Native.Nat.{_+_, _≤_};
 ghost use lib.ListN.{replicate};
+ghost use Rattle.version.specs.Limits.{Limits};
 ghost use Rattle.route.specs.Flat.{stepsIn};
 ghost use Rattle.reader.specs.Prefix.{brokenAt, Placed, OldOn, NewOn, JobOn, StepsOn, DonesOn};
 
@@ -34,11 +36,12 @@ fn broken(at: usize) -> Pass
     }
 }
 
-pub fn old_head(s: &[u8]) -> Head
-    ensures { λ r. ⌜ OldOn (now (s .entry)) r ⌝ }
+pub fn old_head(v: Version, s: &[u8]) -> Head
+    requires { ⌜ Limits v ⌝ }
+    ensures { λ r. ⌜ OldOn v (now (s .entry)) r ⌝ }
 {
     let w = texts::OLD;
-    let n = numbered(s, 0, &w);
+    let n = numbered(v, s, 0, &w);
     let outcome = head_row(n.value, 1);
     Head {
         pass: Pass {
@@ -52,9 +55,10 @@ pub fn old_head(s: &[u8]) -> Head
 }
 
 // `above` is how many steps the old route has.
-pub fn new_head(s: &[u8], p: Pass, above: usize) -> Head
+pub fn new_head(v: Version, s: &[u8], p: Pass, above: usize) -> Head
+    requires { ⌜ Limits v ⌝ }
     requires { ⌜ Placed (now s) p ⌝ }
-    ensures { λ r. ⌜ NewOn (now (s .entry)) p above r ⌝ }
+    ensures { λ r. ⌜ NewOn v (now (s .entry)) p above r ⌝ }
 {
     let from = p.at;
     if !p.ok {
@@ -64,7 +68,7 @@ pub fn new_head(s: &[u8], p: Pass, above: usize) -> Head
         };
     }
     let w = texts::NEW;
-    let n = numbered(s, from, &w);
+    let n = numbered(v, s, from, &w);
     if !n.ok {
         return Head {
             pass: broken(n.at),
@@ -115,11 +119,12 @@ pub fn job_head(s: &[u8], p: Pass, above: usize) -> Pass
 }
 
 // The steps below a head, put away in place.
-pub fn steps(s: &[u8], p: Pass, places: u64, list: &mut [u64]) -> Filled
+pub fn steps(v: Version, s: &[u8], p: Pass, places: u64, list: &mut [u64]) -> Filled
+    requires { ⌜ Limits v ⌝ }
     requires { ⌜ Placed (now s) p ⌝ }
     requires { ⌜ (p .outcome .number ≡ 0 → places ≤ 64) ⌝ }
     requires { ⌜ now list ≡ replicate 256 0 ⌝ }
-    ensures { λ r. ⌜ StepsOn (now (s .entry)) p places r (stepsIn (now (list .exit))) ⌝ }
+    ensures { λ r. ⌜ StepsOn v (now (s .entry)) p places r (stepsIn (now (list .exit))) ⌝ }
 {
     let from = p.at;
     if !p.ok {
@@ -134,7 +139,7 @@ pub fn steps(s: &[u8], p: Pass, places: u64, list: &mut [u64]) -> Filled
     let mut at = from;
     let mut len = 0;
     while stepping(s, at) {
-        let l = step(s, at);
+        let l = step(v, s, at);
         at = l.at;
         if !l.ok {
             return Filled {
@@ -147,7 +152,7 @@ pub fn steps(s: &[u8], p: Pass, places: u64, list: &mut [u64]) -> Filled
             continue;
         }
         let end = 4 * len;
-        outcome = step_row(&hint, &list[..end], places, l, lines);
+        outcome = step_row(v, &hint, &list[..end], places, l, lines);
         if outcome.number != 0 {
             continue;
         }
@@ -168,9 +173,10 @@ pub fn steps(s: &[u8], p: Pass, places: u64, list: &mut [u64]) -> Filled
 }
 
 // The done lines to the end of the bytes.
-pub fn dones(s: &[u8], p: Pass, list: &mut [u32; 64]) -> Filled
+pub fn dones(v: Version, s: &[u8], p: Pass, list: &mut [u32; 64]) -> Filled
+    requires { ⌜ Limits v ⌝ }
     requires { ⌜ Placed (now s) p ⌝ }
-    ensures { λ r. ⌜ DonesOn (now (s .entry)) p r (now (list .entry)) (now (list .exit)) ⌝ }
+    ensures { λ r. ⌜ DonesOn v (now (s .entry)) p r (now (list .entry)) (now (list .exit)) ⌝ }
 {
     let from = p.at;
     if !p.ok {
@@ -185,7 +191,7 @@ pub fn dones(s: &[u8], p: Pass, list: &mut [u32; 64]) -> Filled
     let mut at = from;
     let mut len = 0;
     while at < s.len() {
-        let n = numbered(s, at, &w);
+        let n = numbered(v, s, at, &w);
         at = n.at;
         if !n.ok {
             return Filled {
@@ -197,7 +203,7 @@ pub fn dones(s: &[u8], p: Pass, list: &mut [u32; 64]) -> Filled
         if outcome.number != 0 {
             continue;
         }
-        outcome = done_row(len, n.value, lines);
+        outcome = done_row(v, len, n.value, lines);
         if outcome.number != 0 {
             continue;
         }

@@ -7,23 +7,20 @@ use route::Step;
 use route::flat;
 use route::lookup;
 use tokens::Entries;
+use version::Version;
 ghost use mathlib.Core.Path.{_≡_};
 ghost use mathlib.Core.Bool.{true};
 ghost use Prim.Native.Nat.{ℕ, _≤_};
 ghost use lib.ListN.{length};
 ghost use Rattle.route.specs.Steps.{names, Hinted};
 ghost use Rattle.route.specs.Flat.{stepsIn};
-ghost use Rattle.job.specs.Lines.{nameFits, placesFit, doneRow};
+ghost use Rattle.version.specs.Limits.{Limits};
+ghost use Rattle.version.specs.declared.Version.{Version};
+ghost use Rattle.job.specs.Lines.{placesFit, doneRow};
 ghost use Rattle.layout.specs.Text.{Form};
 ghost use Rattle.facts.specs.Forms.{formFits, formRow, recordOf};
 ghost use Rattle.reader.specs.Lines.{entriesFit, lineFits, lineLists, IsForm};
 ghost use Rattle.reader.specs.Rows.{headRow, newRow, jobRow};
-
-fn name_fits(n: u64) -> bool
-    ensures { λ r. ⌜ r ≡ nameFits n ⌝ }
-{
-    1 <= n && n <= 65535
-}
 
 fn places_fit(n: u64) -> bool
     ensures { λ r. ⌜ r ≡ placesFit n ⌝ }
@@ -60,30 +57,30 @@ pub fn job_row(above: usize, line: u64) -> Outcome
     Outcome::pass()
 }
 
-pub fn done_row(above: usize, n: u64, line: u64) -> Outcome
-    ensures { λ r. ⌜ r ≡ doneRow line above n ⌝ }
+pub fn done_row(v: Version, above: usize, n: u64, line: u64) -> Outcome
+    ensures { λ r. ⌜ r ≡ doneRow v line above n ⌝ }
 {
     if Route::STEPS <= above {
         return Outcome::refuse(4, line);
     }
-    if !name_fits(n) {
+    if !v.name_fits(n) {
         return Outcome::refuse(2, line);
     }
     Outcome::pass()
 }
 
-// At most 8 entries, each above the one before.
+// Few enough entries, each above the one before.
 fn entries_fit(e: Entries) -> bool
     ensures { λ r. ⌜ r ≡ entriesFit e ⌝ }
 {
-    e.count <= 8 && !e.falls
+    e.count <= Route::ENTRIES as u64 && !e.falls
 }
 
 // A name in its range, each place below the count, each variable below 32.
-fn line_fits(places: u64, l: StepLine) -> bool
-    ensures { λ r. ⌜ r ≡ lineFits places l ⌝ }
+fn line_fits(v: Version, places: u64, l: StepLine) -> bool
+    ensures { λ r. ⌜ r ≡ lineFits v places l ⌝ }
 {
-    if !name_fits(l.name) {
+    if !v.name_fits(l.name) {
         return false;
     }
     if places < l.ins.top {
@@ -114,14 +111,22 @@ fn line_lists(l: StepLine) -> bool
 }
 
 // Given the steps above, and the hints of their names.
-pub fn step_row(hint: &[u8; 256], steps: &[u64], places: u64, l: StepLine, line: u64) -> Outcome
+pub fn step_row(
+    v: Version,
+    hint: &[u8; 256],
+    steps: &[u64],
+    places: u64,
+    l: StepLine,
+    line: u64,
+) -> Outcome
+    requires { ⌜ Limits v ⌝ }
     requires { ⌜ Hinted (names (stepsIn (now steps))) (now hint) ⌝ }
-    ensures { λ o. ⌜ ((f : Form) → IsForm l f → o ≡ formRow line places (length (stepsIn (now (steps .entry)))) (names (stepsIn (now (steps .entry)))) f) ⌝ }
+    ensures { λ o. ⌜ ((f : Form) → IsForm l f → o ≡ formRow v line places (length (stepsIn (now (steps .entry)))) (names (stepsIn (now (steps .entry)))) f) ⌝ }
 {
     if Route::STEPS <= flat::count(steps) {
         return Outcome::refuse(4, line);
     }
-    if !line_fits(places, l) {
+    if !line_fits(v, places, l) {
         return Outcome::refuse(2, line);
     }
     if !line_lists(l) {
@@ -134,7 +139,7 @@ pub fn step_row(hint: &[u8; 256], steps: &[u64], places: u64, l: StepLine, line:
 }
 
 pub fn step_of(l: StepLine) -> Step
-    ensures { λ r. ⌜ ((f : Form) (places : ℕ) → IsForm l f → places ≤ 64 → formFits places f ≡ true → r ≡ recordOf f) ⌝ }
+    ensures { λ r. ⌜ ((v : Version) (f : Form) (places : ℕ) → Limits v → IsForm l f → places ≤ 64 → formFits v places f ≡ true → r ≡ recordOf f) ⌝ }
 {
     Step {
         name: (l.name % 4294967296) as u32,

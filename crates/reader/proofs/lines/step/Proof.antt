@@ -38,7 +38,10 @@ text-requires-4 : tie.Need-text-requires-4
 text-requires-4 c κs = search needs
 
 list-requires-3 : tie.Need-list-requires-3
-list-requires-3 c κs = search needs
+list-requires-3 c κs =
+    let at-out = c .before .before .before .before in
+    let at-name = at-out .before .before .before .before .before in
+    (at-name .before .before .before .pre .0, search needs)
 
 slice-aggregate-text-5 : tie.Need-slice-aggregate-text-5
 slice-aggregate-text-5 c = search needs
@@ -47,7 +50,11 @@ text-requires-5 : tie.Need-text-requires-5
 text-requires-5 c κs = search needs
 
 list-requires-4 : tie.Need-list-requires-4
-list-requires-4 c κs = search needs
+list-requires-4 c κs =
+    let at-read = c .before .before .before .before in
+    let at-out = at-read .before .before .before in
+    let at-name = at-out .before .before .before .before .before in
+    (at-name .before .before .before .pre .0, search needs)
 
 slice-aggregate-text-6 : tie.Need-slice-aggregate-text-6
 slice-aggregate-text-6 c = search needs
@@ -63,7 +70,7 @@ returns c =
     let at-out = at-read .before .before .before in
     let at-in = at-out .before .before .before in
     let at-name = at-in .before .before .before in
-    step-on _ _ _ _ _ _ _ _ _ _ _ _ _ (at-name .before .text .ensures) (at-name .number .ensures) (at-in .before .text2 .ensures) (at-in .list .ensures)
+    step-on _ _ _ _ _ _ _ _ _ _ _ _ _ _ (at-name .before .text .ensures) (at-name .number .ensures) (at-in .before .text2 .ensures) (at-in .list .ensures)
     (at-out .before .text3 .ensures) (at-out .list2 .ensures) (at-read .before .text4 .ensures) (at-read .list3 .ensures)
     (at-write .before .text5 .ensures) (at-write .list4 .ensures) (at-end .text6 .ensures)
 

@@ -8,10 +8,10 @@ use Rattle.reader.proofs.parts.dones.Statement.{statement}
 use Rattle.reader.proofs.parts.dones.Tie as tie
 
 abbrev Inv-loop : tie.InvT-loop
-Inv-loop s list₀ from w outcome₀ lines₀ at₀ len₀ list outcome lines at len = Named s list₀ list from lines₀ outcome₀ outcome lines at len
+Inv-loop v s list₀ from w outcome₀ lines₀ at₀ len₀ list outcome lines at len = Named v s list₀ list from lines₀ outcome₀ outcome lines at len
 
 abbrev μ-loop : tie.MeasureT-loop
-μ-loop s list₀ from w outcome₀ lines₀ at₀ len₀ list outcome lines at len = length s - at
+μ-loop v s list₀ from w outcome₀ lines₀ at₀ len₀ list outcome lines at len = length s - at
 
 broken-requires : tie.Need-broken-requires Inv-loop μ-loop
 broken-requires c κs = search needs
@@ -39,7 +39,7 @@ add-lines c =
     let good = c in
     let read = good .before .before in
     let inv = read .before .before .before .loop .inv in
-    let less = done-later _ _ _ _ _ _ _ _ _ _ _ _ inv (read .numbered .ensures) (good .if2 .left) in
+    let less = done-later _ _ _ _ _ _ _ _ _ _ _ _ _ inv (read .numbered .ensures) (good .if2 .left) in
     omega (arith, less)
 
 loop-less : tie.Need-loop-less Inv-loop μ-loop
@@ -47,7 +47,7 @@ loop-less c =
     let good = c .before .before in
     let read = good .before .before in
     let inv = read .before .before .before .loop .inv in
-    let less = done-later _ _ _ _ _ _ _ _ _ _ _ _ inv (read .numbered .ensures) (good .if2 .left) in
+    let less = done-later _ _ _ _ _ _ _ _ _ _ _ _ _ inv (read .numbered .ensures) (good .if2 .left) in
     omega (arith, less, read .numbered .ensures .within)
 
 loop-again : tie.Need-loop-again Inv-loop μ-loop
@@ -61,7 +61,7 @@ loop-less-2 c =
     let good = c .before .before .before .before .before in
     let read = good .before .before in
     let inv = read .before .before .before .loop .inv in
-    let less = done-later _ _ _ _ _ _ _ _ _ _ _ _ inv (read .numbered .ensures) (good .if2 .left) in
+    let less = done-later _ _ _ _ _ _ _ _ _ _ _ _ _ inv (read .numbered .ensures) (good .if2 .left) in
     omega (arith, less, read .numbered .ensures .within)
 
 loop-again-2 : tie.Need-loop-again-2 Inv-loop μ-loop
@@ -75,7 +75,7 @@ mul-list c =
     let good = c .before .before .before .before .before .before in
     let read = good .before .before in
     let inv = read .before .before .before .loop .inv in
-    let less = done-room _ _ _ _ _ _ _ _ _ _ inv (read .before .before .loop-test .taken) _ (read .numbered .ensures) (good .if2 .left) (c .before .before .before .before .if3 .left) _ (c .before .before .before .done-row .ensures) (c .before .if4 .left) in
+    let less = done-room _ _ _ _ _ _ _ _ _ _ _ inv (read .before .before .loop-test .taken) _ (read .numbered .ensures) (good .if2 .left) (c .before .before .before .before .if3 .left) _ (c .before .before .before .done-row .ensures) (c .before .if4 .left) in
     omega (arith, less)
 
 element-write-list : tie.Need-element-write-list Inv-loop μ-loop
@@ -83,7 +83,7 @@ element-write-list c =
     let good = c .before .before .before .before .before .before in
     let read = good .before .before in
     let inv = read .before .before .before .loop .inv in
-    let less = done-room _ _ _ _ _ _ _ _ _ _ inv (read .before .before .loop-test .taken) _ (read .numbered .ensures) (good .if2 .left) (c .before .before .before .before .if3 .left) _ (c .before .before .before .done-row .ensures) (c .before .if4 .left) in
+    let less = done-room _ _ _ _ _ _ _ _ _ _ _ inv (read .before .before .loop-test .taken) _ (read .numbered .ensures) (good .if2 .left) (c .before .before .before .before .if3 .left) _ (c .before .before .before .done-row .ensures) (c .before .if4 .left) in
     omega (arith, less)
 
 add-len : tie.Need-add-len Inv-loop μ-loop
@@ -91,7 +91,7 @@ add-len c =
     let good = c .before .before .before .before .before .before in
     let read = good .before .before in
     let inv = read .before .before .before .loop .inv in
-    let less = done-room _ _ _ _ _ _ _ _ _ _ inv (read .before .before .loop-test .taken) _ (read .numbered .ensures) (good .if2 .left) (c .before .before .before .before .if3 .left) _ (c .before .before .before .done-row .ensures) (c .before .if4 .left) in
+    let less = done-room _ _ _ _ _ _ _ _ _ _ _ inv (read .before .before .loop-test .taken) _ (read .numbered .ensures) (good .if2 .left) (c .before .before .before .before .if3 .left) _ (c .before .before .before .done-row .ensures) (c .before .if4 .left) in
     omega (arith, less)
 
 loop-less-3 : tie.Need-loop-less-3 Inv-loop μ-loop
@@ -99,7 +99,7 @@ loop-less-3 c =
     let good = c .before .before .before .before .before .before in
     let read = good .before .before in
     let inv = read .before .before .before .loop .inv in
-    let less = done-later _ _ _ _ _ _ _ _ _ _ _ _ inv (read .numbered .ensures) (good .if2 .left) in
+    let less = done-later _ _ _ _ _ _ _ _ _ _ _ _ _ inv (read .numbered .ensures) (good .if2 .left) in
     omega (arith, less, read .numbered .ensures .within)
 
 loop-again-3 : tie.Need-loop-again-3 Inv-loop μ-loop

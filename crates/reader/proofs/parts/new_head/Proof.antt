@@ -28,7 +28,7 @@ add-lines : tie.Need-add-lines
 add-lines c =
     let read = c .before .before .before in
     let held = read .before .before in
-    let less = later _ _ 0 _ (held .before .before .before .pre) (held .if1 .left) (read .numbered .ensures) (c .before .if2 .left) pass in
+    let less = later _ _ _ 0 _ (held .before .before .before .pre .1) (held .if1 .left) (read .numbered .ensures) (c .before .if2 .left) pass in
     omega (arith, less, read .numbered .ensures .within)
 
 new-row-requires : tie.Need-new-row-requires

@@ -9,10 +9,10 @@ use Rattle.reader.proofs.parts.steps.Statement.{statement}
 use Rattle.reader.proofs.parts.steps.Tie as tie
 
 abbrev Inv-loop : tie.InvT-loop
-Inv-loop s places list₀ from hint₀ outcome₀ lines₀ at₀ len₀ list hint outcome lines at len = Stepped s places list hint from lines₀ outcome₀ outcome lines at len
+Inv-loop v s places list₀ from hint₀ outcome₀ lines₀ at₀ len₀ list hint outcome lines at len = Stepped v s places list hint from lines₀ outcome₀ outcome lines at len
 
 abbrev μ-loop : tie.MeasureT-loop
-μ-loop s places list₀ from hint₀ outcome₀ lines₀ at₀ len₀ list hint outcome lines at len = length s - at
+μ-loop v s places list₀ from hint₀ outcome₀ lines₀ at₀ len₀ list hint outcome lines at len = length s - at
 
 broken-requires : tie.Need-broken-requires Inv-loop μ-loop
 broken-requires c κs = search needs
@@ -33,7 +33,7 @@ broken-requires-2 : tie.Need-broken-requires-2 Inv-loop μ-loop
 broken-requires-2 c κs = search needs
 
 same-length : tie.Need-same-length Inv-loop μ-loop
-same-length c = let at = c .before .before .before .before .before .before in same-room _ _ _ _ _ _ _ _ _ _ _ (at .loop .inv) _ (at .before .before .before .before .before .before .pre .1 .1)
+same-length c = let at = c .before .before .before .before .before .before in same-room _ _ _ _ _ _ _ _ _ _ _ _ (at .loop .inv) _ (at .before .before .before .before .before .before .pre .1 .1 .1)
 
 returns-2 : tie.Need-returns-2 Inv-loop μ-loop
 returns-2 c = search (needs, steps-break)
@@ -41,14 +41,14 @@ returns-2 c = search (needs, steps-break)
 add-lines : tie.Need-add-lines Inv-loop μ-loop
 add-lines c =
     let read = c .before .before in
-    let less = line-later _ _ _ _ _ _ _ _ _ _ _ (read .before .before .before .loop .inv) _ (read .step .ensures) (c .if3 .left) in
+    let less = line-later _ _ _ _ _ _ _ _ _ _ _ _ (read .before .before .before .loop .inv) _ (read .step .ensures) (c .if3 .left) in
     omega (arith, less)
 
 loop-less : tie.Need-loop-less Inv-loop μ-loop
 loop-less c =
     let held = c .before .before in
     let read = held .before .before in
-    let less = line-later _ _ _ _ _ _ _ _ _ _ _ (read .before .before .before .loop .inv) _ (read .step .ensures) (held .if3 .left) in
+    let less = line-later _ _ _ _ _ _ _ _ _ _ _ _ (read .before .before .before .loop .inv) _ (read .step .ensures) (held .if3 .left) in
     omega (arith, less, read .step .ensures .within)
 
 loop-again : tie.Need-loop-again Inv-loop μ-loop
@@ -61,7 +61,7 @@ slice-reshare-prefix-step-row : tie.Need-slice-reshare-prefix-step-row Inv-loop 
 slice-reshare-prefix-step-row c = search needs
 
 slice-aggregate-step-row : tie.Need-slice-aggregate-step-row Inv-loop μ-loop
-slice-aggregate-step-row c = sym (part-room _ _ _ _ _ _ _ _ _ _ _ (c .before .before .before .before .before .before .before .before .before .loop .inv))
+slice-aggregate-step-row c = sym (part-room _ _ _ _ _ _ _ _ _ _ _ _ (c .before .before .before .before .before .before .before .before .before .loop .inv))
 
 step-row-requires : tie.Need-step-row-requires Inv-loop μ-loop
 step-row-requires c κs = search (needs, hinted-above)
@@ -73,7 +73,7 @@ loop-less-2 c =
     let good = over .before .before in
     let read = good .before .before in
     let inv = read .before .before .before .loop .inv in
-    let less = line-later _ _ _ _ _ _ _ _ _ _ _ inv _ (read .step .ensures) (good .if3 .left) in
+    let less = line-later _ _ _ _ _ _ _ _ _ _ _ _ inv _ (read .step .ensures) (good .if3 .left) in
     omega (arith, less, read .step .ensures .within)
 
 loop-again-2 : tie.Need-loop-again-2 Inv-loop μ-loop
@@ -89,8 +89,8 @@ put-requires c κs =
     let good = over .before .before in
     let read = good .before .before in
     let inv = read .before .before .before .loop .inv in
-    let less = step-room _ _ _ _ _ _ _ _ _ _ _ inv _ (read .before .before .stepping .ensures) (read .before .if2 .taken) _ (read .step .ensures) (good .if3 .left) (over .if4 .left) _ (row .step-row .ensures) (c .before .before .if5 .left) in
-    put-room _ _ _ _ _ _ _ _ _ _ _ inv less
+    let less = step-room _ _ _ _ _ _ _ _ _ _ _ _ inv _ (read .before .before .stepping .ensures) (read .before .if2 .taken) _ (read .step .ensures) (good .if3 .left) (over .if4 .left) _ (row .step-row .ensures) (c .before .before .if5 .left) in
+    put-room _ _ _ _ _ _ _ _ _ _ _ _ inv less
 
 hint-more-requires : tie.Need-hint-more-requires Inv-loop μ-loop
 hint-more-requires c κs =
@@ -99,7 +99,7 @@ hint-more-requires c κs =
     let good = over .before .before in
     let read = good .before .before in
     let inv = read .before .before .before .loop .inv in
-    step-room _ _ _ _ _ _ _ _ _ _ _ inv _ (read .before .before .stepping .ensures) (read .before .if2 .taken) _ (read .step .ensures) (good .if3 .left) (over .if4 .left) _ (row .step-row .ensures) (c .before .before .before .before .before .before .if5 .left)
+    step-room _ _ _ _ _ _ _ _ _ _ _ _ inv _ (read .before .before .stepping .ensures) (read .before .if2 .taken) _ (read .step .ensures) (good .if3 .left) (over .if4 .left) _ (row .step-row .ensures) (c .before .before .before .before .before .before .if5 .left)
 
 add-len : tie.Need-add-len Inv-loop μ-loop
 add-len c =
@@ -108,7 +108,7 @@ add-len c =
     let good = over .before .before in
     let read = good .before .before in
     let inv = read .before .before .before .loop .inv in
-    let less = step-room _ _ _ _ _ _ _ _ _ _ _ inv _ (read .before .before .stepping .ensures) (read .before .if2 .taken) _ (read .step .ensures) (good .if3 .left) (over .if4 .left) _ (row .step-row .ensures) (c .before .before .before .before .before .before .before .if5 .left) in
+    let less = step-room _ _ _ _ _ _ _ _ _ _ _ _ inv _ (read .before .before .stepping .ensures) (read .before .if2 .taken) _ (read .step .ensures) (good .if3 .left) (over .if4 .left) _ (row .step-row .ensures) (c .before .before .before .before .before .before .before .if5 .left) in
     omega (arith, less)
 
 loop-less-3 : tie.Need-loop-less-3 Inv-loop μ-loop
@@ -118,7 +118,7 @@ loop-less-3 c =
     let good = over .before .before in
     let read = good .before .before in
     let inv = read .before .before .before .loop .inv in
-    let less = line-later _ _ _ _ _ _ _ _ _ _ _ inv _ (read .step .ensures) (good .if3 .left) in
+    let less = line-later _ _ _ _ _ _ _ _ _ _ _ _ inv _ (read .step .ensures) (good .if3 .left) in
     omega (arith, less, read .step .ensures .within)
 
 loop-again-3 : tie.Need-loop-again-3 Inv-loop μ-loop
@@ -129,7 +129,7 @@ loop-again-3 c =
     let read = good .before .before in
     let inv = read .before .before .before .loop .inv in
     let put = c .before .before .before .before .put .ensures in
-    stepped-step _ _ _ _ _ _ _ _ _ _ _ inv _ (read .before .before .stepping .ensures) (read .before .if2 .taken) _ (read .step .ensures) (good .if3 .left) (over .if4 .left) _ (row .step-row .ensures) (c .before .before .before .before .before .before .before .if5 .left) _ _ _ (c .before .before .before .before .before .before .step-of .ensures) (put .0) (put .1) (c .hint-more .ensures)
+    stepped-step _ _ _ _ _ _ _ _ _ _ _ _ inv _ (read .before .before .stepping .ensures) (read .before .if2 .taken) _ (read .step .ensures) (good .if3 .left) (over .if4 .left) _ (row .step-row .ensures) (c .before .before .before .before .before .before .before .if5 .left) _ _ _ (c .before .before .before .before .before .before .step-of .ensures) (put .0) (put .1) (c .hint-more .ensures)
 
 same-length-2 : tie.Need-same-length-2 Inv-loop μ-loop
 same-length-2 c = search (needs, same-room)

@@ -7,24 +7,26 @@ use borrow.Author.Tests.{lt-ltb, le-ltb, not-true, not-false}
 use Rattle.refusal.specs.Rows.{pass, refuse}
 use Rattle.refusal.specs.declared.Outcome.{Outcome}
 use Rattle.refusal.proofs.Rows.{row-passes, row-refuses, rows-end}
-use Rattle.job.specs.Lines.{nameFits, doneRow}
+use Rattle.version.specs.Limits.{nameFits}
+use Rattle.version.specs.declared.Version.{Version}
+use Rattle.job.specs.Lines.{doneRow}
 use borrow.Author.Needs.{needs}
 use Rattle.reader.proofs.rows.done_row.Statement.{statement}
 use Rattle.reader.proofs.rows.done_row.Tie as tie
 
-module _ (line above n : ℕ) (o : Outcome) where
-  four : 64 ≤ above → o ≡ refuse 4 line → o ≡ doneRow line above n
+module _ (v : Version) (line above n : ℕ) (o : Outcome) where
+  four : 64 ≤ above → o ≡ refuse 4 line → o ≡ doneRow v line above n
   unfolding doneRow
   four h q = q ∙ sym (row-refuses _ 4 line _ (le-ltb above 64 h) refl)
 
-  module _ (f : Bool) (fits : f ≡ nameFits n) (room : above < 64) where
-    two : not f ≡ true → o ≡ refuse 2 line → o ≡ doneRow line above n
+  module _ (f : Bool) (fits : f ≡ nameFits v n) (room : above < 64) where
+    two : not f ≡ true → o ≡ refuse 2 line → o ≡ doneRow v line above n
     unfolding doneRow
-    two h q = q ∙ sym (row-passes _ 4 line _ (lt-ltb above 64 room) ∙ row-refuses (nameFits n) 2 line [] (sym fits ∙ not-true f h) refl)
+    two h q = q ∙ sym (row-passes _ 4 line _ (lt-ltb above 64 room) ∙ row-refuses (nameFits v n) 2 line [] (sym fits ∙ not-true f h) refl)
 
-    fine : not f ≡ false → o ≡ pass → o ≡ doneRow line above n
+    fine : not f ≡ false → o ≡ pass → o ≡ doneRow v line above n
     unfolding doneRow
-    fine h q = q ∙ sym (row-passes _ 4 line _ (lt-ltb above 64 room) ∙ row-passes (nameFits n) 2 line [] (sym fits ∙ not-false f h) ∙ rows-end)
+    fine h q = q ∙ sym (row-passes _ 4 line _ (lt-ltb above 64 room) ∙ row-passes (nameFits v n) 2 line [] (sym fits ∙ not-false f h) ∙ rows-end)
 
 refuse-requires : tie.Need-refuse-requires
 refuse-requires c κs = search needs

@@ -5,33 +5,34 @@ use Prim.Native.Nat.{ℕ, _≤_, _<_}
 use lib.Dec.{leb}
 use borrow.Author.Tests.{le-leb, lt-leb, not-true, not-false}
 use Rattle.mask.proofs.Truth.{and-yes, and-no}
-use Rattle.job.specs.Lines.{nameFits}
+use Rattle.version.specs.Limits.{nameFits}
+use Rattle.version.specs.declared.Version.{Version}
 use Rattle.reader.specs.Lines.{lineFits}
 use Rattle.reader.specs.declared.StepLine.{StepLine}
 use borrow.Author.Needs.{needs}
 use Rattle.reader.proofs.rows.line_fits.Statement.{statement}
 use Rattle.reader.proofs.rows.line_fits.Tie as tie
 
-module _ (places : ℕ) (p : StepLine) (n : Bool) (name : n ≡ nameFits (p .name)) where
-  no-name : not n ≡ true → false ≡ lineFits places p
+module _ (v : Version) (places : ℕ) (p : StepLine) (n : Bool) (name : n ≡ nameFits v (p .name)) where
+  no-name : not n ≡ true → false ≡ lineFits v places p
   unfolding lineFits
   no-name h = sym (not-true n h) ∙ and-no _ name (not-true n h)
 
   module _ (named : not n ≡ false) where
-    no-ins : places < p .ins .top → false ≡ lineFits places p
+    no-ins : places < p .ins .top → false ≡ lineFits v places p
     unfolding lineFits
     no-ins h = and-yes name (not-false n named) (sym (lt-leb _ _ h) ∙ and-no _ refl (lt-leb _ _ h))
 
     module _ (ins : p .ins .top ≤ places) where
-      no-outs : places < p .outs .top → false ≡ lineFits places p
+      no-outs : places < p .outs .top → false ≡ lineFits v places p
       unfolding lineFits
       no-outs h = and-yes name (not-false n named) (and-yes refl (le-leb _ _ ins) (sym (lt-leb _ _ h) ∙ and-no _ refl (lt-leb _ _ h)))
 
-      no-reads : p .outs .top ≤ places → 32 < p .reads .top → leb (p .reads .top) 32 ≡ lineFits places p
+      no-reads : p .outs .top ≤ places → 32 < p .reads .top → leb (p .reads .top) 32 ≡ lineFits v places p
       unfolding lineFits
       no-reads outs h = and-yes name (not-false n named) (and-yes refl (le-leb _ _ ins) (and-yes refl (le-leb _ _ outs) (and-no _ refl (lt-leb _ _ h))))
 
-      last : p .outs .top ≤ places → p .reads .top ≤ 32 → leb (p .writes .top) 32 ≡ lineFits places p
+      last : p .outs .top ≤ places → p .reads .top ≤ 32 → leb (p .writes .top) 32 ≡ lineFits v places p
       unfolding lineFits
       last outs reads = and-yes name (not-false n named) (and-yes refl (le-leb _ _ ins) (and-yes refl (le-leb _ _ outs) (and-yes refl (le-leb _ _ reads) refl)))
 

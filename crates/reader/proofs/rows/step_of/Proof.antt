@@ -14,7 +14,7 @@ cast-t7 : tie.Need-cast-t7
 cast-t7 c = search needs
 
 returns : tie.Need-returns
-returns c = λ f n is few fits. step-form _ f is n few fits
+returns c = λ v f n limits is few fits. step-form _ f is v n limits few fits
 
 pub step-of-spec : {M : Type 1} → statement M
 step-of-spec = tie.close (tie.spec cast-t3 cast-t5 cast-t7 returns)
