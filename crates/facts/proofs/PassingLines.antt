@@ -45,16 +45,20 @@ forms-fine v (f ∷ l) line places earlier few h =
     let rest = forms-fine v l (line + 1) places (earlier ++ (f .name ∷ [])) (omega (arith, length-append earlier (f .name ∷ []))) (row .1) in
     ((record { fits = unless-elim (formFits v places f) 2 line refl (two .0); lists = unless-elim (formLists f) 3 line refl (three .0) }, rest .0), omega (arith, rest .1, length-append earlier (f .name ∷ [])))
 
-dones-fine : (v : Version) (limits : Limits v) (l : List ℕ) (line above : ℕ) → above ≤ 64 → Passes (doneRows v line above l) → Shorts v l × (above + length l ≤ 64)
+abbrev AllNamed : Version → List ℕ → Type 0
+AllNamed v [] = Unit {0}
+AllNamed v (n ∷ l) = (nameFits v n ≡ true) × AllNamed v l
+
+dones-fine : (v : Version) (l : List ℕ) (line above : ℕ) → above ≤ 64 → Passes (doneRows v line above l) → AllNamed v l × (above + length l ≤ 64)
 unfolding doneRows doneRow
-dones-fine v limits [] line above few h = (tt, omega arith)
-dones-fine v limits (n ∷ l) line above few h =
+dones-fine v [] line above few h = (tt, omega arith)
+dones-fine v (n ∷ l) line above few h =
     let row = head-passed _ _ h in
     let four = head-passed _ _ (row .0) in
     let two = head-passed _ _ (four .1) in
     let room : above < 64 = ltb-true above 64 (unless-elim (ltb above 64) 4 line refl (four .0)) in
-    let name = name-short v limits n (unless-elim (nameFits v n) 2 line refl (two .0)) in
-    let rest = dones-fine v limits l (line + 1) (above + 1) (omega arith) (row .1) in
+    let name = unless-elim (nameFits v n) 2 line refl (two .0) in
+    let rest = dones-fine v l (line + 1) (above + 1) (omega arith) (row .1) in
     ((name, rest .0), omega (arith, rest .1))
 
 -- what the lines of a sheet that passes are
@@ -65,7 +69,7 @@ pub record AllLines (v : Version) (x : Lines) : Type 0 where
   pub newPlaces : x .newPlaces ≤ 64
   pub new : AllFine v (x .newPlaces) (x .new)
   pub newFew : length (x .new) ≤ 64
-  pub done : Shorts v (x .done)
+  pub done : AllNamed v (x .done)
   pub doneFew : length (x .done) ≤ 64
 
 route-fine : (v : Version) (line places : ℕ) (l : List Form) → Passes (routeFormRows v line places l) → (places ≤ 64) × AllFine v places l × (length l ≤ 64)
@@ -75,14 +79,14 @@ route-fine v line places l h =
     let steps = forms-fine v l (line + 1) places [] (omega arith) (rows-passed (formRows v (line + 1) places [] l) _ (head .1) .0) in
     (leb-true places 64 (both (leb 1 places) (leb places 64) (unless-elim (leb 1 places && leb places 64) 2 line refl (head .0)) .1), steps .0, omega (arith, steps .1))
 
-pub lines-fine : (v : Version) (limits : Limits v) (x : Lines) → Passes (sheetRows v x) → AllLines v x
+pub lines-fine : (v : Version) (x : Lines) → Passes (sheetRows v x) → AllLines v x
 unfolding sheetRows
-lines-fine v limits x h =
+lines-fine v x h =
     let a = rows-passed (routeFormRows v 1 (x .oldPlaces) (x .old)) _ h in
     let b = rows-passed (routeFormRows v (afterForms 1 (x .old)) (x .newPlaces) (x .new)) _ (a .1) in
     let old = route-fine v 1 (x .oldPlaces) (x .old) (a .0) in
     let new = route-fine v (afterForms 1 (x .old)) (x .newPlaces) (x .new) (b .0) in
-    let done = dones-fine v limits (x .done) _ 0 (omega arith) (b .1) in
+    let done = dones-fine v (x .done) _ 0 (omega arith) (b .1) in
     record { oldPlaces = old .0; old = old .1; oldFew = old .2; newPlaces = new .0; new = new .1; newFew = new .2; done = done .0; doneFew = omega (arith, done .1) }
 
 -- ---- every number is short
@@ -107,5 +111,9 @@ forms-short : (v : Version) (limits : Limits v) (l : List Form) (places : ℕ) �
 forms-short v limits [] places h fine = tt
 forms-short v limits (f ∷ l) places h fine = (form-short v limits places f h (fine .0), forms-short v limits l places h (fine .1))
 
+names-short : (v : Version) (limits : Limits v) (l : List ℕ) → AllNamed v l → Shorts v l
+names-short v limits [] h = tt
+names-short v limits (n ∷ l) h = (name-short v limits n (h .0), names-short v limits l (h .1))
+
 pub lines-short : (v : Version) (limits : Limits v) (x : Lines) → AllLines v x → ShortLines v x
-lines-short v limits x h = record { oldPlaces = low-short v limits (x .oldPlaces) (omega (arith, h .oldPlaces)); old = forms-short v limits (x .old) (x .oldPlaces) (h .oldPlaces) (h .old); newPlaces = low-short v limits (x .newPlaces) (omega (arith, h .newPlaces)); new = forms-short v limits (x .new) (x .newPlaces) (h .newPlaces) (h .new); done = h .done }
+lines-short v limits x h = record { oldPlaces = low-short v limits (x .oldPlaces) (omega (arith, h .oldPlaces)); old = forms-short v limits (x .old) (x .oldPlaces) (h .oldPlaces) (h .old); newPlaces = low-short v limits (x .newPlaces) (omega (arith, h .newPlaces)); new = forms-short v limits (x .new) (x .newPlaces) (h .newPlaces) (h .new); done = names-short v limits (x .done) (h .done) }

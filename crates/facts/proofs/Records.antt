@@ -15,7 +15,6 @@ use Rattle.refusal.specs.Rows.{first}
 use Rattle.route.specs.declared.Step.{Step}
 use Rattle.refusal.specs.declared.Outcome.{Outcome}
 use Rattle.version.specs.Limits.{scope, nameFits}
-use Rattle.version.proofs.Limits.{scope-limits}
 use Rattle.job.specs.Lines.{lineRows, LinesPass}
 use Rattle.version.specs.declared.Version.{Version}
 use Rattle.layout.specs.Text.{Form, Lines}
@@ -103,7 +102,7 @@ wide-filled n l h = subst AllWide (sym (filled-steps n (map recordOf l) (omega (
 records-pass : (x : Lines) → Passes (sheetRows scope x) → Passes (lineRows (jobRead (factsRecord x)))
 unfolding factsRecord
 records-pass x h =
-    let fine = lines-fine scope scope-limits x h in
+    let fine = lines-fine scope x h in
     ap (λ (rows : List Outcome). eqb (first rows .number) 0)
     (sym (tie (jobRead (factsRecord x)) (wide-filled (x .oldPlaces) (x .old) (fine .oldFew)) (wide-filled (x .newPlaces) (x .new) (fine .newFew)))
     ∙ ap (sheetRows scope) (lines-back scope x fine))

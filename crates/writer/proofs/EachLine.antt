@@ -13,7 +13,7 @@ use Rattle.route.specs.Steps.{blank, stepsOf}
 use Rattle.route.specs.declared.Step.{Step}
 use Rattle.route.specs.declared.Route.{Route}
 use Rattle.route.proofs.StepList.{steps-on, steps-end}
-use Rattle.layout.specs.Text.{stepLine, stepLines, wordLine, doneLines, Short, Shorts, ShortForms}
+use Rattle.layout.specs.Text.{stepLine, stepLines, wordLine, doneLines}
 use Rattle.layout.specs.declared.Word.the-variants.{Done}
 use Rattle.facts.specs.Back.{formOf}
 use Rattle.writer.proofs.TextsInFront.{step-front, word-front}
@@ -23,9 +23,6 @@ use Rattle.writer.proofs.TextsInFront.{step-front, word-front}
 abbrev pub formLines : List Step → List ℕ
 formLines l = stepLines (map formOf l) []
 
-abbrev pub ShortSteps : List Step → Type 0
-ShortSteps l = ShortForms (map formOf l)
-
 module _ (r : Route) (full : length (r .steps) ≡ 64) (i : ℕ) (h : i < r .len) (few : r .len ≤ 64) where
   abbrev here : Step
   here = getD (r .steps) i blank
@@ -33,13 +30,6 @@ module _ (r : Route) (full : length (r .steps) ≡ 64) (i : ℕ) (h : i < r .len
   next-steps : formLines (drop i (stepsOf r)) ≡ stepLine (formOf here) [] ++ formLines (drop (i + 1) (stepsOf r))
   unfolding stepLines
   next-steps = ap formLines (steps-on r full i h (omega arith)) ∙ step-front (formOf here) (formLines (drop (i + 1) (stepsOf r)))
-
-  pub name-short : ShortSteps (drop i (stepsOf r)) → Short (here .name)
-  unfolding formOf
-  name-short s = let all : ShortSteps (here ∷ drop (i + 1) (stepsOf r)) = rw (steps-on r full i h (omega arith)) at s in all .0 .name
-
-  pub steps-short : ShortSteps (drop i (stepsOf r)) → ShortSteps (drop (i + 1) (stepsOf r))
-  steps-short s = let all : ShortSteps (here ∷ drop (i + 1) (stepsOf r)) = rw (steps-on r full i h (omega arith)) at s in all .1
 
   module _ {o u o₀ : List ℕ} {n n₀ : ℕ} (left : Left (formLines (drop i (stepsOf r))) o n u o₀ n₀) where
     pub steps-room : Room (stepLine (formOf here) []) o n
@@ -64,12 +54,6 @@ module _ (l : List ℕ) (i : ℕ) where
   next-names : i < length l → nameLines (drop i l) ≡ wordLine Done (getD l i 0) [] ++ nameLines (drop (i + 1) l)
   unfolding doneLines
   next-names h = ap nameLines (name-on h) ∙ word-front Done (getD l i 0) (nameLines (drop (i + 1) l))
-
-  pub done-short : i < length l → Shorts (drop i l) → Short (getD l i 0)
-  done-short h s = let all : Shorts (getD l i 0 ∷ drop (i + 1) l) = rw (name-on h) at s in all .0
-
-  pub dones-short : i < length l → Shorts (drop i l) → Shorts (drop (i + 1) l)
-  dones-short h s = let all : Shorts (getD l i 0 ∷ drop (i + 1) l) = rw (name-on h) at s in all .1
 
   module _ {o u o₀ : List ℕ} {n n₀ : ℕ} (left : Left (nameLines (drop i l)) o n u o₀ n₀) where
     pub dones-room : i < length l → Room (wordLine Done (getD l i 0) []) o n

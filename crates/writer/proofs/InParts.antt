@@ -1,12 +1,9 @@
 -- The texts of a sheet in the parts that calls write, and the room that each call has.
 -- Assumes nothing.
 use mathlib.Core.Path.{_≡_, refl, sym, ap, _∙_}
-use mathlib.Core.Bool.{Bool, cond}
 use mathlib.Core.List.{List, [], _∷_, _++_, append-nil, map}
-use Prim.Native.Nat.{ℕ, zero, suc, _+_, _^_, _≤_, _<_}
-use native.Mathlib.Omega.{arith}
-use Rattle.mask.specs.Mask.{has, membersFrom, members}
-use Rattle.mask.proofs.Truth.{split}
+use Prim.Native.Nat.{ℕ, _+_, _^_, _<_}
+use Rattle.mask.specs.Mask.{members}
 use Rattle.mask.proofs.FromLowest.{members-narrow}
 use Rattle.emit.specs.Emit.{Emits}
 use Rattle.emit.specs.Numbers.{decimal, entry, over}
@@ -15,7 +12,7 @@ use Rattle.emit.proofs.Over.{from-zero}
 use Rattle.route.specs.declared.Step.{Step}
 use Rattle.job.specs.Job.{Job}
 use Rattle.layout.specs.Words.{spelling}
-use Rattle.layout.specs.Text.{listed, stepLine, wordLine, jobLine, stepLines, doneLines, jobText, text, Short, Shorts}
+use Rattle.layout.specs.Text.{listed, stepLine, wordLine, jobLine, stepLines, doneLines, jobText, text}
 use Rattle.layout.specs.declared.Word.{Word}
 use Rattle.layout.specs.declared.Word.the-variants as W
 use Rattle.facts.specs.Back.{formOf, linesOf}
@@ -42,15 +39,6 @@ pub closing-whole : Two closing (41 ∷ []) (10 ∷ [])
 unfolding parts
 closing-whole = two-emits closing (41 ∷ []) (10 ∷ []) refl
 
--- members have at most two digits
-members-short : (k v m : ℕ) → v + k ≤ 64 → Shorts (membersFrom v k m)
-unfolding membersFrom
-members-short zero v m h = tt
-members-short (suc k) v m h =
-    split (λ (t : Bool). Shorts (cond t (v ∷ membersFrom (suc v) k m) (membersFrom (suc v) k m))) (has m v)
-    (λ e. (omega arith, members-short k (suc v) m (omega arith)))
-    (λ e. members-short k (suc v) m (omega arith))
-
 -- a list of places
 module _ (w : Word) (m : ℕ) where
   abbrev numbers : List ℕ
@@ -60,7 +48,7 @@ module _ (w : Word) (m : ℕ) where
   unfolding listed members parts
   places-parts =
       ap (λ (t : List ℕ). 32 ∷ 40 ∷ (spelling w ++ t))
-      (entries-are (members 64 m) (41 ∷ []) (members-short 64 0 m (omega arith)) ∙ ap (λ (t : List ℕ). t ++ (41 ∷ [])) (sym (from-zero (members 64 m))))
+      (entries-are (members 64 m) (41 ∷ []) ∙ ap (λ (t : List ℕ). t ++ (41 ∷ [])) (sym (from-zero (members 64 m))))
 
   pub places-first : First (listed w (members 64 m) []) (32 ∷ [])
   places-first = first-room _ _ _ places-parts
@@ -115,33 +103,32 @@ module _ (s : Step) where
   pub four-whole : Four (lists (formOf s) []) (list W.In (members 64 (s .ins))) (list W.Out (members 64 (s .outs))) (list W.Read (members 32 (s .reads))) (list W.Write (members 32 (s .writes)))
   four-whole = four-emits _ _ _ _ _ four-parts
 
-  module _ (short : Short (s .name)) where
-    step-parts : stepLine (formOf s) [] ≡ parts (opening W.Step ∷ entry (s .name) ∷ lists (formOf s) [] ∷ closing ∷ [])
-    unfolding stepLine formOf entry parts
-    step-parts =
-        ap (λ (t : List ℕ). 40 ∷ (spelling W.Step ++ (32 ∷ t)))
-        (number-is (s .name) (lists (formOf s) closing) short ∙ ap (λ (t : List ℕ). decimal (s .name) ++ t) (lists-front (formOf s) closing))
+  step-parts : stepLine (formOf s) [] ≡ parts (opening W.Step ∷ entry (s .name) ∷ lists (formOf s) [] ∷ closing ∷ [])
+  unfolding stepLine formOf entry parts
+  step-parts =
+      ap (λ (t : List ℕ). 40 ∷ (spelling W.Step ++ (32 ∷ t)))
+      (number-is (s .name) (lists (formOf s) closing) ∙ ap (λ (t : List ℕ). decimal (s .name) ++ t) (lists-front (formOf s) closing))
 
-    pub step-first : First (stepLine (formOf s) []) (opening W.Step)
-    step-first = first-room _ _ _ step-parts
+  pub step-first : First (stepLine (formOf s) []) (opening W.Step)
+  step-first = first-room _ _ _ step-parts
 
-    pub step-second : Second (stepLine (formOf s) []) (opening W.Step) (entry (s .name))
-    step-second = second-room _ _ _ _ step-parts
+  pub step-second : Second (stepLine (formOf s) []) (opening W.Step) (entry (s .name))
+  step-second = second-room _ _ _ _ step-parts
 
-    pub step-third : Third (stepLine (formOf s) []) (opening W.Step) (entry (s .name)) (lists (formOf s) [])
-    step-third = third-room _ _ _ _ _ step-parts
+  pub step-third : Third (stepLine (formOf s) []) (opening W.Step) (entry (s .name)) (lists (formOf s) [])
+  step-third = third-room _ _ _ _ _ step-parts
 
-    pub step-fourth : Fourth (stepLine (formOf s) []) (opening W.Step) (entry (s .name)) (lists (formOf s) []) closing
-    step-fourth = fourth-room _ _ _ _ _ _ step-parts
+  pub step-fourth : Fourth (stepLine (formOf s) []) (opening W.Step) (entry (s .name)) (lists (formOf s) []) closing
+  step-fourth = fourth-room _ _ _ _ _ _ step-parts
 
-    pub step-whole : Four (stepLine (formOf s) []) (opening W.Step) (entry (s .name)) (lists (formOf s) []) closing
-    step-whole = four-emits _ _ _ _ _ step-parts
+  pub step-whole : Four (stepLine (formOf s) []) (opening W.Step) (entry (s .name)) (lists (formOf s) []) closing
+  step-whole = four-emits _ _ _ _ _ step-parts
 
 -- a head, and a done line
-module _ (w : Word) (n : ℕ) (short : Short n) where
+module _ (w : Word) (n : ℕ) where
   word-parts : wordLine w n [] ≡ parts (opening w ∷ entry n ∷ closing ∷ [])
   unfolding wordLine entry parts
-  word-parts = ap (λ (t : List ℕ). 40 ∷ (spelling w ++ (32 ∷ t))) (number-is n closing short)
+  word-parts = ap (λ (t : List ℕ). 40 ∷ (spelling w ++ (32 ∷ t))) (number-is n closing)
 
   pub word-first : First (wordLine w n []) (opening w)
   word-first = first-room _ _ _ word-parts

@@ -4,7 +4,6 @@ pub mod Bound
 pub mod Longest
 pub mod InParts
 pub mod EachLine
-pub mod Widths
 pub mod Answers
 pub mod Trips
 pub mod TextsInFront

@@ -6,7 +6,9 @@ use mathlib.Core.List.{List, [], _∷_, map}
 use Prim.Native.Nat.{ℕ, zero, suc}
 use lib.ListN.{length}
 use Rattle.refusal.specs.Rows.{unless, first}
-use Rattle.job.specs.Lines.{nameFits, placesFit, among, doneRow, doneRows}
+use Rattle.version.specs.Limits.{scope, nameFits}
+use Rattle.version.proofs.Limits.{scope-limits}
+use Rattle.job.specs.Lines.{placesFit, among, doneRow, doneRows}
 use Rattle.layout.specs.Words.{spelling}
 use Rattle.layout.specs.Text.{Form, Lines, digits, number, entries, listed, stepLine, wordLine, jobLine, stepLines, doneLines, jobText, text}
 use Rattle.layout.proofs.Complete.{complete}
@@ -37,15 +39,15 @@ its-length : length longest ≡ 18136
 unfolding longest longLines longStep from text digits number entries listed stepLine wordLine jobLine stepLines doneLines jobText spelling
 its-length = refl
 
-no-row-refuses : Passes (sheetRows longLines)
+no-row-refuses : Passes (sheetRows scope longLines)
 unfolding longLines longStep from sheetRows routeFormRows formRows formRow formFits formLists listFits allBelow rising nameFits placesFit among doneRow doneRows unless first
 no-row-refuses = refl
 
 it-reads : readOf longest .number ≡ 0
 unfolding longest factsRecord
 it-reads =
-    let parsed = complete longLines (lines-short longLines (lines-fine longLines no-row-refuses)) in
-    ap (λ (y : Sheet). y .number) (read-is longest longLines parsed ∙ standing longLines no-row-refuses)
+    let parsed = complete scope scope-limits longLines (lines-short scope scope-limits longLines (lines-fine scope longLines no-row-refuses)) in
+    ap (λ (y : Sheet). y .number) (read-is scope longest longLines parsed ∙ standing scope longLines no-row-refuses)
 
 -- a sheet as long as `bounded` allows reads
 pub longest-reads : (s : List ℕ) × (length s ≡ 18136) × (readOf s .number ≡ 0)

@@ -10,13 +10,16 @@ use lib.ListN.{length, replicate, length-map}
 use lib.Seq.{take-append-seam}
 use Rattle.refusal.specs.Rows.{first}
 use Rattle.refusal.specs.declared.Outcome.{Outcome}
+use Rattle.version.specs.Limits.{Limits}
+use Rattle.version.specs.declared.Version.{Version}
+use Rattle.version.proofs.Limits.{scope-limits}
 use Rattle.job.specs.Job.{Job}
 use Rattle.job.specs.Lines.{lineRows}
 use Rattle.layout.specs.Text.{Lines, text}
 use Rattle.layout.proofs.Complete.{complete}
 use Rattle.layout.proofs.Sound.{sound}
 use Rattle.facts.specs.Forms.{recordOf}
-use Rattle.facts.specs.Facts.{factsOf, readOf, jobRead}
+use Rattle.facts.specs.Facts.{factsOf, readBy, readOf, jobRead}
 use Rattle.facts.specs.SheetRows.{sheetRows, filled, factsRecord, sheetOf}
 use Rattle.facts.specs.declared.Sheet.{Sheet}
 use Rattle.facts.proofs.RowsFold.{Stand, stands, fails, facts-stand, filled-steps}
@@ -28,25 +31,25 @@ use Rattle.facts.proofs.Widths.{lines-same, rows-as-records, rows-wide}
 use Rattle.writer.specs.Written.{written}
 
 -- what reading accepts, writing gives back byte for byte
-pub read-then-write : (s : List ℕ) → readOf s .number ≡ 0 → written (jobRead (readOf s)) ≡ s
+pub read-then-write : {v : Version} → Limits v → (s : List ℕ) → readBy v s .number ≡ 0 → written (jobRead (readBy v s)) ≡ s
 unfolding written
-read-then-write s z =
-    let r = reads-as s z in
-    ap (λ (y : Sheet). text (linesOf (jobRead y))) (r .facts) ∙ ap text (lines-back (r .lines) (lines-fine (r .lines) (r .passes))) ∙ sym (sound s (r .lines) (r .parsed) .same)
+read-then-write {v} limits s z =
+    let r = reads-as v s z in
+    ap (λ (y : Sheet). text (linesOf (jobRead y))) (r .facts) ∙ ap text (lines-back v (r .lines) (lines-fine v (r .lines) (r .passes))) ∙ sym (sound v limits s (r .lines) (r .parsed) .same)
 
 -- a sheet that reads is that of its own records
-pub read-sheetOf : (s : List ℕ) → readOf s .number ≡ 0 → readOf s ≡ sheetOf (jobRead (readOf s))
+pub read-sheetOf : (v : Version) (s : List ℕ) → readBy v s .number ≡ 0 → readBy v s ≡ sheetOf (jobRead (readBy v s))
 unfolding factsRecord filled
-read-sheetOf s z = r .facts ∙ ap sheetOf (sym (ap jobRead (r .facts) ∙ same))
+read-sheetOf v s z = r .facts ∙ ap sheetOf (sym (ap jobRead (r .facts) ∙ same))
   where
-    r : ReadAs s
-    r = reads-as s z
+    r : ReadAs v s
+    r = reads-as v s z
 
     x : Lines
     x = r .lines
 
-    fine : AllLines x
-    fine = lines-fine x (r .passes)
+    fine : AllLines v x
+    fine = lines-fine v x (r .passes)
 
     same : jobRead (factsRecord x) ≡ record { oldPlaces = x .oldPlaces; old = map recordOf (x .old); newPlaces = x .newPlaces; new = map recordOf (x .new); done = x .done }
     same =
@@ -58,22 +61,22 @@ read-sheetOf s z = r .facts ∙ ap sheetOf (sym (ap jobRead (r .facts) ∙ same)
           done = take-append-seam (x .done) (replicate (64 - length (x .done)) 0) i;
         }
 
-pub standing : (x : Lines) → Passes (sheetRows x) → factsOf x ≡ factsRecord x
-standing x h = go (facts-stand x)
+pub standing : (v : Version) (x : Lines) → Passes (sheetRows v x) → factsOf v x ≡ factsRecord x
+standing v x h = go (facts-stand v x)
   where
     clash : false ≡ true → ⊥
     clash z = let y : _≡_ {A = ℕ} 0 1 = cc in omega arith
 
-    go : Stand (factsOf x) (sheetRows x) (factsRecord x) (length (x .done) ≤ 64) → factsOf x ≡ factsRecord x
-    go (stands e q v) = q
+    go : Stand (factsOf v x) (sheetRows v x) (factsRecord x) (length (x .done) ≤ 64) → factsOf v x ≡ factsRecord x
+    go (stands e q few) = q
     go (fails e q) = absurd (clash (sym e ∙ h))
 
-wide-then-read : (j : Job) → AllWide (j .old) → AllWide (j .new) → Passes (lineRows j) → readOf (written j) ≡ sheetOf j
+-- what is written of records whose lines a version allows, it reads back
+pub lines-then-read : {v : Version} → Limits v → (j : Job) → AllWide (j .old) → AllWide (j .new) → Passes (sheetRows v (linesOf j)) → readBy v (written j) ≡ sheetOf j
 unfolding written linesOf factsRecord
-wide-then-read j old new h =
-    let passes : Passes (sheetRows (linesOf j)) = ap (λ (rows : List Outcome). eqb (first rows .number) 0) (tie j old new) ∙ h in
-    read-is (text (linesOf j)) (linesOf j) (complete (linesOf j) (lines-short (linesOf j) (lines-fine (linesOf j) passes)))
-    ∙ standing (linesOf j) passes
+lines-then-read {v} limits j old new passes =
+    read-is v (text (linesOf j)) (linesOf j) (complete v limits (linesOf j) (lines-short v limits (linesOf j) (lines-fine v (linesOf j) passes)))
+    ∙ standing v (linesOf j) passes
     ∙ (λ i. record { number = 0; second = 0; old = filled (j .oldPlaces) (records-forms (j .old) old i); new = filled (j .newPlaces) (records-forms (j .new) new i); «done_len» = length (j .done); done = j .done ++ replicate (64 - length (j .done)) 0 })
 
 -- what writing gives, reading takes back fact for fact
@@ -82,4 +85,4 @@ unfolding written
 write-then-read j h =
     let (old, new) = rows-wide j h in
     ap (λ (x : Lines). readOf (text x)) (sym (lines-same j))
-    ∙ wide-then-read (asRecords j) old new (ap (λ (rows : List Outcome). eqb (first rows .number) 0) (rows-as-records j) ∙ h)
+    ∙ lines-then-read scope-limits (asRecords j) old new (ap (λ (rows : List Outcome). eqb (first rows .number) 0) (tie (asRecords j) old new ∙ rows-as-records j) ∙ h)

@@ -1,18 +1,16 @@
--- Each text of a sheet stands in front of what follows; numbers of at most five digits are in base ten.
+-- Each text of a sheet stands in front of what follows; its numbers are those that an emitter writes.
 -- Assumes nothing.
 use mathlib.Core.Path.{_≡_, refl, sym, ap, _∙_}
 use mathlib.Core.Bool.{Bool, cond}
 use mathlib.Core.List.{List, [], _∷_, _++_, append-assoc, append-nil, map}
 use Prim.Native.Nat.{ℕ, zero, suc, _+_, _/_, _%_}
-use native.Mathlib.Omega.{arith}
 use lib.Dec.{ltb}
 use Rattle.mask.proofs.Truth.{split}
 use Rattle.emit.specs.Numbers.{decimal, entry, over}
 use Rattle.emit.specs.Numbers as N
-use Rattle.emit.proofs.Decimals.{digits-enough}
 use Rattle.route.specs.declared.Step.{Step}
 use Rattle.layout.specs.Words.{spelling}
-use Rattle.layout.specs.Text.{Form, digits, number, entries, listed, stepLine, wordLine, stepLines, Short, Shorts}
+use Rattle.layout.specs.Text.{Form, digits, number, entries, listed, stepLine, wordLine, stepLines}
 use Rattle.layout.specs.declared.Word.{Word}
 use Rattle.layout.specs.declared.Word.the-variants.{In, Out, Read, Write}
 use Rattle.layout.specs.declared.Word.the-variants as W
@@ -28,16 +26,16 @@ digits-are (suc k) n s =
     (λ e. refl)
     (λ e. digits-are k (n / 10) ((48 + n % 10) ∷ s) ∙ sym (append-assoc (N.digits k (n / 10)) ((48 + n % 10) ∷ []) s))
 
-pub number-is : (n : ℕ) (s : List ℕ) → Short n → number n s ≡ decimal n ++ s
+pub number-is : (n : ℕ) (s : List ℕ) → number n s ≡ decimal n ++ s
 unfolding number decimal
-number-is n s h = digits-are 5 n s ∙ ap (λ (t : List ℕ). t ++ s) (sym (digits-enough 19 4 n (omega arith) h))
+number-is n s = digits-are 20 n s
 
-pub entries-are : (l s : List ℕ) → Shorts l → entries l s ≡ over entry l ++ s
+pub entries-are : (l s : List ℕ) → entries l s ≡ over entry l ++ s
 unfolding entries over entry
-entries-are [] s h = refl
-entries-are (n ∷ l) s h =
-    ap (λ (t : List ℕ). 32 ∷ number n t) (entries-are l s (h .1))
-    ∙ ap (λ (t : List ℕ). 32 ∷ t) (number-is n (over entry l ++ s) (h .0) ∙ sym (append-assoc (decimal n) (over entry l) s))
+entries-are [] s = refl
+entries-are (n ∷ l) s =
+    ap (λ (t : List ℕ). 32 ∷ number n t) (entries-are l s)
+    ∙ ap (λ (t : List ℕ). 32 ∷ t) (number-is n (over entry l ++ s) ∙ sym (append-assoc (decimal n) (over entry l) s))
 
 -- ---- what follows may stand behind
 
@@ -53,8 +51,7 @@ front-text : (t : List ℕ) → Front (λ s. t ++ s)
 front-text t s = ap (λ (x : List ℕ). x ++ s) (sym (append-nil t))
 
 number-front : (n : ℕ) → Front (number n)
-unfolding number
-number-front n s = digits-are 5 n s ∙ ap (λ (t : List ℕ). t ++ s) (sym (digits-are 5 n [] ∙ append-nil (N.digits 5 n)))
+number-front n s = number-is n s ∙ ap (λ (t : List ℕ). t ++ s) (sym (number-is n [] ∙ append-nil (decimal n)))
 
 entries-front : (l : List ℕ) → Front (entries l)
 unfolding entries

@@ -8,6 +8,7 @@ use lib.Dec.{eqb}
 use lib.ListN.{length, take, drop}
 use lib.Seq.{take-append-seam}
 use borrow.Author.Tests.{eq-eqb}
+use Rattle.version.proofs.Limits.{scope-limits}
 use Rattle.job.specs.Job.{Job}
 use Rattle.job.specs.Lines.{lineRows}
 use Rattle.facts.specs.Facts.{readOf, jobRead}
@@ -51,7 +52,7 @@ pub read-writes : (s o : List ℕ) → readOf s .number ≡ 0 → length s ≤ l
     → (wrote (jobRead (readOf s)) (length o) ≡ record { number = 0; second = 0; written = length s }) × (outAfter (jobRead (readOf s)) o ≡ s ++ drop (length s) o)
 read-writes s o z room =
     let j : Job = jobRead (readOf s) in
-    let same : written j ≡ s = read-then-write s z in
+    let same : written j ≡ s = read-then-write scope-limits s z in
     let rows : Passes (lineRows j) = eq-eqb _ 0 (read-lines s z) in
     let long : length s ≡ length (written j) = ap length (sym same) in
     (sym (passed-answer j _ refl rows o (length s) long room), sym (passed-out j _ refl rows o (length s) long room _ (ap (λ (t : List ℕ). t ++ drop (length t) o) (sym same))))

@@ -8,38 +8,28 @@ use lib.ListN.{length, take, drop, replicate, length-replicate}
 use lib.Seq.{length-take-le}
 use Rattle.emit.specs.Emit.{Room, Emits}
 use Rattle.emit.proofs.Chains.{emits-length, emits-end, emits-whole, emits-take}
-use Rattle.route.specs.Steps.{stepsOf}
 use Rattle.route.specs.declared.Route.{Route}
 use Rattle.route.proofs.StepList.{length-steps}
 use Rattle.job.specs.Job.{Job, jobOf}
 use Rattle.job.specs.Lines.{lineRows}
 use Rattle.job.proofs.Rows.{LinesFit, lines-fit}
-use Rattle.layout.specs.Text.{ShortLines}
-use Rattle.facts.specs.Back.{linesOf, AllWide}
 use Rattle.facts.proofs.PassingLines.{Passes}
 use Rattle.writer.specs.Written.{written}
 use Rattle.writer.specs.Writes.{wrote, outAfter}
 use Rattle.writer.specs.Fits.{Fits}
 use Rattle.writer.proofs.Answers.{short-answer, short-out, passed-answer, passed-out}
-use Rattle.writer.proofs.Bound.{lines-shorts, written-bounded}
+use Rattle.writer.proofs.Bound.{written-length}
 
-module _ (old new : Route) (done : List ℕ) (old-full : length (old .steps) ≡ 64) (new-full : length (new .steps) ≡ 64) (old-wide : AllWide (stepsOf old)) (new-wide : AllWide (stepsOf new)) where
+module _ (old new : Route) (done : List ℕ) (old-full : length (old .steps) ≡ 64) (new-full : length (new .steps) ≡ 64) where
   pub fitting : Passes (lineRows (jobOf old new done)) → Fits old new done
-  unfolding linesOf
   fitting h =
       let j : Job = jobOf old new done in
       let fits : LinesFit j = lines-fit j h in
-      let short : ShortLines (linesOf j) = lines-shorts j old-wide new-wide h in
       record {
         pass = h;
         oldLen = omega (arith, fits .old-fits .steps-fit, length-steps old old-full);
-        oldPlaces = short .oldPlaces;
-        oldSteps = short .old;
         newLen = omega (arith, fits .new-fits .steps-fit, length-steps new new-full);
-        newPlaces = short .newPlaces;
-        newSteps = short .new;
-        names = short .done;
-        long = written-bounded j old-wide new-wide h;
+        long = written-length j h;
       }
 
 -- ---- a slice with room for any text

@@ -1,9 +1,14 @@
 -- The text that writing records gives.
 use mathlib.Core.List.{List}
-use Prim.Native.Nat.{ℕ}
+use Prim.Native.Nat.{ℕ, _+_, _*_}
+use Rattle.version.specs.declared.Version.{Version}
 use Rattle.job.specs.Job.{Job}
 use Rattle.layout.specs.Text.{text}
 use Rattle.facts.specs.Back.{linesOf}
 
 unfoldable pub written : Job → List ℕ
 written j = text (linesOf j)
+
+-- "No sheet that reads is longer than 18,136 bytes": in a version 192 names have all its digits, and the rest has 17,176 bytes
+abbrev pub longest : Version → ℕ
+longest v = 17176 + 192 * v .digits

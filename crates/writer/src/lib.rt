@@ -1,5 +1,5 @@
 // Writing: the sheet that a job's records give, into a lent slice.
-pub mod lines;
+mod lines;
 pub mod writes;
 
 // 0, 0 and the bytes written; or a refusal, and nothing written.

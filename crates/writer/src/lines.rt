@@ -11,7 +11,7 @@ ghost use Rattle.mask.specs.Mask.{members};
 ghost use Rattle.emit.specs.Emit.{Room, Emits};
 ghost use Rattle.route.specs.Steps.{stepsOf};
 ghost use Rattle.layout.specs.Words.{spelling};
-ghost use Rattle.layout.specs.Text.{listed, stepLine, stepLines, wordLine, doneLines, jobText, Short, Shorts, ShortForms};
+ghost use Rattle.layout.specs.Text.{listed, stepLine, stepLines, wordLine, doneLines, jobText};
 ghost use Rattle.facts.specs.Back.{formOf};
 ghost use Rattle.writer.specs.Parts.{opening, closing, lists, routeText};
 
@@ -74,7 +74,6 @@ fn four(out: &mut [u8], at: usize, s: Step) -> usize
 }
 
 fn step_line(out: &mut [u8], at: usize, s: Step) -> usize
-    requires { ⌜ Short (s .name) ⌝ }
     requires { ⌜ Room (stepLine (formOf s) []) (now out) at ⌝ }
     ensures { λ r. ⌜ Emits (stepLine (formOf s) []) (now (out .entry)) at (now (out .exit)) r ⌝ }
 {
@@ -85,7 +84,6 @@ fn step_line(out: &mut [u8], at: usize, s: Step) -> usize
 }
 
 fn word_line(out: &mut [u8], at: usize, w: Word, n: u64) -> usize
-    requires { ⌜ Short n ⌝ }
     requires { ⌜ Room (wordLine w n []) (now out) at ⌝ }
     ensures { λ r. ⌜ Emits (wordLine w n []) (now (out .entry)) at (now (out .exit)) r ⌝ }
 {
@@ -96,7 +94,6 @@ fn word_line(out: &mut [u8], at: usize, w: Word, n: u64) -> usize
 
 fn step_lines(out: &mut [u8], at: usize, r: Route) -> usize
     requires { ⌜ r .len ≤ 64 ⌝ }
-    requires { ⌜ ShortForms (map formOf (stepsOf r)) ⌝ }
     requires { ⌜ Room (stepLines (map formOf (stepsOf r)) []) (now out) at ⌝ }
     ensures { λ p. ⌜ Emits (stepLines (map formOf (stepsOf r)) []) (now (out .entry)) at (now (out .exit)) p ⌝ }
 {
@@ -113,8 +110,6 @@ fn step_lines(out: &mut [u8], at: usize, r: Route) -> usize
 // A route's head and its steps.
 pub fn route_lines(out: &mut [u8], at: usize, w: Word, r: Route) -> usize
     requires { ⌜ r .len ≤ 64 ⌝ }
-    requires { ⌜ Short (r .places) ⌝ }
-    requires { ⌜ ShortForms (map formOf (stepsOf r)) ⌝ }
     requires { ⌜ Room (routeText w (r .places) (stepsOf r) []) (now out) at ⌝ }
     ensures { λ p. ⌜ Emits (routeText w (r .places) (stepsOf r) []) (now (out .entry)) at (now (out .exit)) p ⌝ }
 {
@@ -123,7 +118,6 @@ pub fn route_lines(out: &mut [u8], at: usize, w: Word, r: Route) -> usize
 }
 
 fn done_lines(out: &mut [u8], at: usize, done: &[u32]) -> usize
-    requires { ⌜ Shorts (now done) ⌝ }
     requires { ⌜ Room (doneLines (now done) []) (now out) at ⌝ }
     ensures { λ r. ⌜ Emits (doneLines (now (done .entry)) []) (now (out .entry)) at (now (out .exit)) r ⌝ }
 {
@@ -138,7 +132,6 @@ fn done_lines(out: &mut [u8], at: usize, done: &[u32]) -> usize
 
 // The job part.
 pub fn job_lines(out: &mut [u8], at: usize, done: &[u32]) -> usize
-    requires { ⌜ Shorts (now done) ⌝ }
     requires { ⌜ Room (jobText (now done)) (now out) at ⌝ }
     ensures { λ r. ⌜ Emits (jobText (now (done .entry))) (now (out .entry)) at (now (out .exit)) r ⌝ }
 {

@@ -5,19 +5,18 @@ use native.Mathlib.Omega.{arith}
 use lib.ListN.{length, drop}
 use borrow.Author.Needs.{needs}
 use Rattle.emit.proofs.Loops.{Left, left-start}
-use Rattle.layout.specs.Text.{Shorts}
-use Rattle.writer.proofs.EachLine.{nameLines, done-short, dones-short, dones-room, dones-turn, dones-end}
+use Rattle.writer.proofs.EachLine.{nameLines, dones-room, dones-turn, dones-end}
 use Rattle.writer.proofs.lines.done_lines.Statement.{statement}
 use Rattle.writer.proofs.lines.done_lines.Tie as tie
 
 abbrev Inv-loop : tie.InvT-loop
-Inv-loop out₀ at done p₀ i₀ out p i = (i ≤ length done) × ((length out ≡ length out₀) × (Shorts (drop i done) × Left (nameLines (drop i done)) out p (nameLines done) out₀ at))
+Inv-loop out₀ at done p₀ i₀ out p i = (i ≤ length done) × ((length out ≡ length out₀) × Left (nameLines (drop i done)) out p (nameLines done) out₀ at)
 
 abbrev μ-loop : tie.MeasureT-loop
 μ-loop out₀ at done p₀ i₀ out p i = length done - i
 
 loop-holds : tie.Need-loop-holds Inv-loop μ-loop
-loop-holds c = (omega arith, (search needs, (search needs, search (needs, left-start))))
+loop-holds c = (omega arith, (search needs, search (needs, left-start)))
 
 mul-word-line : tie.Need-mul-word-line Inv-loop μ-loop
 mul-word-line c = search needs
@@ -29,7 +28,7 @@ cast-word-line : tie.Need-cast-word-line Inv-loop μ-loop
 cast-word-line c = record { fits = omega (arith, c .shared-slice-known2 .given (c .before .before .before .loop .i)) }
 
 word-line-requires : tie.Need-word-line-requires Inv-loop μ-loop
-word-line-requires c κs = (search (needs, done-short), search (needs, dones-room))
+word-line-requires c κs = search (needs, dones-room)
 
 add-i : tie.Need-add-i Inv-loop μ-loop
 add-i c = search needs
@@ -38,7 +37,7 @@ loop-less : tie.Need-loop-less Inv-loop μ-loop
 loop-less c = search needs
 
 loop-again : tie.Need-loop-again Inv-loop μ-loop
-loop-again c = (search needs, (search needs, (search (needs, dones-short), search (needs, dones-turn))))
+loop-again c = (search needs, (search needs, search (needs, dones-turn)))
 
 same-length : tie.Need-same-length Inv-loop μ-loop
 same-length c = search needs

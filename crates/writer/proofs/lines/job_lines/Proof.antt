@@ -11,7 +11,7 @@ closed-requires : tie.Need-closed-requires
 closed-requires c κs = search (needs, job-second)
 
 done-lines-requires : tie.Need-done-lines-requires
-done-lines-requires c κs = (search needs, search (needs, job-third))
+done-lines-requires c κs = search (needs, job-third)
 
 same-length : tie.Need-same-length
 same-length c = search needs

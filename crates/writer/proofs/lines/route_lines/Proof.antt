@@ -5,10 +5,10 @@ use Rattle.writer.proofs.lines.route_lines.Statement.{statement}
 use Rattle.writer.proofs.lines.route_lines.Tie as tie
 
 word-line-requires : tie.Need-word-line-requires
-word-line-requires c κs = (search needs, search (needs, route-first))
+word-line-requires c κs = search (needs, route-first)
 
 step-lines-requires : tie.Need-step-lines-requires
-step-lines-requires c κs = (search needs, (search needs, search (needs, route-second)))
+step-lines-requires c κs = (search needs, search (needs, route-second))
 
 same-length : tie.Need-same-length
 same-length c = search needs

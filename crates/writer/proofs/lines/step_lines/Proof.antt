@@ -7,18 +7,18 @@ use borrow.Author.Needs.{needs}
 use Rattle.emit.proofs.Loops.{Left, left-start}
 use Rattle.route.specs.Steps.{stepsOf}
 use Rattle.route.proofs.Full.{full}
-use Rattle.writer.proofs.EachLine.{formLines, ShortSteps, name-short, steps-short, steps-room, steps-turn, steps-over}
+use Rattle.writer.proofs.EachLine.{formLines, steps-room, steps-turn, steps-over}
 use Rattle.writer.proofs.lines.step_lines.Statement.{statement}
 use Rattle.writer.proofs.lines.step_lines.Tie as tie
 
 abbrev Inv-loop : tie.InvT-loop
-Inv-loop out₀ at r p₀ i₀ out p i = (length (r .steps) ≡ 64) × ((i ≤ r .len) × ((length out ≡ length out₀) × (ShortSteps (drop i (stepsOf r)) × Left (formLines (drop i (stepsOf r))) out p (formLines (stepsOf r)) out₀ at)))
+Inv-loop out₀ at r p₀ i₀ out p i = (length (r .steps) ≡ 64) × ((i ≤ r .len) × ((length out ≡ length out₀) × Left (formLines (drop i (stepsOf r))) out p (formLines (stepsOf r)) out₀ at))
 
 abbrev μ-loop : tie.MeasureT-loop
 μ-loop out₀ at r p₀ i₀ out p i = r .len - i
 
 loop-holds : tie.Need-loop-holds Inv-loop μ-loop
-loop-holds c = (full (c .before .args .t3) _ (c .before .good .1 .1 .0), (omega arith, (search needs, (search needs, search (needs, left-start)))))
+loop-holds c = (full (c .before .args .t3) _ (c .before .good .1 .1 .0), (omega arith, (search needs, search (needs, left-start))))
 
 mul-s : tie.Need-mul-s Inv-loop μ-loop
 mul-s c = search needs
@@ -27,7 +27,7 @@ element-copy-out-s : tie.Need-element-copy-out-s Inv-loop μ-loop
 element-copy-out-s c = search needs
 
 step-line-requires : tie.Need-step-line-requires Inv-loop μ-loop
-step-line-requires c κs = (search (needs, name-short), search (needs, steps-room))
+step-line-requires c κs = search (needs, steps-room)
 
 add-i : tie.Need-add-i Inv-loop μ-loop
 add-i c = search needs
@@ -36,7 +36,7 @@ loop-less : tie.Need-loop-less Inv-loop μ-loop
 loop-less c = search needs
 
 loop-again : tie.Need-loop-again Inv-loop μ-loop
-loop-again c = (search needs, (search needs, (search needs, (search (needs, steps-short), search (needs, steps-turn)))))
+loop-again c = (search needs, (search needs, (search needs, search (needs, steps-turn))))
 
 same-length : tie.Need-same-length Inv-loop μ-loop
 same-length c = search needs

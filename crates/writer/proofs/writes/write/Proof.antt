@@ -8,7 +8,6 @@ use Rattle.refusal.specs.declared.Outcome.{Outcome}
 use Rattle.route.proofs.Full.{full}
 use Rattle.job.specs.Job.{jobOf}
 use Rattle.writer.specs.Fits.{Fits}
-use Rattle.writer.proofs.Widths.{wide}
 use Rattle.writer.proofs.Answers.{refused-answer, refused-out}
 use Rattle.writer.proofs.WrittenText.{fitting, any-room, direct-answer, direct-out}
 use Rattle.writer.proofs.writes.write.Statement.{statement}
@@ -27,8 +26,6 @@ module _ (c : tie.Else1) where
       fitting (start .args .old) (start .args .new) (start .args .done .now)
       (full (start .args .old) _ (start .good .0))
       (full (start .args .new) _ (start .good .1 .0))
-      (wide (start .args .old) _ (start .good .0))
-      (wide (start .args .new) _ (start .good .1 .0))
       (ap (λ (o : Outcome). eqb (o .number) 0) (sym (c .before .before .check-routes .ensures)) ∙ passes)
 
 check-routes-requires : tie.Need-check-routes-requires
