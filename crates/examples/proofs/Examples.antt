@@ -5,7 +5,8 @@ use Rattle.route.specs.Steps.{stepsOf, union, names, lookup}
 use Rattle.route.specs.Firing.{canFire, fire, ifFires, start}
 use Rattle.refusal.specs.Rows.{unless, first}
 use Rattle.route.specs.Net.{netRow}
-use Rattle.job.specs.Lines.{nameFits, placesFit, stepFits, variableList, placeList, listsFit, among, stepRow, stepRows, routeRows, doneRow, doneRows, lineRows, checked}
+use Rattle.version.specs.Limits.{nameFits}
+use Rattle.job.specs.Lines.{placesFit, stepFits, variableList, placeList, listsFit, among, stepRow, stepRows, routeRows, doneRow, doneRows, lineRows, checked}
 use Rattle.job.specs.Run.{runFrom, ran, performed}
 use Rattle.slice.specs.Order.{inTurn}
 use Rattle.slice.specs.Precedence.{clash, comesAfter, row}
@@ -20,7 +21,7 @@ use Rattle.layout.specs.Words.{spelling}
 use Rattle.layout.specs.Points.{digit, alive, expect, chosen, spelt, inList, pastWord, first as firstDigit, ended, more as moreDigits, closed, next}
 use Rattle.layout.specs.Parse.{stored, took, putStep, putLine, keep, atEnd, run, parse}
 use Rattle.facts.specs.Forms.{allBelow, rising, formFits, listFits, formLists, formRow, masked, recordOf}
-use Rattle.facts.specs.Facts.{failed, settled, headed, stepped, oldHead, newHead, jobHead, doneIn, stepIn, more, moreSteps, moreDones, factsOf, answered, readOf}
+use Rattle.facts.specs.Facts.{failed, settled, headed, stepped, oldHead, newHead, jobHead, doneIn, stepIn, more, moreSteps, moreDones, factsOf, answered, readBy}
 use Rattle.emit.specs.Numbers.{digits, decimal, entry, over}
 use Rattle.listing.specs.Listing.{line, movedLine, afterLine, afterLines, orderLine, markingLine, valueLine, valueLines, refusedLine, movedText, listing}
 use Rattle.ops.specs.Print.{sheetAnswer, listingOf}
@@ -41,7 +42,7 @@ unfolding spelling digit alive expect chosen spelt inList pastWord firstDigit en
 the-layout = tt
 
 unfoldable the-facts : Unit {0}
-unfolding allBelow rising formFits listFits formLists formRow masked recordOf failed settled headed stepped oldHead newHead jobHead doneIn stepIn more moreSteps moreDones factsOf answered readOf
+unfolding allBelow rising formFits listFits formLists formRow masked recordOf failed settled headed stepped oldHead newHead jobHead doneIn stepIn more moreSteps moreDones factsOf answered readBy
 the-facts = tt
 
 unfoldable the-run : Unit {0}

@@ -11,6 +11,7 @@ use Rattle.route.specs.declared.Route.{Route}
 use Rattle.route.proofs.FlatSteps.{length-flat, flat-take}
 use Rattle.job.specs.Job.{flatJob}
 use Rattle.job.specs.Lines.{LinesPass}
+use Rattle.version.specs.Limits.{scope}
 use Rattle.facts.specs.Forms.{recordOf}
 use Rattle.facts.specs.Facts.{readOf, jobRead}
 use Rattle.facts.specs.SheetRows.{filled, factsRecord}
@@ -30,16 +31,16 @@ filled-length n l h =
 old-records : (s : List ℕ) → readOf s .number ≡ 0 → length (readOf s .old .steps) ≡ 64
 unfolding factsRecord
 old-records s z =
-    let r = reads-as s z in
+    let r = reads-as scope s z in
     ap (λ (y : Sheet). length (y .old .steps)) (r .facts)
-    ∙ filled-length _ _ (omega (arith, length-map (r .lines .old) recordOf, lines-fine (r .lines) (r .passes) .oldFew))
+    ∙ filled-length _ _ (omega (arith, length-map (r .lines .old) recordOf, lines-fine scope (r .lines) (r .passes) .oldFew))
 
 new-records : (s : List ℕ) → readOf s .number ≡ 0 → length (readOf s .new .steps) ≡ 64
 unfolding factsRecord
 new-records s z =
-    let r = reads-as s z in
+    let r = reads-as scope s z in
     ap (λ (y : Sheet). length (y .new .steps)) (r .facts)
-    ∙ filled-length _ _ (omega (arith, length-map (r .lines .new) recordOf, lines-fine (r .lines) (r .passes) .newFew))
+    ∙ filled-length _ _ (omega (arith, length-map (r .lines .new) recordOf, lines-fine scope (r .lines) (r .passes) .newFew))
 
 stepsOf-short : (r : Route) → r .len ≤ 64 → take (r .len) (r .steps) ≡ stepsOf r
 unfolding stepsOf
@@ -63,7 +64,7 @@ module _ (s : List ℕ) (r : Counts) (old new done : List ℕ) (k : ReadTo s r o
   new-room = omega (arith, length-flat new, ap length (k .new-steps z) ∙ new-records s reads, k .new-few)
 
   pub done-room : r .«done_len» ≤ length done
-  done-room = omega (arith, ap length (k .done-names z) ∙ read-dones s .room, k .done-few)
+  done-room = omega (arith, ap length (k .done-names z) ∙ read-dones scope s .room, k .done-few)
 
   pub read-job : flatJob (r .«old_places») (take (4 * r .«old_len») old) (r .«new_places») (take (4 * r .«new_len») new) (take (r .«done_len») done) ≡ jobRead (readOf s)
   read-job = λ i. record {

@@ -21,6 +21,8 @@ use Rattle.matching.specs.Straight.{fireAll, stepsOn}
 use Rattle.matching.specs.KeptRows.{keptRows}
 use Rattle.trying.specs.Try.{tried}
 use Rattle.judging.specs.Judge.{judged}
+use Rattle.version.specs.Limits.{scope}
+use Rattle.version.proofs.Limits.{scope-limits}
 use Rattle.layout.specs.Text.{jobText}
 use Rattle.layout.specs.Begins.{IsSheet, FirstBroken}
 use Rattle.facts.specs.Facts.{factsOf, readOf}
@@ -56,20 +58,20 @@ use Rattle.theorems.proofs.Demand3.{demand3}
 -- ---- "1: layout broken": "offset of the first byte where no sheet begins so, or the length if it ends early"
 
 -- reading answers 1 exactly where the bytes are no sheet
-pub row-1-exactly : (s : List ℕ) → (readOf s .number ≡ 1) ↔ (IsSheet s → ⊥)
-row-1-exactly = row-1-iff
+pub row-1-exactly : (s : List ℕ) → (readOf s .number ≡ 1) ↔ (IsSheet scope s → ⊥)
+row-1-exactly = row-1-iff scope-limits
 
 -- and its second number is that offset
-pub row-1-second : (s : List ℕ) → readOf s .number ≡ 1 → FirstBroken s (readOf s .second)
-row-1-second = row-1-offset
+pub row-1-second : (s : List ℕ) → readOf s .number ≡ 1 → FirstBroken scope s (readOf s .second)
+row-1-second = row-1-offset scope-limits
 
 -- sound: what isn't answered with 1 is a sheet
-pub reading-is-sound : (s : List ℕ) → (readOf s .number ≡ 1 → ⊥) → IsSheet s
-reading-is-sound = read-sheet
+pub reading-is-sound : (s : List ℕ) → (readOf s .number ≡ 1 → ⊥) → IsSheet scope s
+reading-is-sound = read-sheet scope-limits
 
 -- complete: a sheet is answered by the rows of its lines
-pub reading-is-complete : (s : List ℕ) (x : IsSheet s) → readOf s ≡ factsOf (x .lines)
-reading-is-complete = sheet-facts
+pub reading-is-complete : (s : List ℕ) (x : IsSheet scope s) → readOf s ≡ factsOf scope (x .lines)
+reading-is-complete = sheet-facts scope-limits
 
 -- ---- "A sheet that reads also has its job part lent back": "the caller's own bytes from `(job)` to the end"
 
@@ -79,7 +81,7 @@ job-part-is-its-text = job-part-text
 -- ---- "No sheet that reads is longer than 18,136 bytes."
 
 pub no-sheet-is-longer : (s : List ℕ) → readOf s .number ≡ 0 → length s ≤ 18136
-no-sheet-is-longer = bounded
+no-sheet-is-longer = bounded scope-limits
 
 pub one-is-as-long : (s : List ℕ) × (length s ≡ 18136) × (readOf s .number ≡ 0)
 one-is-as-long = longest-reads

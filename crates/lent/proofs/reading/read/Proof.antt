@@ -42,6 +42,7 @@ use denote.Triple.Walked.{says, Stays, stay-dropped, gave-slice, goes-dropped, g
 use Rattle.route.specs.declared.Step.{Step}
 use Rattle.route.proofs.Step as St
 use Rattle.route.proofs.Step.Laws as St′
+use Rattle.version.specs.Limits.{scope}
 use Rattle.facts.specs.Facts.{readOf}
 use Rattle.facts.specs.declared.Sheet.{Sheet}
 use Rattle.facts.proofs.Counts.{read-few}
@@ -121,7 +122,7 @@ module _ {M : Type 1} (𝓤 : URA M) (H : Heap 𝓤) (A : Atoms 𝓤) (W : Given
   c = counted s (length (x₁ .now)) (length (x₂ .now)) (length (x₃ .now))
 
   fits : Fits c (length (x₁ .now)) (length (x₂ .now)) (length (x₃ .now))
-  fits = counted-fits s (length (x₁ .now)) (length (x₂ .now)) (length (x₃ .now)) (read-few (now x₀)) (read-dones (now x₀))
+  fits = counted-fits s (length (x₁ .now)) (length (x₂ .now)) (length (x₃ .now)) (read-few scope (now x₀)) (read-dones scope (now x₀))
 
   abbrev bound : walkOf 𝓤 H A read.ended stayed (read.clauses 𝓤 H A mem run) .Ghost
   bound = (((κ₀, (κ₁, (κ₂, (κ₃, tt)))), (q₀, (q₁, (q₂, (q₃, tt)))), tt, (x₀, (x₁, (x₂, (x₃, tt)))), (sv ∷ [], (listVal St.the-row x₁ ∷ [], (listVal St.the-row x₂ ∷ [], (listVal u32 x₃ ∷ [], tt))))), tt)
