@@ -4,4 +4,6 @@ pub mod Copied
 pub mod Record
 pub mod Called
 pub mod Locals
+pub mod InArray
+pub mod CountedLoop
 pub mod OneRecord

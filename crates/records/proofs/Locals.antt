@@ -31,6 +31,10 @@ module _ {M : Type 1} (𝓤 : URA M) (H : Heap 𝓤) where
   rooms [] s Γ = Γ
   rooms (local τ h ∷ ls) s Γ = rooms ls (s .1) (‵ (froom τ (s .0) zero) ∷ ‵ (fdies τ (s .0)) ∷ Γ)
 
+  abbrev pub spaces : Env 𝓤 H → List (Item 𝓤) → List (Item 𝓤)
+  spaces [] Γ = Γ
+  spaces (e ∷ E) Γ = ‵ (froom (e .0) (e .1) zero) ∷ ‵ (fdies (e .0) (e .1)) ∷ spaces E Γ
+
   -- what they hold
   abbrev pub Held : Env 𝓤 H → Type 0
   Held [] = Unit {0}
@@ -47,7 +51,12 @@ module _ {M : Type 1} {𝓤 : URA M} {H : Heap 𝓤} {A : Atoms 𝓤} {K : Type 
   all-locals t (local τ h ∷ ls) k = alloc1 t (λ b. all-locals t ls (λ s. k (b, s)))
 
   module _ {Γ : List (Item 𝓤)} where
-    -- all of them and what they hold are let go
+    -- all of them are freed
+    pub all-rooms : K → (E : Env 𝓤 H) {g : Goal 𝓤 H} → Moves K W Γ g (spaces 𝓤 H E Γ) (frees E g)
+    all-rooms t [] = step (λ s. free0 t $ s)
+    all-rooms t (e ∷ E) = step (λ s. free1 t $ all-rooms t E $ s)
+
+    -- and what they hold is let go
     pub all-freed : K → (E : Env 𝓤 H) (vs : Held 𝓤 H E) {g : Goal 𝓤 H} → Moves K W Γ g (cells 𝓤 H E vs Γ) (frees E g)
     all-freed t [] vs = step (λ s. free0 t $ s)
     all-freed t (e ∷ E) vs = step (λ s. forget t 0 refl $ free1 t $ all-freed t E (vs .1) $ s)
