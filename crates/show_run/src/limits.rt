@@ -36,7 +36,7 @@ fn show_steps() {
 }
 
 fn show_done() {
-    let k = letters::k_both();
+    let k = letters::k().old;
     let mut done = [20u32; 64];
     done[0] = 10;
     say(b"64 done", k, k, &done);
