@@ -23,11 +23,11 @@ use Rattle.facts.specs.Facts.{State, settled, doneIn, more}
 use Rattle.facts.specs.declared.Sheet.{Sheet}
 use Rattle.refusal.proofs.Rows.{head-passed, unless-elim}
 use Rattle.tokens.specs.declared.Numeral.{Numeral}
-use Rattle.reader.specs.Lines.{headWord, NumberedOn}
+use Rattle.lines.specs.Lines.{headWord, NumberedOn}
 use Rattle.reader.specs.Prefix.{backDones, oldState, newState, jobState, stateOf, Prefix, Upto, passed, brokenAt, Placed, withDones, DonesOn}
 use Rattle.reader.specs.declared.Pass.{Pass}
 use Rattle.tokens.proofs.Bytes.{apart}
-use Rattle.reader.proofs.LineTexts.{done-spells}
+use Rattle.lines.proofs.LineTexts.{done-spells}
 use Rattle.reader.proofs.PrefixStep.{settled-no, more-on, more-refused, prefix-of, upto-held, upto-broken}
 
 done-state : (v : Version) (t : Lines) (value : ℕ) → stateOf v JobPart (putLine Done JobPart (stored Done (withNum value noLine)) t) ≡ more (λ i s. doneIn v i value s) (stateOf v JobPart t)

@@ -24,12 +24,12 @@ use Rattle.refusal.proofs.Rows.{head-passed, unless-elim}
 use Rattle.tokens.specs.Tokens.{Reading, Reached, TextOn}
 use Rattle.tokens.specs.declared.Cursor.{Cursor}
 use Rattle.tokens.specs.declared.Numeral.{Numeral}
-use Rattle.reader.specs.Rows.{headRow, newRow, jobRow}
-use Rattle.reader.specs.Lines.{headWord, NumberedOn}
+use Rattle.lines.specs.Rows.{headRow, newRow, jobRow}
+use Rattle.lines.specs.Lines.{headWord, NumberedOn}
 use Rattle.reader.specs.Prefix.{backSteps, backDones, oldState, newState, jobState, stateOf, Upto, passed, brokenAt, Placed, NoStep, bare, OldOn, NewOn, JobOn}
 use Rattle.reader.specs.declared.Pass.{Pass}
 use Rattle.reader.specs.declared.Head.{Head}
-use Rattle.reader.proofs.LineTexts.{old-spells, new-spells, job-spells}
+use Rattle.lines.proofs.LineTexts.{old-spells, new-spells, job-spells}
 use Rattle.reader.proofs.PrefixStep.{more-on, more-refused, prefix-of, upto-held, upto-on, upto-broken}
 
 pub broken-placed : (s : List ℕ) (i : ℕ) → i ≤ length s → Placed s (brokenAt i)

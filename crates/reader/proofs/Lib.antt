@@ -1,8 +1,4 @@
--- Laws on reading.
-pub mod LineTexts
-pub mod LineTokens
-pub mod LineForm
-pub mod RowForms
+-- Laws on reading: from line to line, and the whole sheet.
 pub mod PrefixStep
 pub mod HeadLines
 pub mod StepLines

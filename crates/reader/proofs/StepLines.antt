@@ -30,9 +30,9 @@ use Rattle.facts.specs.Facts.{State, settled, stepped, stepIn, more}
 use Rattle.facts.specs.declared.Sheet.{Sheet}
 use Rattle.refusal.proofs.Rows.{head-passed, unless-elim}
 use Rattle.tokens.proofs.Bytes.{apart}
-use Rattle.reader.specs.Lines.{hasSteps, IsForm, StepOn}
+use Rattle.lines.specs.Lines.{hasSteps, IsForm, StepOn}
 use Rattle.reader.specs.Prefix.{backSteps, oldState, newState, stateOf, Prefix, Upto, passed, brokenAt, Placed, bare, withRoute, StepsOn}
-use Rattle.reader.specs.declared.StepLine.{StepLine}
+use Rattle.lines.specs.declared.StepLine.{StepLine}
 use Rattle.reader.specs.declared.Pass.{Pass}
 use Rattle.reader.proofs.PrefixStep.{settled-no, more-on, more-refused, prefix-of, upto-held, upto-broken}
 use Rattle.reader.proofs.HeadLines.{broken-placed}

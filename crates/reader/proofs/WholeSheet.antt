@@ -21,7 +21,7 @@ use Rattle.facts.specs.Facts.{State, failed, settled, headed, answered, readBy,
 use Rattle.facts.specs.JobPart.{afterLines, jobPart, PastLines}
 use Rattle.facts.specs.declared.Sheet.{Sheet}
 use Rattle.tokens.specs.Tokens.{Broken}
-use Rattle.reader.specs.Lines.{hasSteps}
+use Rattle.lines.specs.Lines.{hasSteps}
 use Rattle.reader.specs.Prefix.{stateOf, Prefix, Upto, passed, withRoute, withDones, OldOn, NewOn, JobOn, StepsOn, DonesOn}
 use Rattle.reader.specs.Read.{noCounts, ReadInto, ReadTo, routeIn}
 use Rattle.reader.specs.declared.Pass.{Pass}

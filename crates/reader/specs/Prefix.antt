@@ -18,7 +18,7 @@ use Rattle.layout.specs.declared.Point.the-variants.{Open}
 use Rattle.facts.specs.Facts.{State, failed, settled, headed, withOld, withNew, oldHead, newHead, jobHead, doneIn, stepIn, more, nothing}
 use Rattle.facts.specs.declared.Sheet.{Sheet}
 use Rattle.tokens.specs.Tokens.{Reading, Broken}
-use Rattle.reader.specs.Lines.{hasSteps}
+use Rattle.lines.specs.Lines.{hasSteps}
 use Rattle.reader.specs.declared.Pass.{Pass}
 use Rattle.reader.specs.declared.Head.{Head}
 use Rattle.reader.specs.declared.Filled.{Filled}

@@ -1,24 +1,10 @@
 // Reading a sheet: layout and facts in one pass, into lent lists.
 use refusal::Outcome;
-use tokens::Entries;
 
-mod lines;
 pub mod lists;
 pub mod part;
 mod parts;
 pub mod reads;
-mod rows;
-
-// A step's line: how far reading came and whether the layout holds to there, the name, and what is kept of its lists.
-pub struct StepLine {
-    pub at: usize,
-    pub ok: bool,
-    pub name: u64,
-    pub ins: Entries,
-    pub outs: Entries,
-    pub reads: Entries,
-    pub writes: Entries,
-}
 
 // Where reading stands between two lines: the place and whether the layout holds to there, how many lines there were, and their outcome.
 pub struct Pass {

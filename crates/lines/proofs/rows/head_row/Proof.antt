@@ -1,0 +1,40 @@
+-- `lines::rows::head_row`: row 2.
+use mathlib.Core.Path.{_≡_, sym, _∙_}
+use mathlib.Core.Bool.{Bool, true, false}
+use Prim.Native.Nat.{ℕ}
+use Rattle.refusal.specs.Rows.{pass, refuse}
+use Rattle.refusal.specs.declared.Outcome.{Outcome}
+use Rattle.job.specs.Lines.{placesFit}
+use Rattle.lines.specs.Rows.{headRow}
+use Rattle.facts.proofs.Settle.{unless-no, unless-yes}
+use borrow.Author.Needs.{needs}
+use Rattle.lines.proofs.rows.head_row.Statement.{statement}
+use Rattle.lines.proofs.rows.head_row.Tie as tie
+
+module _ (line n : ℕ) (f : Bool) (fits : f ≡ placesFit n) (o : Outcome) where
+  fine : f ≡ true → o ≡ pass → o ≡ headRow line n
+  unfolding headRow
+  fine h q = q ∙ sym (unless-yes (placesFit n) 2 line (sym fits ∙ h))
+
+  two : f ≡ false → o ≡ refuse 2 line → o ≡ headRow line n
+  unfolding headRow
+  two h q = q ∙ sym (unless-no (placesFit n) 2 line (sym fits ∙ h))
+
+places-fit-requires : tie.Need-places-fit-requires
+places-fit-requires c κs = search needs
+
+pass-requires : tie.Need-pass-requires
+pass-requires c κs = search needs
+
+refuse-requires : tie.Need-refuse-requires
+refuse-requires c κs = search needs
+
+returns : tie.Need-returns
+returns c = search (needs, fine, two)
+
+returns-2 : tie.Need-returns-2
+returns-2 c = search (needs, fine, two)
+
+pub head-row-spec : {M : Type 1} → statement M
+head-row-spec =
+    tie.close (tie.spec places-fit-requires pass-requires refuse-requires returns returns-2)

@@ -1,0 +1,3 @@
+-- What reading one line tells, and its rows.
+pub mod Rows
+pub mod Lines
