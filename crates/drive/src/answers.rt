@@ -1,9 +1,9 @@
 // What an operation answers, as numbers.
 use crate::out;
 use crate::runs;
+use answering::Judged;
 use facts::Sheet;
 use job::Ran;
-use judging::Judged;
 use lent::Counts;
 use listing::Written;
 use route::Fired;

@@ -15,8 +15,10 @@ use Rattle.search.specs.Search.{isSome, orElse, onwards, tryEach, search}
 use Rattle.matching.specs.Straight.{sameData, sameStep, allOf, fireAll, stepsOn, runsStraight}
 use Rattle.matching.specs.Fit.{keptOf}
 use Rattle.matching.specs.KeptRows.{keptRow, keptLines, keptRows}
-use Rattle.judging.specs.Placing.{before, placeNext}
-use Rattle.judging.specs.Judge.{padded, lastWriter, afterOf, writerOf, answer, firstOf, firstFit, judgeFound, judgeRows, judged}
+use Rattle.candidates.specs.Placing.{before, placeNext}
+use Rattle.answering.specs.Answer.{padded, lastWriter, afterOf, writerOf, answer}
+use Rattle.candidates.specs.FirstFit.{firstOf, firstFit}
+use Rattle.judging.specs.Judge.{judgeFound, judgeRows, judged}
 use Rattle.layout.specs.Words.{spelling}
 use Rattle.layout.specs.Points.{digit, alive, expect, chosen, spelt, inList, pastWord, first as firstDigit, ended, more as moreDigits, closed, next}
 use Rattle.layout.specs.Parse.{stored, took, putStep, putLine, keep, atEnd, run, parse}

@@ -1,5 +1,5 @@
 // An answer of judge: a line with its number and second number, and for a job that moves what the listing shows.
-use judging::Judged;
+use answering::Judged;
 use samples::lines;
 use samples::lines::number;
 

@@ -25,7 +25,8 @@ use Rattle.matching.proofs.Matched.{length-matched}
 use Rattle.matching.proofs.Preparation.{prepared-ran, prepared-ready, prepared-rows}
 use Rattle.search.specs.Candidates.{cleared}
 use Rattle.search.proofs.Clear.{cleared-is}
-use Rattle.judging.specs.Judge.{judgeStopped, judgeRows, judged, searched, workAfter}
+use Rattle.answering.specs.Answer.{judgeStopped}
+use Rattle.judging.specs.Judge.{judgeRows, judged, searched, workAfter}
 use Rattle.judging.specs.inner.Passing.{Passing}
 
 rows-refused :

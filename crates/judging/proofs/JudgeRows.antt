@@ -26,37 +26,12 @@ use Rattle.matching.specs.declared.End.the-variants.{At, Stuck}
 use Rattle.matching.specs.declared.Prepared.{Prepared}
 use Rattle.matching.proofs.Matched.{length-matched}
 use Rattle.matching.proofs.KeptRows.{limit-holds, members-same}
-use Rattle.judging.specs.Judge.{padded, afterOf, writerOf, judgeStopped, answer, firstFit, judgeFound, judgeRows}
-use Rattle.judging.specs.inner.Columns.{placedOn}
+use Rattle.answering.specs.Answer.{padded, judgeStopped, answer}
+use Rattle.candidates.specs.FirstFit.{firstFit}
+use Rattle.judging.specs.Judge.{judgeFound, judgeRows}
+use Rattle.answering.specs.inner.Listed.{placedOn}
 use Rattle.judging.specs.inner.Passing.{Passing}
-use Rattle.judging.specs.declared.Placed.{Placed}
-use Rattle.judging.proofs.CandidateColumns.{AllSame}
-
--- ---- an answer is known by its parts
-
-pub answer-is :
-    (from : ℕ) (new l : List Step) (kept : ℕ) (o : List ℕ) (d : ℕ) (list : Placed) (after writers : List ℕ)
-    → d ≡ length l - count 64 kept
-    → list ≡ placedOn from new l o
-    → after ≡ map (afterOf l kept) (inTurn 0 64)
-    → writers ≡ map (writerOf new l) (inTurn 0 32)
-    → record { number = 0; second = 0; kept = kept; dropped = d; len = list .len; order = list .order; marking = list .marking; after = after; writers = writers }
-    ≡ answer from new l kept o
-unfolding answer
-answer-is from new l kept o d list after writers p q t u =
-    λ i. record {
-      number =
-          0;
-      second = 0;
-      kept = kept;
-      dropped = p i;
-      len = q i .len;
-      order = q i .order;
-      marking = q i .marking;
-      after = t
-          i;
-      writers = u i;
-    }
+use Rattle.candidates.proofs.CandidateColumns.{AllSame}
 
 -- all below n are n
 pub below-few : (n : ℕ) → count 64 (below n) ≤ n

@@ -11,8 +11,9 @@ use Rattle.job.specs.Job.{Job, jobOf}
 use Rattle.job.specs.Run.{ran}
 use Rattle.job.specs.declared.Ran.{Ran}
 use Rattle.job.proofs.LongLists.{Refused, ran-alike, ran-off, laidJob, same-laid}
-use Rattle.judging.specs.Judge.{judgeStopped, judged, searched, workAfter}
-use Rattle.judging.specs.declared.Judged.{Judged}
+use Rattle.answering.specs.Answer.{judgeStopped}
+use Rattle.judging.specs.Judge.{judged, searched, workAfter}
+use Rattle.answering.specs.declared.Judged.{Judged}
 
 refusal : ℕ → Ran → Judged
 refusal room r = cond (leb 8192 room) (judgeStopped (r .number) (r .second)) (judgeStopped 14 0)

@@ -1,4 +1,3 @@
 -- The operation judge.
 pub mod Judge
-pub mod Placing
 pub mod inner

@@ -1,12 +1,12 @@
 // The operation judge: row 14, the lines, the rows to 12, then the straight list where there is one, else the first fit list of the kept.
-use crate::Judged;
-use crate::Placed;
-use crate::answering::answered;
-use crate::answering::stop;
-use crate::answering::straight_order;
-use crate::candidates::columns;
-use crate::candidates::placed;
-use crate::candidates::search_columns;
+use answering::Judged;
+use answering::Placed;
+use answering::answers::answered;
+use answering::answers::stop;
+use answering::answers::straight_order;
+use candidates::gathering::columns;
+use candidates::gathering::placed;
+use candidates::gathering::search_columns;
 use job::checks::check_lines;
 use matching::End;
 use matching::Prepared;

@@ -1,6 +1,6 @@
 // The operations over lent lists of step records: each loads both lists and calls the operation over routes by value.
+use answering::Judged;
 use job::Ran;
-use judging::Judged;
 use records::load;
 use route::Step;
 use slice::Sliced;

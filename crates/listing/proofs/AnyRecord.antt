@@ -16,7 +16,7 @@ use Rattle.emit.specs.Numbers.{entry, over}
 use Rattle.emit.proofs.Decimals.{entry-most, entry-length}
 use Rattle.emit.proofs.Over.{over-map}
 use Rattle.slice.specs.Order.{inTurn}
-use Rattle.judging.specs.declared.Judged.{Judged}
+use Rattle.answering.specs.declared.Judged.{Judged}
 use Rattle.listing.specs.Listing.{close, line, movedLine, afterWord, afterLine, afterLines, orderWord, orderLine, markingWord, markingLine, valueWord, valueLine, valueLines, refusedWord, refusedLine, movedText, listing}
 
 -- ---- as many texts as there are entries, each of at most b bytes

@@ -7,7 +7,7 @@ use native.Mathlib.Omega.{arith}
 use lib.ListN.{length, take, drop, replicate, length-replicate}
 use lib.Seq.{length-take-le}
 use borrow.Author.Tests.{eq-eqb, ne-eqb, le-leb, lt-leb}
-use Rattle.judging.specs.declared.Judged.{Judged}
+use Rattle.answering.specs.declared.Judged.{Judged}
 use Rattle.emit.specs.Emit.{Room, Emits}
 use Rattle.emit.proofs.Chains.{parts, First, Second, Third, Two, Three, first-room, second-room, third-room, two-emits, three-emits, room-as, emits-length, emits-end, emits-whole, emits-take}
 use Rattle.listing.specs.Listing.{movedLine, afterLines, orderLine, markingLine, valueLines, refusedLine, movedText, listing}

@@ -33,8 +33,10 @@ use Rattle.matching.specs.Straight.{fireAll, stepsOn, runsStraight}
 use Rattle.matching.specs.Fit.{keptOf}
 use Rattle.matching.specs.KeptRows.{keptRows}
 use Rattle.matching.proofs.KeptRows.{limit-holds}
-use Rattle.judging.specs.Judge.{padded, lastWriter, afterOf, writerOf, judgeStopped, answer, firstFit, judgeFound, judgeRows, judged}
-use Rattle.judging.specs.declared.Judged.{Judged}
+use Rattle.answering.specs.Answer.{padded, lastWriter, afterOf, writerOf, judgeStopped, answer}
+use Rattle.candidates.specs.FirstFit.{firstFit}
+use Rattle.judging.specs.Judge.{judgeFound, judgeRows, judged}
+use Rattle.answering.specs.declared.Judged.{Judged}
 use Rattle.slice.proofs.InTurn.{length-inTurn}
 use Rattle.listing.specs.Listing.{line, movedLine, afterWord, afterLine, afterLines, orderWord, orderLine, markingWord, markingLine, valueWord, valueLine, valueLines, refusedLine, movedText, listing}
 use Rattle.listing.proofs.Lengths.{size, size-cons, size-most, size-more, size-members, size-count, below-members}

@@ -7,7 +7,7 @@ use lib.ListN.{getD, take}
 use Rattle.mask.specs.Mask.{members, count}
 use Rattle.emit.specs.Numbers.{entry, over}
 use Rattle.slice.specs.Order.{inTurn}
-use Rattle.judging.specs.declared.Judged.{Judged}
+use Rattle.answering.specs.declared.Judged.{Judged}
 
 -- the fixed texts: `(moved (kept`, `) (dropped`, `))` and LF, `(after`, `(order`, `(marking`, `(value`, `(refused`, `)` and LF
 abbrev pub movedWord : List ℕ

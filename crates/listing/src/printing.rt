@@ -6,7 +6,7 @@ use crate::lines::moved_line;
 use crate::lines::order_line;
 use crate::lines::refused_line;
 use crate::lines::value_lines;
-use judging::Judged;
+use answering::Judged;
 ghost use mathlib.Core.Path.{_≡_};
 ghost use mathlib.Core.List.{_++_};
 ghost use lib.ListN.{length};

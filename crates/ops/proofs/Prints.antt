@@ -9,8 +9,9 @@ use lib.ListN.{length, take}
 use borrow.Author.Tests.{leb-true, le-leb, lt-leb, eq-eqb, ne-eqb}
 use Rattle.facts.specs.Facts.{readOf, jobRead}
 use Rattle.job.specs.Job.{Job, flatJob}
-use Rattle.judging.specs.Judge.{judged, judgeStopped, workAfter}
-use Rattle.judging.specs.declared.Judged.{Judged}
+use Rattle.judging.specs.Judge.{judged, workAfter}
+use Rattle.answering.specs.Answer.{judgeStopped}
+use Rattle.answering.specs.declared.Judged.{Judged}
 use Rattle.judging.proofs.JudgeOperation as J
 use Rattle.matching.proofs.Choice.{cond-yes, cond-no}
 use Rattle.listing.specs.Listing.{listing}

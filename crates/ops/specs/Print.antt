@@ -4,8 +4,9 @@ use mathlib.Core.List.{List}
 use Prim.Native.Nat.{ℕ}
 use lib.Dec.{eqb, leb}
 use Rattle.facts.specs.Facts.{readOf, jobRead}
-use Rattle.judging.specs.Judge.{judged, judgeStopped, workAfter}
-use Rattle.judging.specs.declared.Judged.{Judged}
+use Rattle.judging.specs.Judge.{judged, workAfter}
+use Rattle.answering.specs.Answer.{judgeStopped}
+use Rattle.answering.specs.declared.Judged.{Judged}
 use Rattle.listing.specs.Listing.{listing}
 use Rattle.listing.specs.Written.{writtenFor, outAfter}
 use Rattle.listing.specs.declared.Written.{Written}

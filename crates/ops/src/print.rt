@@ -1,6 +1,6 @@
 // The operation print: a sheet in, its listing out.
-use judging::Judged;
-use judging::answering::stop;
+use answering::Judged;
+use answering::answers::stop;
 use judging::judging::judge_checked;
 use listing::Written;
 use listing::printing::write_listing;

@@ -17,8 +17,8 @@ use Rattle.search.specs.Search.{isSome, search}
 use Rattle.matching.specs.Straight.{sameStep, fireAll, stepsOn}
 use Rattle.matching.specs.Fit.{keptOf, KeptFit}
 use Rattle.search.specs.Dictionary.{NotAfter}
-use Rattle.judging.specs.Placing.{placeNext}
-use Rattle.judging.specs.Judge.{firstOf, firstFit}
+use Rattle.candidates.specs.Placing.{placeNext}
+use Rattle.candidates.specs.FirstFit.{firstOf, firstFit}
 use Rattle.search.proofs.Finds.{Allowed, search-sound, search-complete, search-least}
 use Rattle.theorems.proofs.Entries.{eachOnce-has, has-eachOnce, allOf-stepsOn-intro}
 use Rattle.mask.proofs.Count.{one, count-none, count-full}

@@ -22,8 +22,10 @@ use Rattle.matching.specs.Straight.{fireAll, stepsOn, runsStraight}
 use Rattle.matching.specs.Fit.{keptOf, FitAt}
 use Rattle.search.specs.Dictionary.{NotAfter}
 use Rattle.matching.specs.KeptRows.{keptRows}
-use Rattle.judging.specs.Judge.{padded, judgeStopped, answer, firstFit, judgeFound, judgeRows, judged}
-use Rattle.judging.specs.declared.Judged.{Judged}
+use Rattle.answering.specs.Answer.{padded, judgeStopped, answer}
+use Rattle.candidates.specs.FirstFit.{firstFit}
+use Rattle.judging.specs.Judge.{judgeFound, judgeRows, judged}
+use Rattle.answering.specs.declared.Judged.{Judged}
 use Rattle.theorems.specs.Demand3.{Runs, stepsDone, positions, FitFor, ordered}
 use Rattle.theorems.specs.Given.{Given}
 use Rattle.refusal.proofs.Rows.{cond-zero}

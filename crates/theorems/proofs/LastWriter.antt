@@ -13,7 +13,7 @@ use Rattle.mask.proofs.Laws.{has-zero}
 use Rattle.route.specs.Steps.{blank}
 use Rattle.route.specs.declared.Step.{Step}
 use Rattle.slice.specs.Slice.{writesAt, LastWriter}
-use Rattle.judging.specs.Judge.{lastWriter}
+use Rattle.answering.specs.Answer.{lastWriter}
 
 -- ---- the last writer
 

@@ -7,7 +7,8 @@ use native.Mathlib.Omega.{arith}
 use lib.Dec.{eqb}
 use lib.ListN.{length}
 use Rattle.facts.specs.Facts.{readOf, jobRead}
-use Rattle.judging.specs.Judge.{judged, judgeStopped}
+use Rattle.judging.specs.Judge.{judged}
+use Rattle.answering.specs.Answer.{judgeStopped}
 use Rattle.listing.specs.Listing.{listing}
 use Rattle.listing.proofs.AnyRecord.{refused-long}
 use Rattle.listing.proofs.Longest.{longest}

@@ -21,7 +21,7 @@ use Rattle.route.proofs.IfFires.{ifFires-can, ifFires-elim}
 use Rattle.slice.specs.Precedence.{comesAfter}
 use Rattle.slice.specs.Order.{times, noneOf, inOrder}
 use Rattle.matching.specs.Straight.{fireAll, stepsOn}
-use Rattle.judging.specs.Placing.{before, placeNext}
+use Rattle.candidates.specs.Placing.{before, placeNext}
 use Rattle.search.proofs.Finds.{Allowed, done, then}
 use Rattle.theorems.proofs.Entries.{times-head, times-cons-elim, noneOf-elim, noneOf-intro, inOrder-cons}
 use Rattle.theorems.proofs.MembersOrder.{comesAfter-le}

@@ -16,8 +16,9 @@ use Rattle.job.specs.Run.{ran}
 use Rattle.facts.specs.Facts.{readOf}
 use Rattle.trying.specs.Try.{tried, tryStopped}
 use Rattle.trying.specs.declared.Tried.{Tried}
-use Rattle.judging.specs.Judge.{judged, judgeStopped}
-use Rattle.judging.specs.declared.Judged.{Judged}
+use Rattle.judging.specs.Judge.{judged}
+use Rattle.answering.specs.Answer.{judgeStopped}
+use Rattle.answering.specs.declared.Judged.{Judged}
 use Rattle.listing.specs.Listing.{line, movedLine, movedText, refusedLine, listing}
 use Rattle.listing.specs.Written.{writtenFor, outAfter}
 use Rattle.ops.specs.Print.{sheetAnswer, listingOf, printed, outPrinted}

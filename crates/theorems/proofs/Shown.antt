@@ -23,8 +23,9 @@ use Rattle.slice.proofs.Laws.{row-exact}
 use Rattle.slice.proofs.InTurn.{length-inTurn, getD-map-inTurn}
 use Rattle.matching.specs.Straight.{runsStraight}
 use Rattle.matching.specs.Fit.{keptOf}
-use Rattle.judging.specs.Judge.{lastWriter, afterOf, writerOf, answer, judged}
-use Rattle.judging.specs.declared.Judged.{Judged}
+use Rattle.answering.specs.Answer.{lastWriter, afterOf, writerOf, answer}
+use Rattle.judging.specs.Judge.{judged}
+use Rattle.answering.specs.declared.Judged.{Judged}
 use Rattle.theorems.specs.Demand3.{Runs, stepsDone}
 use Rattle.theorems.specs.Shows.{Shows}
 use Rattle.theorems.proofs.Runs.{done-length, steps-short}

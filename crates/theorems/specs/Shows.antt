@@ -10,7 +10,7 @@ use Rattle.job.specs.Job.{Job, newStart}
 use Rattle.slice.specs.Slice.{Kept, LastWriter, variables, writesAt}
 use Rattle.slice.specs.Precedence.{comesAfter}
 use Rattle.matching.specs.Straight.{fireAll, stepsOn, runsStraight}
-use Rattle.judging.specs.declared.Judged.{Judged}
+use Rattle.answering.specs.declared.Judged.{Judged}
 use Rattle.theorems.specs.Demand3.{stepsDone, positions}
 use Rattle.theorems.specs.Given.{Given}
 

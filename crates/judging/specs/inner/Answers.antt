@@ -13,20 +13,11 @@ use Rattle.slice.specs.Table.{table}
 use Rattle.matching.specs.Straight.{fireAll, runsStraight}
 use Rattle.matching.specs.declared.Prepared.{Prepared}
 use Rattle.search.specs.Candidates.{cleared}
-use Rattle.judging.specs.Judge.{answer, firstFit, judgeFound, judgeRows}
-use Rattle.judging.specs.inner.Columns.{placedOn}
+use Rattle.answering.specs.Answer.{answer}
+use Rattle.candidates.specs.FirstFit.{firstFit}
+use Rattle.judging.specs.Judge.{judgeFound, judgeRows}
 use Rattle.judging.specs.inner.Passing.{Passing}
-use Rattle.judging.specs.declared.Placed.{Placed}
-use Rattle.judging.specs.declared.Judged.{Judged}
-
--- it shows the list, with the table's rows, the new route's variables and the kept
-abbrev pub AnswersList : List ℕ → ℕ → ℕ → Placed → List Step → Judged → Type 0
-AnswersList rows vars kept list l r =
-    (from : ℕ) (new : List Step) (o : List ℕ)
-    → rows ≡ table l
-    → vars ≡ variables new
-    → list ≡ placedOn from new l o
-    → r ≡ answer from new l kept o
+use Rattle.answering.specs.declared.Judged.{Judged}
 
 -- it shows all in turn, which end on the marking, and all of them kept
 abbrev pub AnswersStraight : List ℕ → ℕ → ℕ → List Step → Judged → Type 0

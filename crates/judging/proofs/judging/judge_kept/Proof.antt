@@ -6,11 +6,11 @@ use borrow.Author.Needs.{needs}
 use Rattle.route.specs.Flat.{stepsIn}
 use Rattle.route.specs.declared.Step.{Step}
 use Rattle.matching.specs.inner.Matched.{matched}
-use Rattle.judging.specs.inner.Columns.{ColumnsOf, positions}
+use Rattle.candidates.specs.inner.Columns.{ColumnsOf, positions}
 use Rattle.judging.specs.inner.Passing.{Passing}
-use Rattle.judging.specs.declared.Placed.{Placed}
-use Rattle.judging.proofs.CandidateColumns.{Room}
-use Rattle.judging.proofs.FirstFit.{Found, none-fit, order-fit}
+use Rattle.answering.specs.declared.Placed.{Placed}
+use Rattle.candidates.proofs.CandidateColumns.{Room}
+use Rattle.candidates.proofs.FirstFit.{Found, none-fit, order-fit}
 use Rattle.judging.proofs.JudgeRows.{fit-answer, none-answer, passing-matched, passing-few, passing-limit, passing-same}
 use Rattle.judging.proofs.judging.judge_kept.Statement.{statement}
 use Rattle.judging.proofs.judging.judge_kept.Tie as tie

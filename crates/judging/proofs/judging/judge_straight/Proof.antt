@@ -10,7 +10,7 @@ use Rattle.route.specs.Flat.{stepsIn}
 use Rattle.route.specs.declared.Step.{Step}
 use Rattle.slice.specs.Order.{inTurn}
 use Rattle.slice.proofs.InTurn.{length-inTurn}
-use Rattle.judging.specs.Judge.{padded, answer}
+use Rattle.answering.specs.Answer.{padded, answer}
 use Rattle.judging.proofs.JudgeRows.{below-few, straight-list}
 use Rattle.judging.proofs.judging.judge_straight.Statement.{statement}
 use Rattle.judging.proofs.judging.judge_straight.Tie as tie
