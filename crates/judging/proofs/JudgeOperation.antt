@@ -3,31 +3,30 @@ use mathlib.Core.Path.{_≡_, refl, sym, ap, ap₂, _∙_}
 use mathlib.Core.Bool.{Bool, true, false, not, cond, _&&_, and-false}
 use mathlib.Core.List.{List}
 use Prim.Native.Nat.{ℕ, _*_, _≤_, _<_}
-use native.Mathlib.Omega.{arith}
 use lib.Dec.{eqb, leb}
 use lib.ListN.{length, take}
-use borrow.Author.Tests.{eqb-false, eq-eqb, ne-eqb, le-leb, lt-leb}
-use Rattle.refusal.specs.Rows.{refuse}
+use borrow.Author.Tests.{eqb-false, eq-eqb, ne-eqb, le-leb, lt-leb, not-true}
+use Rattle.refusal.specs.Rows.{refuse, first}
 use Rattle.refusal.specs.declared.Outcome.{Outcome}
 use Rattle.route.specs.Flat.{stepsIn}
 use Rattle.route.specs.declared.Step.{Step}
 use Rattle.job.specs.Job.{Job, jobLine, newStart}
+use Rattle.job.specs.Lines.{lineRows}
 use Rattle.job.specs.Run.{ran, performed}
-use Rattle.job.proofs.RunLine.{ran-fits}
-use Rattle.job.proofs.Performed.{length-performed}
 use Rattle.matching.specs.Straight.{runsStraight}
 use Rattle.matching.specs.Fit.{keptOf}
 use Rattle.matching.specs.KeptRows.{keptRows, rowsTo12}
 use Rattle.matching.specs.inner.Matched.{matched, straightEnd, Ready, PreparedOf}
 use Rattle.matching.specs.declared.Prepared.{Prepared}
 use Rattle.matching.proofs.Choice.{cond-yes, cond-no}
-use Rattle.matching.proofs.Matched.{length-matched}
-use Rattle.matching.proofs.Preparation.{prepared-ran, prepared-ready, prepared-rows}
+use Rattle.matching.proofs.Preparation.{lines-refused, prepared-ran, prepared-ready, prepared-rows, numbers-done, numbers-matched, occurrences-few}
 use Rattle.search.specs.Candidates.{cleared}
 use Rattle.search.proofs.Clear.{cleared-is}
 use Rattle.answering.specs.Answer.{judgeStopped}
 use Rattle.judging.specs.Judge.{judgeRows, judged, searched, workAfter}
 use Rattle.judging.specs.inner.Passing.{Passing}
+use Rattle.judging.specs.inner.Answers.{AnswersRows, Works}
+use Rattle.judging.specs.declared.Judged.{Judged}
 
 rows-refused :
     (line from : ℕ) (new l : List Step)
@@ -52,9 +51,9 @@ module _ (j : Job) where
 
   -- ---- row 14
 
-  pub judged-short : (room : ℕ) → room < 8192 → judgeStopped 14 0 ≡ judged j room
+  pub judged-short : (room : ℕ) (r : Judged) → room < 8192 → r ≡ judgeStopped 14 0 → r ≡ judged j room
   unfolding judged
-  judged-short room short = cond-no _ _ refl (lt-leb 8192 room short)
+  judged-short room r short stops = stops ∙ cond-no _ _ refl (lt-leb 8192 room short)
 
   pub work-short : (work : List ℕ) → length work < 8192 → work ≡ workAfter j work
   unfolding searched
@@ -64,13 +63,13 @@ module _ (j : Job) where
 
   -- ---- a row to 12 that refuses
 
-  module _ (o : Outcome) (is : o ≡ rowsTo12 j) (refused : eqb (o .number) 0 ≡ false) where
+  module _ (o : Outcome) (is : o ≡ rowsTo12 j) (t : Bool) (test : t ≡ eqb (o .number) 0) (off : not t ≡ true) where
     refuses : o .number ≡ 0 → ⊥
-    refuses = eqb-false (o .number) 0 refused
+    refuses = eqb-false (o .number) 0 (sym test ∙ not-true t off)
 
-    pub judged-refused : (room : ℕ) → 8192 ≤ room → judgeStopped (o .number) (o .second) ≡ judged j room
+    pub judged-refused : (room : ℕ) (r : Judged) → 8192 ≤ room → r ≡ judgeStopped (o .number) (o .second) → r ≡ judged j room
     unfolding judged rowsTo12
-    judged-refused room long = go (eqb (ran j .number) 0) is ∙ cond-yes _ _ refl (le-leb 8192 room long)
+    judged-refused room r long stops = stops ∙ go (eqb (ran j .number) 0) is ∙ cond-yes _ _ refl (le-leb 8192 room long)
       where
         go :
             (t : Bool)
@@ -97,62 +96,69 @@ module _ (j : Job) where
             (ne-eqb (kept .number) 0 (λ z. refuses (ap (λ (x : Outcome). x .number) e ∙ z)))
         go false e = refl
 
+  -- a line that is refused
+  module _ (o : Outcome) (is : o ≡ first (lineRows j)) (t : Bool) (test : t ≡ eqb (o .number) 0) (off : not t ≡ true) where
+    to-12 : o ≡ rowsTo12 j
+    to-12 = lines-refused j o is (sym test ∙ not-true t off)
+
+    pub judged-line : (room : ℕ) (r : Judged) → 8192 ≤ room → r ≡ judgeStopped (o .number) (o .second) → r ≡ judged j room
+    judged-line = judged-refused o to-12 t test off
+
+    pub work-line : (work : List ℕ) → work ≡ workAfter j work
+    work-line = work-refused o to-12 t test off
+
   -- ---- the rows to 12 pass
 
   module _
       (p : Prepared) (occurrences matches : List ℕ) (is : PreparedOf j p occurrences matches)
-      (passed : eqb (p .outcome .number) 0 ≡ true) where
+      (t : Bool) (test : t ≡ eqb (p .outcome .number) 0) (on : not t ≡ false) where
     ran-through : ran j .number ≡ 0
-    ran-through = prepared-ran j p occurrences matches is passed
+    ran-through = prepared-ran j p occurrences matches is t test on
 
     pub rows-hold : kept .number ≡ 0
-    rows-hold = prepared-rows j p occurrences matches is passed
+    rows-hold = prepared-rows j p occurrences matches is t test on
 
     pub ready : Ready (newStart j) (j .new) done p occurrences matches
-    ready = prepared-ready j p occurrences matches is passed
+    ready = prepared-ready j p occurrences matches is t test on
 
-    pub done-short : length (j .done) ≤ 64
-    done-short = ran-fits j ran-through .done-fit
+    -- the steps done and the new route's steps for them, as they are lent
+    abbrev lent : List Step
+    lent = stepsIn (take (4 * length (j .done)) occurrences)
 
-    -- the numbers of the steps done, and of the new route's steps for them
-    pub done-is : stepsIn (take (4 * length (j .done)) occurrences) ≡ done
-    done-is =
-        ap (λ (n : ℕ). stepsIn (take (4 * n) occurrences)) (sym (length-performed (j .old) (j .done)))
-        ∙ ready .done-are .steps-are
+    abbrev lentMatches : List Step
+    lentMatches = stepsIn (take (4 * length (j .done)) matches)
 
-    matched-long : length (matched (j .new) done) ≡ length (j .done)
-    matched-long = length-matched (j .new) done ∙ length-performed (j .old) (j .done)
+    pub lent-is : lent ≡ done
+    lent-is = numbers-done j p occurrences matches is t test on _ refl
 
-    pub matched-is : stepsIn (take (4 * length (j .done)) matches) ≡ matched (j .new) done
-    matched-is = ap (λ (n : ℕ). stepsIn (take (4 * n) matches)) (sym matched-long) ∙ ready .matches-are .steps-are
+    abbrev pub passing : Passing p lent lentMatches
+    passing = record {
+      new = j .new;
+      short = occurrences-few j p occurrences matches is t test on _ refl;
+      matches-are = numbers-matched j p occurrences matches is t test on _ refl ∙ ap (matched (j .new)) (sym lent-is);
+      straight-is =
+          ready .straight-is
+          ∙ ap₂ (λ (m : ℕ) (x : List Step). straightEnd m (j .new) x) (sym (ready .start-is)) (sym lent-is);
+      kept-is = ready .kept-is ∙ ap (keptOf (j .new)) (sym lent-is);
+      vars-are = ready .vars-are;
+      passes =
+          ap (λ (l : List Step). keptRows (p .line) (p .start .tokens) (j .new) l .number) lent-is
+          ∙ ap₂ (λ (n m : ℕ). keptRows n m (j .new) done .number) (is .line-is) (ready .start-is)
+          ∙ rows-hold;
+    }
 
-    -- the steps done as they are lent
-    module _ (l : List Step) (e : l ≡ done) where
-      pub lent-rows : keptRows (p .line) (p .start .tokens) (j .new) l ≡ kept
-      lent-rows =
-          ap (keptRows (p .line) (p .start .tokens) (j .new)) e
-          ∙ ap₂ (λ (n m : ℕ). keptRows n m (j .new) done) (is .line-is) (ready .start-is)
+    pub prepared-passing :
+        (stop : ℕ) → stop ≡ 4 * length (j .done) → Passing p (stepsIn (take stop occurrences)) (stepsIn (take stop matches))
+    prepared-passing stop stops = rw stops passing
 
-      abbrev pub passing : (t : List Step) → t ≡ matched (j .new) done → Passing p l t
-      passing t f = record {
-        new = j .new;
-        short = omega (arith, done-short, length-performed (j .old) (j .done), ap length e);
-        matches-are = f ∙ ap (matched (j .new)) (sym e);
-        straight-is =
-            ready .straight-is
-            ∙ ap₂ (λ (m : ℕ) (x : List Step). straightEnd m (j .new) x) (sym (ready .start-is)) (sym e);
-        kept-is = ready .kept-is ∙ ap (keptOf (j .new)) (sym e);
-        vars-are = ready .vars-are;
-        passes = ap (λ (x : Outcome). x .number) lent-rows ∙ rows-hold;
-      }
-
-      pub judged-passed : (room : ℕ) → 8192 ≤ room → judgeRows (p .line) (p .start .tokens) (j .new) l ≡ judged j room
-      unfolding judged
-      judged-passed room long =
-          ap (judgeRows (p .line) (p .start .tokens) (j .new)) e
-          ∙ ap₂ (λ (n m : ℕ). judgeRows n m (j .new) done) (is .line-is) (ready .start-is)
-          ∙ cond-yes _ _ refl (eq-eqb (ran j .number) 0 ran-through)
-          ∙ cond-yes _ _ refl (le-leb 8192 room long)
+    pub judged-prepared : (room : ℕ) (r : Judged) → 8192 ≤ room → AnswersRows p lent lentMatches r → r ≡ judged j room
+    unfolding judged
+    judged-prepared room r long answers =
+        answers passing
+        ∙ ap (judgeRows (p .line) (p .start .tokens) (j .new)) lent-is
+        ∙ ap₂ (λ (n m : ℕ). judgeRows n m (j .new) done) (is .line-is) (ready .start-is)
+        ∙ cond-yes _ _ refl (eq-eqb (ran j .number) 0 ran-through)
+        ∙ cond-yes _ _ refl (le-leb 8192 room long)
 
     searched-is : (room : ℕ) → 8192 ≤ room → searched j room ≡ not straight
     unfolding searched
@@ -162,15 +168,12 @@ module _ (j : Job) where
         ∙ ap₂ (λ (t u : Bool). t && (u && not straight)) (eq-eqb (ran j .number) 0 ran-through)
         (eq-eqb (kept .number) 0 rows-hold)
 
-    pub work-passed :
-        (l : List Step)
-        → l ≡ done
-        → (work : List ℕ)
-        → 8192 ≤ length work
-        → cond (runsStraight (p .start .tokens) (j .new) l) work (cleared 8192 work) ≡ workAfter j work
+    pub work-prepared :
+        (work after : List ℕ) → 8192 ≤ length work → Works p lent lentMatches work after → after ≡ workAfter j work
     unfolding workAfter
-    work-passed l e work long =
-        ap₂ (λ (m : ℕ) (x : List Step). cond (runsStraight m (j .new) x) work (cleared 8192 work)) (ready .start-is) e
+    work-prepared work after long works =
+        works passing
+        ∙ ap₂ (λ (m : ℕ) (x : List Step). cond (runsStraight m (j .new) x) work (cleared 8192 work)) (ready .start-is) lent-is
         ∙ turned straight
         ∙ ap₂ (λ (t : Bool) (x : List ℕ). cond t x work) (sym (searched-is (length work) long)) (cleared-is 8192 work)
       where

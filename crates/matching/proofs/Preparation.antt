@@ -2,12 +2,15 @@
 use mathlib.Core.Path.{_≡_, refl, sym, ap, _∙_}
 use mathlib.Core.Bool.{Bool, true, false, not, cond, true≢false}
 use mathlib.Core.List.{List}
-use Prim.Native.Nat.{ℕ, _*_}
+use Prim.Native.Nat.{ℕ, _*_, _≤_, _<_}
+use native.Mathlib.Omega.{arith}
 use lib.Dec.{eqb}
-use lib.ListN.{length, take}
+use lib.ListN.{length, take, length-take}
 use borrow.Author.Tests.{eq-eqb, eqb-true, not-true, not-false}
+use Rattle.mask.specs.Mask.{has}
 use Rattle.refusal.specs.Rows.{refuse, first}
 use Rattle.refusal.specs.declared.Outcome.{Outcome}
+use Rattle.refusal.proofs.Rows.{cond-zero-elim}
 use Rattle.route.specs.Flat.{stepsIn, Holds}
 use Rattle.route.specs.declared.Step.{Step}
 use Rattle.job.specs.Job.{Job, jobLine, newStart}
@@ -15,25 +18,17 @@ use Rattle.job.specs.Lines.{lineRows, LinesPass}
 use Rattle.job.specs.Run.{stopped, ran, performed}
 use Rattle.job.specs.declared.Ran.{Ran}
 use Rattle.job.proofs.Rows.{lines-fit}
-use Rattle.job.proofs.RunLine.{ran-refused, checked-lines}
-use Rattle.job.proofs.Performed.{length-performed}
+use Rattle.job.proofs.RunLine.{ran-refused, checked-lines, ran-fits}
+use Rattle.job.proofs.Performed.{length-performed, holds-performed}
+use Rattle.job.proofs.KnownNames.{performed-names}
+use Rattle.slice.specs.Slice.{variables}
+use Rattle.slice.proofs.Laws.{kept-below}
+use Rattle.matching.specs.Fit.{keptOf}
 use Rattle.matching.specs.KeptRows.{keptRows, rowsTo12}
 use Rattle.matching.specs.inner.Matched.{matched, Ready, PreparedOf}
 use Rattle.matching.specs.inner.Matches.{MatchesOf, Weighed}
 use Rattle.matching.specs.declared.Prepared.{Prepared}
-use Rattle.job.proofs.KnownNames.{performed-names}
-
--- numbers that begin with those of the steps for done names
-pub holds-performed :
-    (steps : List Step) (done w : List ℕ) → Holds (performed steps done) w
-    → stepsIn (take (4 * length done) w) ≡ performed steps done
-holds-performed steps done w h =
-    ap (λ (n : ℕ). stepsIn (take (4 * n) w)) (sym (length-performed steps done)) ∙ h .steps-are
-
-pub length-holds :
-    (steps : List Step) (done w : List ℕ) → Holds (performed steps done) w
-    → length (stepsIn (take (4 * length done) w)) ≡ length done
-length-holds steps done w h = ap length (holds-performed steps done w h) ∙ length-performed steps done
+use Rattle.matching.proofs.Matched.{length-matched}
 
 module _ (j : Job) where
   -- the steps done
@@ -122,22 +117,63 @@ module _ (j : Job) where
               };
         }
 
-  -- where nothing is refused
+  -- no row to 12 refuses, and t says so
   module _
       (p : Prepared) (occurrences matches : List ℕ) (is : PreparedOf j p occurrences matches)
-      (passes : eqb (p .outcome .number) 0 ≡ true) where
+      (t : Bool) (test : t ≡ eqb (p .outcome .number) 0) (on : not t ≡ false) where
+    outcome-passes : p .outcome .number ≡ 0
+    outcome-passes = eqb-true (p .outcome .number) 0 (sym test ∙ not-false t on)
+
+    passes : (ran j .number ≡ 0) × (rowsTo12 j ≡ jobRows)
+    unfolding rowsTo12
+    passes =
+        cond-zero-elim {R = Outcome} (λ (o : Outcome). o .number) (ran j .number) jobRows
+        (refuse (ran j .number) (ran j .second)) refl
+        (ap (λ (o : Outcome). o .number) (sym (is .outcome-is)) ∙ outcome-passes)
+
     pub prepared-ran : ran j .number ≡ 0
-    prepared-ran =
-        go (eqb (ran j .number) 0) refl (ap (λ (o : Outcome). eqb (o .number) 0) (sym (is .outcome-is)) ∙ passes)
-      where
-        go : (t : Bool) → eqb (ran j .number) 0 ≡ t → eqb (rowsTo12 j .number) 0 ≡ true → ran j .number ≡ 0
-        go true e p = eqb-true (ran j .number) 0 e
-        go false e p = eqb-true (ran j .number) 0 (ap (λ (o : Outcome). eqb (o .number) 0) (picked false e) ∙ p)
+    prepared-ran = passes .0
 
     pub prepared-ready : Ready (newStart j) (j .new) doneSteps p occurrences matches
     prepared-ready = is .ready prepared-ran
 
     pub prepared-rows : jobRows .number ≡ 0
-    prepared-rows =
-        let rows : jobRows ≡ p .outcome = picked true (eq-eqb (ran j .number) 0 prepared-ran) ∙ sym (is .outcome-is) in
-        eqb-true (jobRows .number) 0 (ap (λ (o : Outcome). eqb (o .number) 0) rows ∙ passes)
+    prepared-rows = ap (λ (o : Outcome). o .number) (sym (passes .1) ∙ sym (is .outcome-is)) ∙ outcome-passes
+
+    pub done-few : length (j .done) ≤ 64
+    done-few = ran-fits j prepared-ran .done-fit
+
+    pub steps-few : length doneSteps ≤ 64
+    steps-few = omega (arith, length-performed (j .old) (j .done), done-few)
+
+    pub kept-has : (i : ℕ) → has (p .kept) i ≡ true → has (keptOf (j .new) doneSteps) i ≡ true
+    kept-has i h = ap (λ (n : ℕ). has n i) (sym (prepared-ready .kept-is)) ∙ h
+
+    pub kept-done : (i : ℕ) → has (p .kept) i ≡ true → i < length doneSteps
+    unfolding keptOf
+    kept-done i h = kept-below doneSteps (variables (j .new)) i (kept-has i h)
+
+    -- the numbers of the steps done, and of the new route's steps for them
+    module _ (stop : ℕ) (stops : stop ≡ 4 * length (j .done)) where
+      pub numbers-room : (w : List ℕ) → length w ≡ 256 → stop ≤ length w
+      numbers-room w room = omega (arith, done-few)
+
+      pub numbers-count : (w : List ℕ) → length w ≡ 256 → stop ≡ length (take stop w)
+      numbers-count w room = omega (arith, done-few, length-take stop w)
+
+      pub numbers-done : stepsIn (take stop occurrences) ≡ doneSteps
+      numbers-done =
+          ap (λ (n : ℕ). stepsIn (take n occurrences)) stops
+          ∙ holds-performed (j .old) (j .done) occurrences (prepared-ready .done-are)
+
+      pub numbers-matched : stepsIn (take stop matches) ≡ matched (j .new) doneSteps
+      numbers-matched =
+          let long = length-matched (j .new) doneSteps ∙ length-performed (j .old) (j .done) in
+          ap (λ (n : ℕ). stepsIn (take n matches)) (stops ∙ ap (λ (n : ℕ). 4 * n) (sym long))
+          ∙ prepared-ready .matches-are .steps-are
+
+      pub occurrences-few : length (stepsIn (take stop occurrences)) ≤ 64
+      occurrences-few = rw numbers-done steps-few
+
+      pub kept-matched : (i : ℕ) → has (p .kept) i ≡ true → i < length (stepsIn (take stop matches))
+      kept-matched i h = rw numbers-matched (omega (arith, length-matched (j .new) doneSteps, kept-done i h))

@@ -15,11 +15,11 @@ use Rattle.route.specs.declared.Route.{Route}
 use Rattle.route.specs.declared.Marking.{Marking}
 use Rattle.refusal.specs.declared.Outcome.{Outcome}
 use Rattle.job.specs.Job.{Job, jobOf, flatJob, jobLine, newStart}
-use Rattle.job.specs.Lines.{lineRows, LinesPass}
+use Rattle.job.specs.Lines.{lineRows}
 use Rattle.job.specs.Run.{ran, performed}
 use Rattle.job.specs.declared.Ran.{Ran}
 use Rattle.job.proofs.LongLists.{Refused, ran-alike, ran-off, same-laid}
-use Rattle.job.proofs.RunLine.{ran-refused, checked-lines}
+use Rattle.job.proofs.RunLine.{ran-line}
 use Rattle.slice.specs.Order.{inTurn}
 use Rattle.slice.specs.Table.{table}
 use Rattle.matching.specs.Straight.{fireAll, runsStraight}
@@ -136,14 +136,10 @@ module _ (j : Job) (o : List ℕ) where
     pub tried-line : (r : Tried) → w ≡ first (lineRows j) → not t ≡ true → r ≡ tryStopped (w .number) (w .second) → r ≡ tried j o
     unfolding tried
     tried-line r is off e =
-        let not-zero : eqb (w .number) 0 ≡ false = sym test ∙ not-true t off in
-        let stop = ran-refused j w (checked-lines j w is not-zero) not-zero in
+        let stop = ran-line j w is t test _ off refl in
         e
         ∙ ap (λ (x : Ran). tryStopped (x .number) (x .second)) stop
-        ∙ ap (λ (b : Bool). cond b (tryRows (jobLine j) (newStart j) (j .new) (performed (j .old) (j .done)) o) (tryStopped (ran j .number) (ran j .second))) (sym (ap (λ (x : Ran). eqb (x .number) 0) (sym stop) ∙ not-zero))
-
-    pub lines-pass : w ≡ first (lineRows j) → not t ≡ false → LinesPass j
-    lines-pass is on = ap (λ (x : Outcome). x .number) (sym is) ∙ eqb-true (w .number) 0 (sym test ∙ not-false t on)
+        ∙ ap (λ (b : Bool). cond b (tryRows (jobLine j) (newStart j) (j .new) (performed (j .old) (j .done)) o) (tryStopped (ran j .number) (ran j .second))) (sym (ap (λ (x : Ran). eqb (x .number) 0) (sym stop) ∙ sym test ∙ not-true t off))
 
 -- ---- both routes laid as numbers: what a list has past its 65th step changes nothing
 

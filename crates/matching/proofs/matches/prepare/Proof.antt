@@ -11,7 +11,8 @@ use Rattle.route.specs.Flat.{stepsIn, Holds}
 use Rattle.job.specs.Job.{Job, flatJob, jobLine}
 use Rattle.job.specs.Run.{ran}
 use Rattle.job.proofs.Rows.{LinesFit, lines-fit}
-use Rattle.matching.proofs.Preparation.{doneSteps, length-holds, rows-ran, prepared-refused, prepared-stands, matches-of}
+use Rattle.job.proofs.Performed.{length-holds}
+use Rattle.matching.proofs.Preparation.{doneSteps, rows-ran, prepared-refused, prepared-stands, matches-of}
 use Rattle.matching.proofs.matches.prepare.Statement.{statement}
 use Rattle.matching.proofs.matches.prepare.Tie as tie
 
