@@ -8,6 +8,7 @@ pub mod RunLine
 pub mod NetsInTurn
 pub mod BegunCases
 pub mod LongLists
+pub mod FiredDone
 pub mod KnownNames
 pub mod UniqueNames
 pub mod AloneRows

@@ -182,31 +182,58 @@ done-fits line l e = omega (arith, done-short line 0 l (omega arith) e)
 
 -- ---- all lines: the old route's, the new route's, the done lines
 
-module _ (j : Job) (a : Outcome) (is : a ≡ first (routeRows 1 (j .oldPlaces) (j .old))) where
-  old-number : eqb (first (routeRows 1 (j .oldPlaces) (j .old)) .number) 0 ≡ eqb (a .number) 0
-  old-number = ap (λ (o : Outcome). eqb (o .number) 0) (sym is)
+-- code has asked for a route's lines, and t says whether they pass
+module _ (line places : ℕ) (l : List Step) (a : Outcome) (is : a ≡ first (routeRows line places l)) (t : Bool)
+    (test : t ≡ eqb (a .number) 0) where
+  asked : eqb (first (routeRows line places l) .number) 0 ≡ t
+  asked = ap (λ (o : Outcome). eqb (o .number) 0) (sym is) ∙ sym test
 
-  pub lines-old : eqb (a .number) 0 ≡ false → a ≡ first (lineRows j)
+  pub route-few : not t ≡ false → length l ≤ 64
+  route-few on = route-fits line places l (asked ∙ not-false t on) .steps-fit
+
+-- where the lines after a route of at most 64 steps begin
+pub head-fits : (l : List Step) (head : ℕ) → head ≡ afterSteps 1 l → length l ≤ 64 → head < 1000
+head-fits l head is few = omega arith
+
+pub done-line-fits : (l k : List Step) (line : ℕ) → line ≡ afterSteps (afterSteps 1 l) k + 1 → length l ≤ 64 → length k ≤ 64
+    → line ≤ 1000
+done-line-fits l k line is few few′ = omega arith
+
+module _ (j : Job) (a : Outcome) (is : a ≡ first (routeRows 1 (j .oldPlaces) (j .old))) (t : Bool)
+    (test : t ≡ eqb (a .number) 0) where
+  abbrev oldRows : List Outcome
+  oldRows = routeRows 1 (j .oldPlaces) (j .old)
+
+  abbrev newRows : List Outcome
+  newRows = routeRows (newLine j) (j .newPlaces) (j .new)
+
+  pub lines-old : not t ≡ true → a ≡ first (lineRows j)
   unfolding lineRows
-  lines-old e = is ∙ sym (rows-refuse (routeRows 1 (j .oldPlaces) (j .old)) _ (old-number ∙ e))
+  lines-old off = is ∙ sym (rows-refuse oldRows _ (asked 1 (j .oldPlaces) (j .old) a is t test ∙ not-true t off))
 
-  module _ (passes : eqb (a .number) 0 ≡ true) (b : Outcome)
-      (then : b ≡ first (routeRows (newLine j) (j .newPlaces) (j .new))) where
-    new-number : eqb (first (routeRows (newLine j) (j .newPlaces) (j .new)) .number) 0 ≡ eqb (b .number) 0
-    new-number = ap (λ (o : Outcome). eqb (o .number) 0) (sym then)
+  module _ (on : not t ≡ false) (head : ℕ) (head-is : head ≡ newLine j) (b : Outcome)
+      (then : b ≡ first (routeRows head (j .newPlaces) (j .new))) (u : Bool) (test′ : u ≡ eqb (b .number) 0) where
+    new-is : b ≡ first newRows
+    new-is = then ∙ ap (λ (n : ℕ). first (routeRows n (j .newPlaces) (j .new))) head-is
 
-    pub lines-new : eqb (b .number) 0 ≡ false → b ≡ first (lineRows j)
+    new-asked : eqb (first newRows .number) 0 ≡ u
+    new-asked = asked (newLine j) (j .newPlaces) (j .new) b new-is u test′
+
+    past-old : (rest : List Outcome) → first rest ≡ first (oldRows ++ rest)
+    past-old rest = sym (rows-pass oldRows rest (asked 1 (j .oldPlaces) (j .old) a is t test ∙ not-false t on))
+
+    pub lines-new : not u ≡ true → b ≡ first (lineRows j)
     unfolding lineRows
-    lines-new e =
-        then ∙ sym (rows-refuse (routeRows (newLine j) (j .newPlaces) (j .new)) _ (new-number ∙ e))
-        ∙ sym (rows-pass (routeRows 1 (j .oldPlaces) (j .old)) _ (old-number ∙ passes))
+    lines-new off = new-is ∙ sym (rows-refuse newRows _ (new-asked ∙ not-true u off)) ∙ past-old _
 
-    pub lines-done : eqb (b .number) 0 ≡ true → (o : Outcome) → o ≡ first (doneRows scope (jobLine j + 1) 0 (j .done))
+    pub lines-done : not u ≡ false → (line : ℕ) → line ≡ jobLine j + 1 → (o : Outcome) → o ≡ first (doneRows scope line 0 (j .done))
         → o ≡ first (lineRows j)
     unfolding lineRows
-    lines-done e o last =
-        last ∙ sym (rows-pass (routeRows (newLine j) (j .newPlaces) (j .new)) _ (new-number ∙ e))
-        ∙ sym (rows-pass (routeRows 1 (j .oldPlaces) (j .old)) _ (old-number ∙ passes))
+    lines-done pass line line-is o last =
+        last
+        ∙ ap (λ (n : ℕ). first (doneRows scope n 0 (j .done))) line-is
+        ∙ sym (rows-pass newRows _ (new-asked ∙ not-false u pass))
+        ∙ past-old _
 
 -- what a job whose lines pass has
 pub record LinesFit (j : Job) : Type 0 where
@@ -249,9 +276,6 @@ module _ (places : ℕ) (old : List ℕ) (places′ : ℕ) (new done : List ℕ)
 
   pub done-names-fit : length done ≤ 64
   done-names-fit = fits .done-fit
-
-  pub done-line-fits : (line : ℕ) → line ≡ afterSteps (afterSteps 1 (stepsIn old)) (stepsIn new) + 1 → line ≤ 1000
-  done-line-fits line is = omega (arith, old-steps-fit, new-steps-fit)
 
 -- what the lines of lists of numbers have where they pass
 pub ruleset lists-fit = (needs, old-places-fit, new-places-fit, old-steps-fit, new-steps-fit, done-names-fit)

@@ -14,7 +14,7 @@ use route::lookup;
 use route::opening::open;
 ghost use mathlib.Core.Path.{_≡_};
 ghost use mathlib.Core.List.{[]};
-ghost use Prim.Native.Nat.{_≤_, _<_};
+ghost use Prim.Native.Nat.{_+_, _≤_, _<_};
 ghost use lib.ListN.{length};
 ghost use Rattle.refusal.specs.Rows.{first};
 ghost use Rattle.route.specs.Steps.{names, Hinted};
@@ -29,6 +29,14 @@ pub fn next_head(line: u64, steps: &[u64]) -> u64
     ensures { λ r. ⌜ r ≡ afterSteps line (stepsIn (now (steps .entry))) ⌝ }
 {
     line + 1 + flat::count(steps) as u64
+}
+
+// The line of the first done name.
+pub fn done_line(old: &[u64], new: &[u64]) -> u64
+    requires { ⌜ (length (stepsIn (now old)) ≤ 64) × (length (stepsIn (now new)) ≤ 64) ⌝ }
+    ensures { λ r. ⌜ r ≡ afterSteps (afterSteps 1 (stepsIn (now (old .entry)))) (stepsIn (now (new .entry))) + 1 ⌝ }
+{
+    next_head(next_head(1, old), new) + 1
 }
 
 // The rows of one step's line, given the steps above it: there is room for one more.
@@ -126,10 +134,9 @@ pub fn check_lines(
     if !a.passed() {
         return a;
     }
-    let head = next_head(1, old);
-    let b = check_route(new_places, new, head);
+    let b = check_route(new_places, new, next_head(1, old));
     if !b.passed() {
         return b;
     }
-    check_done(done, next_head(head, new) + 1)
+    check_done(done, done_line(old, new))
 }
