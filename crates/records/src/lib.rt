@@ -40,10 +40,10 @@ pub fn fill(out: &mut [Step], n: usize, steps: [Step; 64])
     requires { ⌜ (n ≤ 64) × (n ≤ length (now out)) ⌝ }
     ensures { λ _. ⌜ now (out .exit) ≡ laid n steps (now (out .entry)) ⌝ }
 {
-    let mut i = 0;
-    while i < n {
-        out[i] = steps[i];
-        i += 1;
+    let mut k = 0;
+    while k < n {
+        out[k] = steps[k];
+        k += 1;
     }
 }
 
