@@ -9,16 +9,12 @@
 //     16                 read into lent lists of three lengths
 //
 // An answer is all its numbers, and every slice that was lent as it then stands. The second program says the same of scripts (reference/src/script.rs).
-mod answers;
-mod ends;
-mod load;
-mod numbers;
+use answers::out;
+use script::ends;
+use script::numbers;
+
 mod operations;
-mod out;
-mod over_lists;
-mod over_routes;
 mod over_sheets;
-mod runs;
 
 // Each operation in turn. One takes at least a number, so there are no more turns than numbers.
 fn answer_all(nums: &[u64], o: &mut [u8; 65536]) {

@@ -1,26 +1,9 @@
 // The operations over a sheet, each on the arguments that begin at a number of the script.
-use crate::answers;
-use crate::ends;
-use crate::load;
-use crate::runs;
-
-pub fn read(nums: &[u64], at: usize, o: &mut [u8; 65536], n: usize) -> usize {
-    let mut sheet = [0u8; 20000];
-    let k = load::bytes(nums, at, &mut sheet);
-    let r = reader::reads::read(&sheet[..k]);
-    answers::sheet(o, n, r)
-}
-
-fn part_of(sheet: &[u8], o: &mut [u8; 65536], n: usize) -> usize {
-    let part = reader::part::job_part(sheet);
-    runs::bytes(o, n, part)
-}
-
-pub fn job_part(nums: &[u64], at: usize, o: &mut [u8; 65536], n: usize) -> usize {
-    let mut sheet = [0u8; 20000];
-    let k = load::bytes(nums, at, &mut sheet);
-    part_of(&sheet[..k], o, n)
-}
+use answers::runs;
+use route::Step;
+use script::ends;
+use script::load;
+ghost use Prim.Native.Nat.{_≤_};
 
 fn print_into(
     sheet: &[u8],
@@ -33,22 +16,74 @@ fn print_into(
     answers::printed(o, n, r, work, out)
 }
 
-pub fn print(nums: &[u64], at: usize, o: &mut [u8; 65536], n: usize) -> usize {
-    let mut sheet = [0u8; 20000];
+fn print(sheet: &[u8], nums: &[u64], at: usize, o: &mut [u8; 65536], n: usize) -> usize {
     let mut work = [0u8; 20000];
     let mut out = [0u8; 20000];
-    let a = load::bytes(nums, at, &mut sheet);
-    let second = ends::bytes(nums, at);
-    let b = load::fill(nums, second, &mut work);
-    let c = load::fill(nums, ends::fill(nums, second), &mut out);
-    print_into(&sheet[..a], &mut work[..b], &mut out[..c], o, n)
+    let b = load::bytes(nums, at, true, &mut work);
+    let c = load::bytes(nums, ends::fill(nums, at), true, &mut out);
+    print_into(sheet, &mut work[..b], &mut out[..c], o, n)
 }
 
-pub fn try_sheet(nums: &[u64], at: usize, o: &mut [u8; 65536], n: usize) -> usize {
-    let mut sheet = [0u8; 20000];
+fn try_sheet(sheet: &[u8], nums: &[u64], at: usize, o: &mut [u8; 65536], n: usize) -> usize {
     let mut order = [0u8; 20000];
-    let a = load::bytes(nums, at, &mut sheet);
-    let b = load::bytes(nums, ends::bytes(nums, at), &mut order);
-    let r = ops::tries::try_sheet(&sheet[..a], &order[..b]);
-    answers::tried(o, n, r)
+    let b = load::bytes(nums, at, false, &mut order);
+    let r = ops::tries::try_sheet(sheet, &order[..b]);
+    answers::marked(o, n, r.number, r.second, r.marking)
+}
+
+fn seven() -> Step {
+    Step {
+        name: 7,
+        ins: 7,
+        outs: 7,
+        reads: 7,
+        writes: 7,
+    }
+}
+
+// What was read, and all three lists, whose numbers were all 7.
+fn read_into(
+    sheet: &[u8],
+    a: usize,
+    b: usize,
+    done: &mut [u32],
+    o: &mut [u8; 65536],
+    n: usize,
+) -> usize
+    requires { ⌜ (a ≤ 100) × (b ≤ 100) ⌝ }
+{
+    let list = [seven(); 100];
+    let r = arrays::read(sheet, list, a, list, b, done);
+    let mut m = answers::counts(o, n, r.counts);
+    let old = r.old;
+    m = answers::records(o, m, old, a);
+    let new = r.new;
+    m = answers::records(o, m, new, b);
+    runs::names(o, m, done)
+}
+
+fn read_lists(sheet: &[u8], nums: &[u64], at: usize, o: &mut [u8; 65536], n: usize) -> usize {
+    let old = load::length(nums, at, 100);
+    let new = load::length(nums, std::num::wrapping_add_usize(at, 1), 100);
+    let len = load::length(nums, std::num::wrapping_add_usize(at, 2), 100);
+    let mut done = [7u32; 100];
+    let k = counts::names(len, &done);
+    read_into(sheet, old, new, &mut done[..k], o, n)
+}
+
+// With the arguments past the sheet.
+fn with(op: u64, sheet: &[u8], nums: &[u64], at: usize, o: &mut [u8; 65536], n: usize) -> usize {
+    match op {
+        6 => answers::sheet(o, n, reader::reads::read(sheet)),
+        7 => runs::bytes(o, n, reader::part::job_part(sheet)),
+        9 => print(sheet, nums, at, o, n),
+        10 => try_sheet(sheet, nums, at, o, n),
+        _ => read_lists(sheet, nums, at, o, n),
+    }
+}
+
+pub fn answer(op: u64, nums: &[u64], at: usize, o: &mut [u8; 65536], n: usize) -> usize {
+    let mut sheet = [0u8; 20000];
+    let k = load::bytes(nums, at, false, &mut sheet);
+    with(op, &sheet[..k], nums, ends::bytes(nums, at), o, n)
 }
