@@ -1,5 +1,4 @@
--- No record at all has a listing of more than 15,619 bytes: each line is bounded by its most entries, an entry of a number below 100
--- by 3 bytes, any other by 21.
+-- How long each line of any record is at most, by its most entries: an entry of a number below 100 has at most 3 bytes, any other 21.
 -- Assumes nothing.
 use mathlib.Core.Path.{_≡_, ap, _∙_}
 use mathlib.Core.Bool.{Bool, cond}
@@ -17,7 +16,7 @@ use Rattle.emit.proofs.Decimals.{entry-most, entry-length}
 use Rattle.emit.proofs.Over.{over-map}
 use Rattle.slice.specs.Order.{inTurn}
 use Rattle.answering.specs.declared.Judged.{Judged}
-use Rattle.listing.specs.Listing.{close, line, movedLine, afterWord, afterLine, afterLines, orderWord, orderLine, markingWord, markingLine, valueWord, valueLine, valueLines, refusedWord, refusedLine, movedText, listing}
+use Rattle.listing.specs.Listing.{close, line, movedLine, afterWord, afterLine, orderWord, orderLine, markingWord, markingLine, valueWord, valueLine, valueLines, refusedWord, refusedLine}
 
 -- ---- as many texts as there are entries, each of at most b bytes
 
@@ -75,13 +74,9 @@ value-long : (v writer : ℕ) → v < 32 → length (valueLine v writer) ≤ 32
 unfolding valueLine
 value-long v writer h = split (λ (t : Bool). length (cond t [] (line valueWord (v ∷ writer ∷ []))) ≤ 32) (eqb writer 0) (λ e. omega arith) (λ e. omega (arith, pair-long valueWord v writer, entry-length 1 v (omega arith), entry-most writer))
 
--- ---- the whole
+-- ---- the lines of a record
 
 module _ (a : Judged) where
-  after-long : length (afterLines (a .kept) (a .after)) ≤ 64 * 203
-  unfolding afterLines members
-  after-long = members-long (λ (i : ℕ). afterLine i (getD (a .after) i 0)) 203 64 0 (a .kept) (λ x p. row-long x (getD (a .after) x 0) (omega arith))
-
   pub order-long : length (a .order) ≡ 64 → length (orderLine (a .len) (a .order)) ≤ 1352
   unfolding orderLine
   order-long full = omega (arith, line-long orderWord (take (a .len) (a .order)), list-long entry 21 (take (a .len) (a .order)) entry-most, length-take (a .len) (a .order))
@@ -97,10 +92,3 @@ module _ (a : Judged) where
   pub refused-long : length (refusedLine (a .number) (a .second)) ≤ 52
   unfolding refusedLine
   refused-long = omega (arith, pair-long refusedWord (a .number) (a .second), entry-most (a .number), entry-most (a .second))
-
-  pub listing-fits : length (a .order) ≡ 64 → length (listing a) ≤ 15619
-  unfolding listing movedText
-  listing-fits full =
-      split (λ (t : Bool). length (cond t (movedText a) (refusedLine (a .number) (a .second))) ≤ 15619) (eqb (a .number) 0)
-      (λ e. simp length-append (omega (arith, moved-long (a .kept) (a .dropped), after-long, order-long full, marking-long, values-long)))
-      (λ e. omega (arith, refused-long))

@@ -7,14 +7,14 @@ use native.Mathlib.Omega.{arith}
 use native.Mathlib.Numerals.{add-one}
 use native.Mathlib.Decide.{decLe}
 use lib.ListN.{length, take}
-use lib.Seq.{take-all}
+use lib.Seq.{take-all, length-take-le}
 use borrow.Author.Tests.{eq-eqb, ne-eqb}
 use Rattle.mask.specs.Mask.{members, count}
 use Rattle.emit.specs.Emit.{Emits}
 use Rattle.emit.specs.Numbers.{entry, over}
-use Rattle.emit.proofs.Chains.{parts, First, Second, Third, Three, first-room, second-room, third-room, three-emits, room-as, emits-none}
+use Rattle.emit.proofs.Chains.{parts, First, Second, Third, Three, first-room, second-room, third-room, three-emits, emits-none}
 use Rattle.emit.proofs.Over.{from-zero, from-one}
-use Rattle.listing.specs.Listing.{close, line, movedWord, droppedWord, movedEnd, movedLine, afterWord, afterLine, orderWord, orderLine, markingWord, markingLine, valueWord, valueLine}
+use Rattle.listing.specs.Listing.{close, line, movedWord, droppedWord, movedEnd, movedLine, afterWord, afterLine, orderWord, orderLine, markingWord, markingLine, valueWord, valueLine, refusedWord, refusedLine}
 
 module _ (w : List ℕ) where
   line-parts : (l : List ℕ) → line w l ≡ parts (w ∷ over entry l ∷ close ∷ [])
@@ -53,24 +53,28 @@ marking-parts : (m : ℕ) → markingLine m ≡ parts (markingWord ∷ over (λ 
 unfolding markingLine
 marking-parts m = line-parts markingWord (members 64 m) ∙ ap (λ (t : List ℕ). parts (markingWord ∷ t ∷ close ∷ [])) (sym (from-zero (members 64 m)))
 
-pub value-is : (v writer : ℕ) → (writer ≡ 0 → ⊥) → valueLine v writer ≡ line valueWord (v ∷ writer ∷ [])
+value-parts : (v writer : ℕ) → (writer ≡ 0 → ⊥) → valueLine v writer ≡ parts ((valueWord ++ entry v) ∷ entry writer ∷ close ∷ [])
 unfolding valueLine
-value-is v writer some = rw (ne-eqb writer 0 some)
+value-parts v writer some = rw (ne-eqb writer 0 some) (pair-parts valueWord v writer)
+
+refused-parts : (number second : ℕ) → refusedLine number second ≡ parts ((refusedWord ++ entry number) ∷ entry second ∷ close ∷ [])
+unfolding refusedLine
+refused-parts number second = pair-parts refusedWord number second
 
 -- ---- the room that their calls have
 
-module _ (w : List ℕ) (a b : ℕ) where
-  pub pair-first : First (line w (a ∷ b ∷ [])) (w ++ entry a)
-  pair-first = first-room _ _ _ (pair-parts w a b)
+module _ (number second : ℕ) where
+  pub refused-first : First (refusedLine number second) (refusedWord ++ entry number)
+  refused-first = first-room _ _ _ (refused-parts number second)
 
-  pub pair-second : Second (line w (a ∷ b ∷ [])) (w ++ entry a) (entry b)
-  pair-second = second-room _ _ _ _ (pair-parts w a b)
+  pub refused-second : Second (refusedLine number second) (refusedWord ++ entry number) (entry second)
+  refused-second = second-room _ _ _ _ (refused-parts number second)
 
-  pub pair-third : Third (line w (a ∷ b ∷ [])) (w ++ entry a) (entry b) close
-  pair-third = third-room _ _ _ _ _ (pair-parts w a b)
+  pub refused-third : Third (refusedLine number second) (refusedWord ++ entry number) (entry second) close
+  refused-third = third-room _ _ _ _ _ (refused-parts number second)
 
-  pub pair-whole : Three (line w (a ∷ b ∷ [])) (w ++ entry a) (entry b) close
-  pair-whole = three-emits _ _ _ _ (pair-parts w a b)
+  pub refused-whole : Three (refusedLine number second) (refusedWord ++ entry number) (entry second) close
+  refused-whole = three-emits _ _ _ _ (refused-parts number second)
 
 module _ (kept dropped c : ℕ) (e : c ≡ count 64 kept) where
   pub moved-first : First (movedLine kept dropped) (movedWord ++ entry c)
@@ -99,6 +103,9 @@ module _ (i row : ℕ) (some : row ≡ 0 → ⊥) where
   after-whole = three-emits _ _ _ _ (after-parts i row some)
 
 module _ (len c : ℕ) (order : List ℕ) (e : c ≡ min len 64) (full : length order ≡ 64) where
+  pub order-long : c ≡ length (take c order)
+  order-long = sym (length-take-le c order (omega arith))
+
   pub order-first : First (orderLine len order) orderWord
   order-first = first-room _ _ _ (order-parts len c order e full)
 
@@ -124,8 +131,18 @@ module _ (m : ℕ) where
   pub marking-whole : Three (markingLine m) markingWord (over (λ (v : ℕ). entry (0 + v)) (members 64 m)) close
   marking-whole = three-emits _ _ _ _ (marking-parts m)
 
-pub value-room : (v writer : ℕ) → (writer ≡ 0 → ⊥) → First (valueLine v writer) (line valueWord (v ∷ writer ∷ []))
-value-room v writer some o n r = room-as r (value-is v writer some)
+module _ (v writer : ℕ) (some : writer ≡ 0 → ⊥) where
+  pub value-first : First (valueLine v writer) (valueWord ++ entry v)
+  value-first = first-room _ _ _ (value-parts v writer some)
+
+  pub value-second : Second (valueLine v writer) (valueWord ++ entry v) (entry writer)
+  value-second = second-room _ _ _ _ (value-parts v writer some)
+
+  pub value-third : Third (valueLine v writer) (valueWord ++ entry v) (entry writer) close
+  value-third = third-room _ _ _ _ _ (value-parts v writer some)
+
+  pub value-whole : Three (valueLine v writer) (valueWord ++ entry v) (entry writer) close
+  value-whole = three-emits _ _ _ _ (value-parts v writer some)
 
 -- an empty row, and a variable that is blank, have no line
 module _ {o : List ℕ} {n : ℕ} where

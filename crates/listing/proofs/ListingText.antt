@@ -12,7 +12,6 @@ use Rattle.emit.specs.Emit.{Room, Emits}
 use Rattle.emit.proofs.Chains.{parts, First, Second, Third, Two, Three, first-room, second-room, third-room, two-emits, three-emits, room-as, emits-length, emits-end, emits-whole, emits-take}
 use Rattle.listing.specs.Listing.{movedLine, afterLines, orderLine, markingLine, valueLines, refusedLine, movedText, listing}
 use Rattle.listing.specs.Written.{writtenFor, outAfter}
-use Rattle.listing.proofs.AnyRecord.{listing-fits}
 
 abbrev pub firstLines : Judged → List ℕ
 firstLines a = movedLine (a .kept) (a .dropped) ++ afterLines (a .kept) (a .after)
@@ -78,15 +77,15 @@ module _ (a : Judged) (out : List ℕ) (end : ℕ) (is : end ≡ length (listing
   unfolding outAfter
   passed-out h p e = e ∙ rw (le-leb (length (listing a)) (length out) (omega arith))
 
--- ---- a slice with room for any listing
+-- ---- a slice with room for any answer's listing
 
-module _ (a : Judged) (full : length (a .order) ≡ 64) (o : List ℕ) (long : 15619 ≤ length o) where
+module _ (a : Judged) (short : length (listing a) ≤ 7053) (o : List ℕ) (long : 7053 ≤ length o) where
   pub any-room : Room (listing a) o 0
-  any-room = record { fits = omega (arith, listing-fits a full) }
+  any-room = record { fits = omega arith }
 
   module _ (p : List ℕ) (end : ℕ) (w : Emits (listing a) o 0 p end) where
-    end-fits : end ≤ 15619
-    end-fits = omega (arith, emits-end w, listing-fits a full)
+    end-fits : end ≤ 7053
+    end-fits = omega (arith, emits-end w)
 
     -- it is the caller's
     pub direct-answer : record { number = 0; second = 0; written = end } ≡ writtenFor a (length o)
@@ -112,5 +111,5 @@ module _ (a : Judged) (full : length (a .order) ≡ 64) (o : List ℕ) (long : 1
           passed-out a out end (emits-end w) enough q (emits-whole copy-room x ∙ ap (λ (t : List ℕ). t ++ drop (length t) out) same)
 
 -- the array that the text is written to apart
-pub apart-long : 15619 ≤ length (replicate {A = ℕ} 15619 0)
-apart-long = omega (arith, length-replicate {A = ℕ} 15619 0)
+pub apart-long : 7053 ≤ length (replicate {A = ℕ} 7053 0)
+apart-long = omega (arith, length-replicate {A = ℕ} 7053 0)

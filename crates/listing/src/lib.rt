@@ -1,5 +1,5 @@
 // The listing: the text of judge's answer, written into a lent slice.
-pub mod lines;
+mod lines;
 pub mod printing;
 
 // How writing ended: 0 and 0, and the bytes written; or a refusal and its second number.

@@ -3,11 +3,11 @@ use emit::entries;
 use emit::entry;
 use emit::text;
 ghost use mathlib.Core.Path.{_≡_};
-ghost use mathlib.Core.List.{[], _∷_, _++_};
+ghost use mathlib.Core.List.{_++_};
 ghost use Prim.Native.Nat.{_<_, min};
 ghost use Rattle.emit.specs.Emit.{Room, Emits};
 ghost use Rattle.emit.specs.Numbers.{over, entry as entryText};
-ghost use Rattle.listing.specs.Listing.{line, refusedLine, movedLine, afterLine, afterLines, orderLine, markingLine, valueLine, valueLines};
+ghost use Rattle.listing.specs.Listing.{refusedLine, movedLine, afterLine, afterLines, orderLine, markingLine, valueLine, valueLines};
 
 // A word and an entry.
 fn figure(out: &mut [u8], at: usize, w: &[u8], n: u64) -> usize
@@ -18,20 +18,13 @@ fn figure(out: &mut [u8], at: usize, w: &[u8], n: u64) -> usize
     entry(out, end, n)
 }
 
-fn pair_line(out: &mut [u8], at: usize, w: &[u8], a: u64, b: u64) -> usize
-    requires { ⌜ Room (line (now w) (a ∷ b ∷ [])) (now out) at ⌝ }
-    ensures { λ r. ⌜ Emits (line (now (w .entry)) (a ∷ b ∷ [])) (now (out .entry)) at (now (out .exit)) r ⌝ }
-{
-    let first = figure(out, at, w, a);
-    let second = entry(out, first, b);
-    text(out, second, b")\n")
-}
-
 pub fn refused_line(out: &mut [u8], at: usize, number: u32, second: u64) -> usize
     requires { ⌜ Room (refusedLine number second) (now out) at ⌝ }
     ensures { λ r. ⌜ Emits (refusedLine number second) (now (out .entry)) at (now (out .exit)) r ⌝ }
 {
-    pair_line(out, at, b"(refused", number as u64, second)
+    let first = figure(out, at, b"(refused", number as u64);
+    let last = entry(out, first, second);
+    text(out, last, b")\n")
 }
 
 pub fn moved_line(out: &mut [u8], at: usize, kept: u64, dropped: u32) -> usize
@@ -124,7 +117,9 @@ fn value_line(out: &mut [u8], at: usize, v: u64, writer: u8) -> usize
     if writer == 0 {
         return at;
     }
-    pair_line(out, at, b"(value", v, writer as u64)
+    let first = figure(out, at, b"(value", v);
+    let last = entry(out, first, writer as u64);
+    text(out, last, b")\n")
 }
 
 pub fn value_lines(out: &mut [u8], at: usize, writers: &[u8; 32]) -> usize

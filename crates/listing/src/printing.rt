@@ -10,13 +10,13 @@ use answering::Judged;
 ghost use mathlib.Core.Path.{_≡_};
 ghost use mathlib.Core.List.{_++_};
 ghost use lib.ListN.{length};
-ghost use Prim.Native.Nat.{_<_};
+ghost use Prim.Native.Nat.{_<_, _≤_};
 ghost use Rattle.emit.specs.Emit.{Room, Emits};
 ghost use Rattle.listing.specs.Listing.{movedLine, afterLines, orderLine, markingLine, valueLines, listing};
 ghost use Rattle.listing.specs.Written.{writtenFor, outAfter};
 
-// No record at all has a longer listing (proofs/AnyRecord.antt). Those of judge's answers are shorter (proofs/Longest.antt).
-const ENOUGH: usize = 15619;
+// No answer of judge has a longer listing (proofs/Longest.antt).
+const ENOUGH: usize = 7053;
 
 fn first_lines(out: &mut [u8], at: usize, a: Judged) -> usize
     requires { ⌜ Room (movedLine (a .kept) (a .dropped) ++ afterLines (a .kept) (a .after)) (now out) at ⌝ }
@@ -51,6 +51,7 @@ fn text(out: &mut [u8], at: usize, a: Judged) -> usize
 
 // Where the slice may be too short, the text is written apart and copied if it fits.
 fn write_copied(a: Judged, out: &mut [u8]) -> Written
+    requires { ⌜ length (listing a) ≤ 7053 ⌝ }
     ensures { λ r. ⌜ r ≡ writtenFor a (length (now (out .entry))) ⌝ }
     ensures { λ _. ⌜ now (out .exit) ≡ outAfter a (now (out .entry)) ⌝ }
 {
@@ -72,6 +73,7 @@ fn write_copied(a: Judged, out: &mut [u8]) -> Written
 }
 
 pub fn write_listing(a: Judged, out: &mut [u8]) -> Written
+    requires { ⌜ length (listing a) ≤ 7053 ⌝ }
     ensures { λ r. ⌜ r ≡ writtenFor a (length (now (out .entry))) ⌝ }
     ensures { λ _. ⌜ now (out .exit) ≡ outAfter a (now (out .entry)) ⌝ }
 {

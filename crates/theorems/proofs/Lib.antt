@@ -28,6 +28,5 @@ pub mod Demand3
 pub mod LastWriter
 pub mod Shown
 pub mod Printed
-pub mod ListingLength
 pub mod RoundTrip
 pub mod Main

@@ -51,7 +51,7 @@ use Rattle.theorems.proofs.Accepts.{try-fit, try-second, try-marking}
 use Rattle.theorems.proofs.Judge.{judge-moves, judge-second, judge-given, judge-marking, judge-refuses, given-one}
 use Rattle.theorems.proofs.Shown.{judge-shows}
 use Rattle.theorems.proofs.Printed.{print-answer, print-leaves, print-moves, print-refuses, print-shows, try-sheet}
-use Rattle.theorems.proofs.ListingLength.{listing-length}
+use Rattle.ops.proofs.ListingLength.{listing-length}
 use Rattle.theorems.proofs.RoundTrip.{read-then-write, write-then-read-lent, read-lent, read-then-write-lent}
 use Rattle.theorems.proofs.Demand3.{demand3}
 

@@ -1,8 +1,6 @@
 -- `listing::lines::order_line`: the word, the entries that the list has, the end.
-use mathlib.Core.Path.{sym}
-use lib.Seq.{length-take-le}
 use borrow.Author.Needs.{needs}
-use Rattle.listing.proofs.Line.{order-first, order-second, order-third, order-whole}
+use Rattle.listing.proofs.Line.{order-long, order-first, order-second, order-third, order-whole}
 use Rattle.listing.proofs.lines.order_line.Statement.{statement}
 use Rattle.listing.proofs.lines.order_line.Tie as tie
 
@@ -19,7 +17,7 @@ array-share-prefix-order : tie.Need-array-share-prefix-order
 array-share-prefix-order c = search needs
 
 slice-aggregate-list-entries : tie.Need-slice-aggregate-list-entries
-slice-aggregate-list-entries c = let n = c .before .before .before .before .before .before .before in sym (length-take-le (n .order-len .result) (n .before .before .args .t4) (search needs))
+slice-aggregate-list-entries c = search (needs, order-long)
 
 list-entries-requires : tie.Need-list-entries-requires
 list-entries-requires c κs = search (needs, order-second)

@@ -1,5 +1,6 @@
 -- `ops::print::print`: row 14, then the answer to the sheet and its listing.
 use borrow.Author.Needs.{needs}
+use Rattle.ops.proofs.ListingLength.{answer-length}
 use Rattle.ops.proofs.Prints.{printed-short, out-short, work-short, printed-long, out-long}
 use Rattle.ops.proofs.print.print.Statement.{statement}
 use Rattle.ops.proofs.print.print.Tie as tie
@@ -11,7 +12,7 @@ answer-requires : tie.Need-answer-requires
 answer-requires c κs = search needs
 
 write-listing-requires : tie.Need-write-listing-requires
-write-listing-requires c κs = search needs
+write-listing-requires c κs = search (needs, answer-length)
 
 same-length : tie.Need-same-length
 same-length c = search needs

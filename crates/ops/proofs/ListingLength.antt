@@ -9,10 +9,11 @@ use lib.ListN.{length}
 use Rattle.facts.specs.Facts.{readOf, jobRead}
 use Rattle.judging.specs.Judge.{judged}
 use Rattle.answering.specs.Answer.{judgeStopped}
+use Rattle.answering.specs.declared.Judged.{Judged}
 use Rattle.listing.specs.Listing.{listing}
 use Rattle.listing.proofs.AnyRecord.{refused-long}
 use Rattle.listing.proofs.Longest.{longest}
 use Rattle.ops.specs.Print.{sheetAnswer, listingOf}
 
 pub listing-length : (s : List ℕ) → length (listingOf s) ≤ 7053
 unfolding listingOf sheetAnswer listing
@@ -25,3 +26,7 @@ listing-length s = go (eqb (readOf s .number) 0) refl
         → length (listing (cond t (judged (jobRead (readOf s)) 8192) (judgeStopped (readOf s .number) (readOf s .second)))) ≤ 7053
     go true e = longest (jobRead (readOf s)) 8192
     go false e = stopped (readOf s .number) (readOf s .second) e
+
+pub answer-length : (s : List ℕ) (a : Judged) → a ≡ sheetAnswer s → length (listing a) ≤ 7053
+unfolding listingOf
+answer-length s a e = rw e (listing-length s)
