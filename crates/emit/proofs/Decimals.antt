@@ -111,8 +111,6 @@ module _ (n : ℕ) {o : List ℕ} {at : ℕ} where
   pub more-emits : {p q : List ℕ} {m k : ℕ} → 100 ≤ n → n < 2 ^ 64 → Emits (decimal (n / 100)) o at p m → Emits (pairText (n % 100)) p m q k → Emits (decimal n) o at q k
   more-emits h b w x = emits-as (decimal-more n h b) (emits-then w x)
 
-pub ruleset numbers = (one-room, one-emits, pair-room, pair-emits, more-room, last-room, more-emits)
-
 -- ---- a pair, and an entry, in parts
 
 pub pair-whole : (n : ℕ) → Two (pairText n) ((48 + n / 10) ∷ []) ((48 + n % 10) ∷ [])

@@ -62,24 +62,16 @@ fn digits(out: &mut [u8], at: usize, n: u64) -> usize
     pair(out, last, n % 100)
 }
 
-// A number. A short one takes no call of a function that calls itself, so that it is compiled in place.
-pub fn number(out: &mut [u8], at: usize, n: u64) -> usize
-    requires { ⌜ Room (decimal n) (now out) at ⌝ }
-    ensures { λ r. ⌜ Emits (decimal n) (now (out .entry)) at (now (out .exit)) r ⌝ }
-{
-    if 99 < n {
-        return digits(out, at, n);
-    }
-    short(out, at, n)
-}
-
-// One space and a number.
+// One space and a number. A short one takes no call of a function that calls itself, so that it is compiled in place.
 pub fn entry(out: &mut [u8], at: usize, n: u64) -> usize
     requires { ⌜ Room (entryText n) (now out) at ⌝ }
     ensures { λ r. ⌜ Emits (entryText n) (now (out .entry)) at (now (out .exit)) r ⌝ }
 {
     let first = put(out, at, b' ');
-    number(out, first, n)
+    if 99 < n {
+        return digits(out, first, n);
+    }
+    short(out, first, n)
 }
 
 // The members of a mask, rising, as entries, bit 0 numbered `first`: from one set bit to the next.

@@ -3,7 +3,7 @@ use Prim.Native.Nat.{ℕ, _<_}
 use borrow.Author.Needs.{needs}
 use borrow.Fn.Kinds.{In}
 use borrow.Fn.PlainCycle.{Measures, is, falls, and}
-use Rattle.emit.proofs.Decimals.{numbers}
+use Rattle.emit.proofs.Decimals.{more-room, last-room, more-emits}
 use Rattle.emit.proofs.short.Reads as short
 use Rattle.emit.proofs.pair.Reads as pair
 use Rattle.emit.proofs.digits.Reads as digits
@@ -32,16 +32,16 @@ returns : (t : ℕ) → lts.Need-returns (calls t) (at t) digits.Post
 returns t c = search needs
 
 digits-requires : (t : ℕ) → lts.Need-digits-requires (calls t) (at t) digits.Post
-digits-requires t c κs = search (needs, numbers)
+digits-requires t c κs = (search needs, search (needs, more-room))
 
 pair-requires : (t : ℕ) → lts.Need-pair-requires (calls t) (at t) digits.Post
-pair-requires t c κs = search (needs, numbers)
+pair-requires t c κs = (search needs, search (needs, last-room))
 
 same-length-2 : (t : ℕ) → lts.Need-same-length-2 (calls t) (at t) digits.Post
 same-length-2 t c = search needs
 
 returns-2 : (t : ℕ) → lts.Need-returns-2 (calls t) (at t) digits.Post
-returns-2 t c = search (needs, numbers)
+returns-2 t c = search (needs, more-emits)
 
 pub +digits-spec : {M : Type 1} → statement M
 +digits-spec = close μ (λ t. lts.spec (calls t) (at t) digits.Post (short-requires t) (same-length t) (returns t) (digits-requires t) (pair-requires t) (same-length-2 t) (returns-2 t))

@@ -1,4 +1,4 @@
--- `emit::entry`: the space, then the digits.
+-- `emit::entry`: the space, then the digits, of which most numbers have one or two.
 use borrow.Author.Needs.{needs}
 use Rattle.emit.proofs.Decimals.{entry-first, entry-second, entry-whole}
 use Rattle.emit.proofs.entry.Statement.{statement}
@@ -7,8 +7,8 @@ use Rattle.emit.proofs.entry.Tie as tie
 put-requires : tie.Need-put-requires
 put-requires c κs = search (needs, entry-first)
 
-number-requires : tie.Need-number-requires
-number-requires c κs = search (needs, entry-second)
+digits-requires : tie.Need-digits-requires
+digits-requires c κs = search (needs, entry-second)
 
 same-length : tie.Need-same-length
 same-length c = search needs
@@ -16,5 +16,14 @@ same-length c = search needs
 returns : tie.Need-returns
 returns c = search (needs, entry-whole)
 
+short-requires : tie.Need-short-requires
+short-requires c κs = (search needs, search (needs, entry-second))
+
+same-length-2 : tie.Need-same-length-2
+same-length-2 c = search needs
+
+returns-2 : tie.Need-returns-2
+returns-2 c = search (needs, entry-whole)
+
 pub entry-spec : {M : Type 1} → statement M
-entry-spec = tie.close (tie.spec put-requires number-requires same-length returns)
+entry-spec = tie.close (tie.spec put-requires digits-requires same-length returns short-requires same-length-2 returns-2)
