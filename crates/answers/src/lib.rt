@@ -1,6 +1,6 @@
 // What an operation answers, as numbers. They are gathered in a buffer, and n of its bytes are in use.
-use facts::Sheet;
 use answering::Judged;
+use facts::Sheet;
 use lent::Counts;
 use listing::Written;
 use route::Marking;
