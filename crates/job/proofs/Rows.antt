@@ -195,10 +195,6 @@ module _ (line places : ℕ) (l : List Step) (a : Outcome) (is : a ≡ first (ro
 pub head-fits : (l : List Step) (head : ℕ) → head ≡ afterSteps 1 l → length l ≤ 64 → head < 1000
 head-fits l head is few = omega arith
 
-pub done-line-fits : (l k : List Step) (line : ℕ) → line ≡ afterSteps (afterSteps 1 l) k + 1 → length l ≤ 64 → length k ≤ 64
-    → line ≤ 1000
-done-line-fits l k line is few few′ = omega arith
-
 module _ (j : Job) (a : Outcome) (is : a ≡ first (routeRows 1 (j .oldPlaces) (j .old))) (t : Bool)
     (test : t ≡ eqb (a .number) 0) where
   abbrev oldRows : List Outcome
@@ -226,12 +222,12 @@ module _ (j : Job) (a : Outcome) (is : a ≡ first (routeRows 1 (j .oldPlaces) (
     unfolding lineRows
     lines-new off = new-is ∙ sym (rows-refuse newRows _ (new-asked ∙ not-true u off)) ∙ past-old _
 
-    pub lines-done : not u ≡ false → (line : ℕ) → line ≡ jobLine j + 1 → (o : Outcome) → o ≡ first (doneRows scope line 0 (j .done))
+    pub lines-done : not u ≡ false → (line : ℕ) → line ≡ jobLine j → (o : Outcome) → o ≡ first (doneRows scope (line + 1) 0 (j .done))
         → o ≡ first (lineRows j)
     unfolding lineRows
     lines-done pass line line-is o last =
         last
-        ∙ ap (λ (n : ℕ). first (doneRows scope n 0 (j .done))) line-is
+        ∙ ap (λ (n : ℕ). first (doneRows scope (n + 1) 0 (j .done))) line-is
         ∙ sym (rows-pass newRows _ (new-asked ∙ not-false u pass))
         ∙ past-old _
 

@@ -42,14 +42,17 @@ passed-requires-2 c κs = search needs
 returns-2 : tie.Need-returns-2
 returns-2 c = search (needs, lines-new)
 
-done-line-requires : tie.Need-done-line-requires
-done-line-requires c κs = (old-few (oldOf c), new-few c)
+job-line-requires : tie.Need-job-line-requires
+job-line-requires c κs = (old-few (oldOf c), new-few c)
+
+add-check-done : tie.Need-add-check-done
+add-check-done c = search needs
 
 check-done-requires : tie.Need-check-done-requires
-check-done-requires c κs = omega (arith, c .done-line .ensures, old-few (oldOf (c .before)), new-few (c .before))
+check-done-requires c κs = search needs
 
 returns-3 : tie.Need-returns-3
 returns-3 c = search (needs, lines-done)
 
 pub check-lines-spec : {M : Type 1} → statement M
-check-lines-spec = tie.close (tie.spec check-route-requires passed-requires returns next-head-requires check-route-requires-2 passed-requires-2 returns-2 done-line-requires check-done-requires returns-3)
+check-lines-spec = tie.close (tie.spec check-route-requires passed-requires returns next-head-requires check-route-requires-2 passed-requires-2 returns-2 job-line-requires add-check-done check-done-requires returns-3)
