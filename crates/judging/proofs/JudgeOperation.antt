@@ -26,7 +26,7 @@ use Rattle.answering.specs.Answer.{judgeStopped}
 use Rattle.judging.specs.Judge.{judgeRows, judged, searched, workAfter}
 use Rattle.judging.specs.inner.Passing.{Passing}
 use Rattle.judging.specs.inner.Answers.{AnswersRows, Works}
-use Rattle.judging.specs.declared.Judged.{Judged}
+use Rattle.answering.specs.declared.Judged.{Judged}
 
 rows-refused :
     (line from : ℕ) (new l : List Step)
