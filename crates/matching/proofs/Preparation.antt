@@ -13,13 +13,14 @@ use Rattle.refusal.specs.declared.Outcome.{Outcome}
 use Rattle.refusal.proofs.Rows.{cond-zero-elim}
 use Rattle.route.specs.Flat.{stepsIn, Holds}
 use Rattle.route.specs.declared.Step.{Step}
-use Rattle.job.specs.Job.{Job, jobLine, newStart}
+use Rattle.job.specs.Job.{Job, flatJob, jobLine, newStart}
 use Rattle.job.specs.Lines.{lineRows, LinesPass}
-use Rattle.job.specs.Run.{stopped, ran, performed}
+use Rattle.job.specs.Run.{stopped, ran, performed, BegunOf}
 use Rattle.job.specs.declared.Ran.{Ran}
-use Rattle.job.proofs.Rows.{lines-fit}
+use Rattle.job.specs.declared.Begun.{Begun}
+use Rattle.job.proofs.Rows.{pass-fits}
 use Rattle.job.proofs.RunLine.{ran-refused, checked-lines, ran-fits}
-use Rattle.job.proofs.Performed.{length-performed, holds-performed}
+use Rattle.job.proofs.Performed.{length-performed, holds-performed, length-holds}
 use Rattle.job.proofs.KnownNames.{performed-names}
 use Rattle.slice.specs.Slice.{variables}
 use Rattle.slice.proofs.Laws.{kept-below}
@@ -50,72 +51,74 @@ module _ (j : Job) where
       ap (λ (x : Ran). refuse (x .number) (x .second)) stops
       ∙ picked false (ap (λ (x : Ran). eqb (x .number) 0) (sym stops) ∙ e)
 
-  -- rows 6 to 9 give o, and b says whether it passes
+  -- rows 6 to 9 have been asked: b is what they say, t that they pass. `line` is that of `(job)`
   module _
-      (o : Outcome) (is : o ≡ refuse (ran j .number) (ran j .second))
-      (b : Bool) (b-is : b ≡ eqb (o .number) 0) where
-    number-is : eqb (ran j .number) 0 ≡ b
-    number-is = sym (b-is ∙ ap (λ (x : Outcome). eqb (x .number) 0) is)
-
-    pub rows-ran : not b ≡ false → ran j .number ≡ 0
-    rows-ran e = eqb-true (ran j .number) 0 (number-is ∙ not-false b e)
+      (b : Begun) (occurrences : List ℕ) (begun : BegunOf j b occurrences) (t : Bool) (test : t ≡ eqb (b .outcome .number) 0)
+      (line : ℕ) (line-is : line ≡ jobLine j) where
+    number-is : eqb (ran j .number) 0 ≡ t
+    number-is = sym (test ∙ ap (λ (x : Outcome). eqb (x .number) 0) (begun .outcome-is))
 
     pub prepared-refused :
-        not b ≡ true → (p : Prepared) (occurrences matches : List ℕ) → p .outcome ≡ o → p .line ≡ jobLine j
+        not t ≡ true → (p : Prepared) (matches : List ℕ) → p .outcome ≡ b .outcome → p .line ≡ line
         → PreparedOf j p occurrences matches
-    prepared-refused e p occurrences matches to line =
+    prepared-refused off p matches to at =
         record {
-          outcome-is = to ∙ is ∙ picked false stops;
-          line-is = line;
+          outcome-is = to ∙ begun .outcome-is ∙ picked false stops;
+          line-is = at ∙ line-is;
           ready = λ z. absurd (true≢false (sym (eq-eqb (ran j .number) 0 z) ∙ stops));
         }
       where
         stops : eqb (ran j .number) 0 ≡ false
-        stops = number-is ∙ not-true b e
+        stops = number-is ∙ not-true t off
 
-  -- the done list has run; the numbers hold the steps done and the new route's steps for the done names
-  module _
-      (passes : LinesPass j) (runs : ran j .number ≡ 0) (occurrences matches : List ℕ)
-      (holds : Holds doneSteps occurrences) (holds′ : Holds (performed (j .new) (j .done)) matches) where
-    matched-is : matched (j .new) doneSteps ≡ performed (j .new) (j .done)
-    unfolding matched
-    matched-is = ap (performed (j .new)) (performed-names j runs)
+    -- the done list has run; the numbers hold the steps done and the new route's steps for the done names
+    module _
+        (lines : LinesPass j) (on : not t ≡ false) (matches : List ℕ)
+        (holds : Holds (performed (j .new) (j .done)) matches) where
+      runs : ran j .number ≡ 0
+      runs = eqb-true (ran j .number) 0 (number-is ∙ not-false t on)
 
-    -- as many numbers as the done names have steps
-    abbrev end : ℕ
-    end = 4 * length (j .done)
+      matched-is : matched (j .new) doneSteps ≡ performed (j .new) (j .done)
+      unfolding matched
+      matched-is = ap (performed (j .new)) (performed-names j runs)
 
-    occurrences-are : stepsIn (take end occurrences) ≡ doneSteps
-    occurrences-are = holds-performed (j .old) (j .done) occurrences holds
+      -- as many numbers as the done names have steps
+      abbrev end : ℕ
+      end = 4 * length (j .done)
 
-    pub matches-of : MatchesOf (j .new) (stepsIn (take end occurrences)) (take end matches)
-    matches-of =
-        rw occurrences-are
-        (record {
-          named = rw (performed-names j runs) (lines-fit j (eq-eqb _ 0 passes) .done-names);
-          steps-are = holds-performed (j .new) (j .done) matches holds′ ∙ sym matched-is;
-        })
+      occurrences-are : stepsIn (take end occurrences) ≡ doneSteps
+      occurrences-are = holds-performed (j .old) (j .done) occurrences (begun .done-are runs)
 
-    pub prepared-stands :
-        (p : Prepared) (line : ℕ) → line ≡ jobLine j → (from : ℕ) → from ≡ newStart j
-        → Weighed line from (j .new) (stepsIn (take end occurrences)) p → PreparedOf j p occurrences matches
-    prepared-stands p line line-is from from-is weighed =
-        let w : Weighed (jobLine j) (newStart j) (j .new) doneSteps p =
-        rw (line-is, from-is, occurrences-are) at weighed
-        in
-        record {
-          outcome-is = w .outcome-is ∙ picked true (eq-eqb (ran j .number) 0 runs);
-          line-is = w .line-is;
-          ready = λ z.
-              record {
-                done-are = holds;
-                matches-are = rw matched-is holds′;
-                start-is = w .start-is;
-                straight-is = w .straight-is;
-                kept-is = w .kept-is;
-                vars-are = w .vars-are;
-              };
-        }
+      matches-of : MatchesOf (j .new) (stepsIn (take end occurrences)) (take end matches)
+      matches-of =
+          rw occurrences-are
+          (record {
+            named = rw (performed-names j runs) (pass-fits j lines .done-names);
+            steps-are = holds-performed (j .new) (j .done) matches holds ∙ sym matched-is;
+          })
+
+      pub prepared-weighed :
+          (p : Prepared)
+          → (MatchesOf (j .new) (stepsIn (take end occurrences)) (take end matches)
+          → Weighed line (b .start .tokens) (j .new) (stepsIn (take end occurrences)) p)
+          → PreparedOf j p occurrences matches
+      prepared-weighed p weighs =
+          let w : Weighed (jobLine j) (newStart j) (j .new) doneSteps p =
+          rw (line-is, begun .start-is runs, occurrences-are) at (weighs matches-of)
+          in
+          record {
+            outcome-is = w .outcome-is ∙ picked true (eq-eqb (ran j .number) 0 runs);
+            line-is = w .line-is;
+            ready = λ z.
+                record {
+                  done-are = begun .done-are runs;
+                  matches-are = rw matched-is holds;
+                  start-is = w .start-is;
+                  straight-is = w .straight-is;
+                  kept-is = w .kept-is;
+                  vars-are = w .vars-are;
+                };
+          }
 
   -- no row to 12 refuses, and t says so
   module _
@@ -177,3 +180,23 @@ module _ (j : Job) where
 
       pub kept-matched : (i : ℕ) → has (p .kept) i ≡ true → i < length (stepsIn (take stop matches))
       kept-matched i h = rw numbers-matched (omega (arith, length-matched (j .new) doneSteps, kept-done i h))
+
+-- the numbers that are lent, as many as the done names have steps
+module _
+    (places : ℕ) (old : List ℕ) (places′ : ℕ) (new done : List ℕ) (b : Begun) (occurrences : List ℕ)
+    (begun : BegunOf (flatJob places old places′ new done) b occurrences) (t : Bool)
+    (test : t ≡ eqb (b .outcome .number) 0) (on : not t ≡ false) where
+  done-held : length (stepsIn (take (4 * length done) occurrences)) ≡ length done
+  done-held =
+      let j : Job = flatJob places old places′ new done in
+      length-holds (stepsIn old) done occurrences
+      (begun .done-are
+      (eqb-true (ran j .number) 0
+      (ap (λ (x : Outcome). eqb (x .number) 0) (sym (begun .outcome-is)) ∙ sym test ∙ not-false t on)))
+
+  pub lent-few : length done ≤ 64 → length (stepsIn (take (4 * length done) occurrences)) ≤ 64
+  lent-few few = omega (arith, done-held)
+
+  pub lent-alike : (matches : List ℕ) → Holds (performed (stepsIn new) done) matches
+      → length (stepsIn (take (4 * length done) matches)) ≡ length (stepsIn (take (4 * length done) occurrences))
+  lent-alike matches holds = length-holds (stepsIn new) done matches holds ∙ sym done-held

@@ -4,7 +4,7 @@ use crate::Prepared;
 use crate::rows::kept_rows;
 use crate::same::same_mask;
 use crate::straight::straight_end;
-use job::checks::next_head;
+use job::checks::job_line;
 use job::running::begin;
 use job::running::perform;
 use refusal::Outcome;
@@ -69,7 +69,7 @@ pub fn prepare(
     requires { ⌜ (256 ≤ length (now occurrences)) × (256 ≤ length (now matches)) ⌝ }
     ensures { λ r. ⌜ PreparedOf (flatJob «old_places» (now (old .entry)) «new_places» (now (new .entry)) (now (done .entry))) r (now (occurrences .exit)) (now (matches .exit)) ⌝ }
 {
-    let line = next_head(next_head(1, old), new);
+    let line = job_line(old, new);
     let b = begin(old_places, old, new_places, new, done, occurrences);
     let outcome = b.outcome;
     if !outcome.passed() {
