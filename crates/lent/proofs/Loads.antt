@@ -1,7 +1,7 @@
 -- Both lists are loaded and another function is called: a walk of the MIR that every operation over lent lists has, whatever it is called with
 -- besides the two routes and whatever it gives.
 use mathlib.Core.Path.{_≡_, refl}
-use Prim.Native.Nat.{ℕ, _<_, _^_}
+use Prim.Native.Nat.{ℕ, zero, suc, _<_, _^_}
 use mathlib.Core.List.{List, [], _∷_}
 use lib.ListN.{length}
 use lib.Dec.{T}
@@ -16,15 +16,15 @@ use prog.Wp.{Heap, Env, Calls, Loops, WpFn}
 use ghost.Atoms.{Atoms}
 use contract.Monad.{Fun}
 use sound.WpLaws.{FmC}
-use types.Kit.{Given, Item, Post, Seq, ‵, raw, _⊛_, given, later, ⋆, mean, _$_, _∵_, !, qed, move, drop, use1, use2, use3, split, join, learn, rewrite, fjoin, lands, runs, await, frame, done}
+use types.Kit.{Given, Item, Post, Seq, ‵, raw, _⊛_, given, later, ⋆, mean, _$_, _∵_, !, qed, move, drop, use1, use2, use3, split, join, learn, rewrite, fjoin, lands, runs, await, frame, done, group, keep}
 use types.Part.{whole, sub, look-in, agg}
-use types.Run.{Opds, look, init, stop, hop, fld, from, load, addr, and-then, no-more, land, returns, enter, params1, pass1, pass0}
+use types.Run.{Opd, Opds, look, init, stop, hop, fld, from, load, addr, and-then, no-more, land, returns, enter, params1, pass1, pass0}
 use denote.Laws.{Is}
 use denote.Memory.{pointee}
 use denote.Plain.{uint-makes}
 use denote.Builtin.{u64}
 use denote.Ref.{RefT}
-use denote.Slice.{sliceTy, sliceVal, ShrSlice}
+use denote.Slice.{sliceTy, sliceVal, ShrSlice, shr-slice-copy}
 use denote.Steps.{owned, nothing}
 use denote.Struct.Laws as LL
 use denote.Triple.Statement.{Contract, Triple}
@@ -58,6 +58,24 @@ val x = sliceVal (x .ptr) (length (x .now))
 abbrev pub fetch : ℕ → ℕ → ℕ → Body
 fetch p x r = call #load (copy (place p []) ∷ copy (place x []) ∷ []) (place r [])
 
+-- which of the two lists is loaded; the locals that hold them are 2 and 4
+pub data Which : Type 0 where
+  old : Which
+  new : Which
+
+abbrev pub pick : {X : Type 0} → Which → X → X → X
+pick old a b = a
+pick new a b = b
+
+abbrev pub loc : Which → ℕ
+loc w = pick w 2 4
+
+abbrev pub which : ℕ → Which
+which zero = new
+which (suc zero) = new
+which (suc (suc zero)) = old
+which (suc (suc (suc n))) = new
+
 -- the MIR: both lists are loaded, and the operation over routes is called with them and what else there is
 abbrev lists : List Local → List Local
 lists ls = value word ∷ value (listTy 0) ∷ value word ∷ value (listTy 1) ∷ ls
@@ -65,34 +83,34 @@ lists ls = value word ∷ value (listTy 0) ∷ value word ∷ value (listTy 1) �
 abbrev calls : Name → (a b : ℕ) → List Operand → Body
 calls k a b more = seq (call k (copy (place a []) ∷ copy (place b []) ∷ more) (place 0 [])) return
 
-abbrev pub body-one : (τ τ₅ : Ty) → Name → Fn
-body-one τ τ₅ k = record {
+abbrev pub body-one : (τ τ₅ : Ty) (x y : ℕ) → Name → Fn
+body-one τ τ₅ x y k = record {
   lifetimes = 3;
   outlives = [];
   params = 5;
   locals = value τ ∷ lists (value τ₅ ∷ value Ro′.mir ∷ value Ro′.mir ∷ []);
-  body = seq (fetch 1 2 6) (seq (fetch 3 4 7) (calls k 6 7 (copy (place 5 []) ∷ [])));
+  body = seq (fetch 1 x 6) (seq (fetch 3 y 7) (calls k 6 7 (copy (place 5 []) ∷ [])));
 }
 
 -- with one more slice
-abbrev pub body-two : (τ τ₅ τ₆ : Ty) → Name → Fn
-body-two τ τ₅ τ₆ k = record {
+abbrev pub body-two : (τ τ₅ τ₆ : Ty) (x y : ℕ) → Name → Fn
+body-two τ τ₅ τ₆ x y k = record {
   lifetimes = 4;
   outlives = [];
   params = 6;
   locals = value τ ∷ lists (value τ₅ ∷ value τ₆ ∷ value Ro′.mir ∷ value Ro′.mir ∷ []);
-  body = seq (fetch 1 2 7) (seq (fetch 3 4 8) (calls k 7 8 (copy (place 5 []) ∷ copy (place 6 []) ∷ [])));
+  body = seq (fetch 1 x 7) (seq (fetch 3 y 8) (calls k 7 8 (copy (place 5 []) ∷ copy (place 6 []) ∷ [])));
 }
 
 -- with bytes that are lent on
-abbrev pub body-mut : (τ τ₅ : Ty) → Name → Fn
-body-mut τ τ₅ k = record {
+abbrev pub body-mut : (τ τ₅ : Ty) (x y : ℕ) → Name → Fn
+body-mut τ τ₅ x y k = record {
   lifetimes = 4;
   outlives = [];
   params = 6;
   locals = value τ ∷ lists (value τ₅ ∷ value (sliceTy (tyRef (named 3) mut (tyInt w8))) ∷ value Ro′.mir ∷
       value Ro′.mir ∷ value (tyRef erased mut (tyInt w8)) ∷ value (sliceTy (tyRef erased mut (tyInt w8))) ∷ []);
-  body = seq (fetch 1 2 7) (seq (fetch 3 4 8)
+  body = seq (fetch 1 x 7) (seq (fetch 3 y 8)
       (seq (assign (place 9 []) (addrOf (place 6 (field 0 ∷ deref (tyInt w8) ∷ []))))
       (seq (assign (place 10 []) (aggregate (copy (place 9 []) ∷ copy (place 6 (field 1 ∷ [])) ∷ [])))
       (calls k 7 8 (copy (place 5 []) ∷ copy (place 10 []) ∷ [])))));
@@ -109,17 +127,17 @@ abbrev pub owned-route : Route → Val → Fml
 owned-route r v = Ro.the-row .own r (v ∷ [])
 
 module _ {M : Type 1} (𝓤 : URA M) (H : Heap 𝓤) (A : Atoms 𝓤) (C : Calls 𝓤 H) (Λ : Loops 𝓤 H) (κ₀ κ₁ : Lft)
-    (q₀ q₁ : Share) (p₀ p₁ : ℕ) (x₀ x₁ : Lent) where
+    (q₀ q₁ : Share) (p₀ p₁ : ℕ) (x₀ x₁ : Lent) (v w : Which) where
   abbrev Entered : SProp 𝓤 → List (Item 𝓤)
   Entered rest = ‵ (flft κ₀ q₀) ∷ ‵ (flft κ₁ q₁) ∷ ‵ (own κ₀ x₀) ∷ ‵ (own κ₁ x₁) ∷ raw rest ∷ []
 
   -- a walk that hands both routes and the values us to k: whatever k is given besides the routes, and whatever it gives
   abbrev pub Walk : Fn → Name → Ty → List Val → Type 2
   Walk body k τ us = (rest : SProp 𝓤) (Q Kf : Val → SProp 𝓤)
-      → ((u w : Val) → ent 𝓤 (mean 𝓤 H A (‵ (owned-route (loaded p₀ (x₀ .now)) u) ⊛
-      (‵ (owned-route (loaded p₁ (x₁ .now)) w) ⊛ raw rest))) (C k (u ∷ w ∷ us) Q))
-      → ((v : Val) → ent 𝓤 (⋆ 𝓤 H A (raw (Q v) ∷ ‵ (flft κ₀ q₀) ∷ ‵ (flft κ₁ q₁) ∷ []))
-      (mean 𝓤 H A (later (given (T (hasTy τ v) × WT v) (raw (Kf v))))))
+      → ((u w′ : Val) → ent 𝓤 (mean 𝓤 H A (‵ (owned-route (loaded p₀ (pick v (x₀ .now) (x₁ .now))) u) ⊛
+      (‵ (owned-route (loaded p₁ (pick w (x₀ .now) (x₁ .now))) w′) ⊛ raw rest))) (C k (u ∷ w′ ∷ us) Q))
+      → ((r : Val) → ent 𝓤 (⋆ 𝓤 H A (raw (Q r) ∷ ‵ (flft κ₀ q₀) ∷ ‵ (flft κ₁ q₁) ∷ []))
+      (mean 𝓤 H A (later (given (T (hasTy τ r) × WT r) (raw (Kf r))))))
       → ent 𝓤 (⋆ 𝓤 H A (Entered rest))
       (WpFn 𝓤 H C Λ body (vint w64 p₀ ∷ val x₀ ∷ vint w64 p₁ ∷ val x₁ ∷ us) Kf)
 
@@ -149,86 +167,107 @@ module _ {M : Type 1} (𝓤 : URA M) (H : Heap 𝓤) (A : Atoms 𝓤) (W : Given
         move t (1 ∷ []) $ use1 W (‵ (flft κ q) ⊛ ‵ ftrue) (id⊢ 𝓤 _) $ split t $ move t (1 ∷ 3 ∷ 2 ∷ []) $
         drop t $ drop t $ k v (LL.lawful Ro.the-type Ro′.the-laws 𝓤 H A W .typed r _ is .0)))
 
-  module _ (κ₀ κ₁ : Lft) (q₀ q₁ : Share) (p₀ p₁ : ℕ) (x₀ x₁ : Lent) (fits₀ : p₀ < 2 ^ 64) (fits₁ : p₁ < 2 ^ 64)
-      (room₀ : length (x₀ .now) < 2 ^ 64) (room₁ : length (x₁ .now) < 2 ^ 64) (τ τ₅ : Ty) (k : Name) (v₅ : Val)
-      (wt₅ : T (hasTy τ₅ v₅) × WT v₅) where
-    pub calls-one : Walk 𝓤 H A C Λ κ₀ κ₁ q₀ q₁ p₀ p₁ x₀ x₁ (body-one τ τ₅ k) k τ (v₅ ∷ [])
+  -- whichever of both lists is loaded, both stay
+  module _ (κ₀ κ₁ : Lft) (q₀ q₁ : Share) (x₀ x₁ : Lent) where
+    either : (w : Which) {K : Type 0} {Γ : List (Item 𝓤)} {E : Env 𝓤 H} → Opd K W Γ E (copy (place 2 [])) (val x₀)
+        → Opd K W Γ E (copy (place 4 [])) (val x₁) → Opd K W Γ E (copy (place (loc w) [])) (val (pick w x₀ x₁))
+    either old a b = a
+    either new a b = b
+
+    loads-which : (w : Which) (p : ℕ) → p < 2 ^ 64 → {K : Type 0} → K → {Γ : List (Item 𝓤)} {E : Env 𝓤 H}
+        {xs : List Operand} {d : Place} {rest : Body} {end : Post 𝓤 H}
+        → ((i j k m : Item 𝓤) → Opds K W (i ∷ j ∷ k ∷ m ∷ Γ) E xs (vint w64 p ∷ val (pick w x₀ x₁) ∷ []))
+        → ((v : Val) → T (hasTy Ro′.mir v) × WT v → Seq K W (‵ (owned-route (loaded p (pick w (x₀ .now) (x₁ .now))) v) ∷ ‵
+        (flft κ₀ q₀) ∷ ‵ (flft κ₁ q₁) ∷ ‵ (own κ₀ x₀) ∷ ‵ (own κ₁ x₁) ∷ Γ) (lands C Λ E d v rest end))
+        → Seq K W (‵ (flft κ₀ q₀) ∷ ‵ (flft κ₁ q₁) ∷ ‵ (own κ₀ x₀) ∷ ‵ (own κ₁ x₁) ∷ Γ)
+        (runs C Λ E (seq (call #load xs d) rest) end)
+    loads-which old p fits t os k =
+        move t (2 ∷ []) $ use1 W (‵ (own κ₀ x₀) ⊛ ‵ (own κ₀ x₀))
+        (shr-slice-copy 𝓤 H A W (named 0) κ₀ St.the-row .twice x₀ (val x₀ ∷ [])) $ split t $ move t (2 ∷ 0 ∷ []) $
+        loads κ₀ q₀ p x₀ fits t (os _ _ _ _) (λ v typed. move t (0 ∷ 1 ∷ 3 ∷ 2 ∷ []) $ k v typed)
+    loads-which new p fits t os k =
+        move t (3 ∷ []) $ use1 W (‵ (own κ₁ x₁) ⊛ ‵ (own κ₁ x₁))
+        (shr-slice-copy 𝓤 H A W (named 0) κ₁ St.the-row .twice x₁ (val x₁ ∷ [])) $ split t $ move t (3 ∷ 0 ∷ []) $
+        loads κ₁ q₁ p x₁ fits t (os _ _ _ _) (λ v typed. move t (0 ∷ 3 ∷ 1 ∷ 4 ∷ 2 ∷ []) $ k v typed)
+
+  module _ (κ₀ κ₁ : Lft) (q₀ q₁ : Share) (p₀ p₁ : ℕ) (x₀ x₁ : Lent) (v w : Which) (fits₀ : p₀ < 2 ^ 64)
+      (fits₁ : p₁ < 2 ^ 64) (room₀ : length (x₀ .now) < 2 ^ 64) (room₁ : length (x₁ .now) < 2 ^ 64) (τ τ₅ : Ty) (k : Name)
+      (v₅ : Val) (wt₅ : T (hasTy τ₅ v₅) × WT v₅) where
+    pub calls-one : Walk 𝓤 H A C Λ κ₀ κ₁ q₀ q₁ p₀ p₁ x₀ x₁ v w (body-one τ τ₅ (loc v) (loc w) k) k τ (v₅ ∷ [])
     calls-one rest Q Kf met ends =
-        qed W (Entered 𝓤 H A C Λ κ₀ κ₁ q₀ q₁ p₀ p₁ x₀ x₁ rest) ∵ enter ! C Λ (body-one τ τ₅ k)
+        qed W (Entered 𝓤 H A C Λ κ₀ κ₁ q₀ q₁ p₀ p₁ x₀ x₁ v w rest) ∵ enter ! C Λ (body-one τ τ₅ (loc v) (loc w) k)
         (vint w64 p₀ ∷ val x₀ ∷ vint w64 p₁ ∷ val x₁ ∷ v₅ ∷ []) _ $ all-locals ! _ (λ l. params1 ! $
         pass1 ! (init ! 12 refl (tt, record { fits = fits₀ })) $
         pass1 ! (init ! 10 refl (tt, (tt, (record { fits = room₀ }, tt)))) $
         pass1 ! (init ! 8 refl (tt, record { fits = fits₁ })) $
-        pass1 ! (init ! 6 refl (tt, (tt, (record { fits = room₁ }, tt)))) $ pass1 ! (init ! 4 refl wt₅) $ pass0 ! $
-        move ! (16 ∷ 18 ∷ []) $ loads κ₀ q₀ p₀ x₀ fits₀ !
-        (and-then ! (held ! 13 refl) (and-then ! (held ! 11 refl) (no-more !)))
-        (λ u typed-u. land ! (from ! (stop !)) (init ! 4 refl typed-u) $
-        move ! (18 ∷ 19 ∷ []) $ loads κ₁ q₁ p₁ x₁ fits₁ !
-        (and-then ! (held ! 11 refl) (and-then ! (held ! 9 refl) (no-more !)))
-        (λ w typed-w. land ! (from ! (stop !)) (init ! 4 refl typed-w) $
+        pass1 ! (init ! 6 refl (tt, (tt, (record { fits = room₁ }, tt)))) $ pass1 ! (init ! 4 refl wt₅) $
+        pass0 ! $ move ! (16 ∷ 17 ∷ 18 ∷ 19 ∷ []) $ loads-which κ₀ κ₁ q₀ q₁ x₀ x₁ v p₀ fits₀ !
+        (λ i j k m. and-then ! (held ! 16 refl) (and-then ! (either κ₀ κ₁ q₀ q₁ x₀ x₁ v (held ! 14 refl)
+        (held ! 10 refl)) (no-more !))) (λ u typed-u. land ! (from ! (stop !)) (init ! 7 refl typed-u) $
+        move ! (1 ∷ 2 ∷ 3 ∷ 4 ∷ []) $ loads-which κ₀ κ₁ q₀ q₁ x₀ x₁ w p₁ fits₁ !
+        (λ i j k m. and-then ! (held ! 13 refl) (and-then ! (either κ₀ κ₁ q₀ q₁ x₀ x₁ w (held ! 15 refl)
+        (held ! 11 refl)) (no-more !))) (λ u′ typed-u′. land ! (from ! (stop !)) (init ! 6 refl typed-u′) $
         -- both routes and what else is owned go to the callee
-        move ! (0 ∷ 20 ∷ []) $ join ! $ move ! (2 ∷ 0 ∷ []) $ join ! $
-        calls-from ! fm _ (u ∷ w ∷ v₅ ∷ []) Q (met u w) (and-then ! (held ! 5 refl) (and-then ! (held ! 3 refl)
-        (and-then ! (held ! 7 refl) (no-more !)))) (λ v. move ! (0 ∷ 2 ∷ 1 ∷ []) $
-        use3 W (later (given (T (hasTy τ v) × WT v) (raw (Kf v)))) (ends v) $ await ! tt $ learn ! (λ typed.
-        land ! (from ! (stop !)) (init ! 15 refl typed) $ returns ! (look ! 15 refl) $
-        move ! (15 ∷ 16 ∷ 13 ∷ 14 ∷ 11 ∷ 12 ∷ 9 ∷ 10 ∷ 7 ∷ 8 ∷ 5 ∷ 6 ∷ 3 ∷ 4 ∷ 1 ∷ 2 ∷ []) $ all-freed ! _ _ $
-        done !)))))
+        move ! (5 ∷ 0 ∷ 22 ∷ []) $ group ! 3 $
+        calls-from ! fm _ (u ∷ u′ ∷ v₅ ∷ []) Q (met u u′)
+        (and-then ! (held ! 7 refl) (and-then ! (held ! 5 refl) (and-then ! (held ! 9 refl) (no-more !)))) (λ r.
+        use3 W (later (given (T (hasTy τ r) × WT r) (raw (Kf r)))) (ends r) $ await ! tt $ learn ! (λ typed.
+        land ! (from ! (stop !)) (init ! 17 refl typed) $ returns ! (look ! 17 refl) $
+        move ! (17 ∷ 18 ∷ 15 ∷ 16 ∷ 13 ∷ 14 ∷ 11 ∷ 12 ∷ 9 ∷ 10 ∷ 7 ∷ 8 ∷ 5 ∷ 6 ∷ 3 ∷ 4 ∷ []) $
+        all-freed ! _ _ $ keep ! (0 ∷ []) $ done !)))))
 
     -- with one more slice
     pub calls-two : (τ₆ : Ty) (v₆ : Val) → T (hasTy τ₆ v₆) × WT v₆
-        → Walk 𝓤 H A C Λ κ₀ κ₁ q₀ q₁ p₀ p₁ x₀ x₁ (body-two τ τ₅ τ₆ k) k τ (v₅ ∷ v₆ ∷ [])
+        → Walk 𝓤 H A C Λ κ₀ κ₁ q₀ q₁ p₀ p₁ x₀ x₁ v w (body-two τ τ₅ τ₆ (loc v) (loc w) k) k τ (v₅ ∷ v₆ ∷ [])
     calls-two τ₆ v₆ wt₆ rest Q Kf met ends =
-        qed W (Entered 𝓤 H A C Λ κ₀ κ₁ q₀ q₁ p₀ p₁ x₀ x₁ rest) ∵ enter ! C Λ (body-two τ τ₅ τ₆ k)
+        qed W (Entered 𝓤 H A C Λ κ₀ κ₁ q₀ q₁ p₀ p₁ x₀ x₁ v w rest) ∵ enter ! C Λ (body-two τ τ₅ τ₆ (loc v) (loc w) k)
         (vint w64 p₀ ∷ val x₀ ∷ vint w64 p₁ ∷ val x₁ ∷ v₅ ∷ v₆ ∷ []) _ $ all-locals ! _ (λ l. params1 ! $
         pass1 ! (init ! 14 refl (tt, record { fits = fits₀ })) $
         pass1 ! (init ! 12 refl (tt, (tt, (record { fits = room₀ }, tt)))) $
         pass1 ! (init ! 10 refl (tt, record { fits = fits₁ })) $
         pass1 ! (init ! 8 refl (tt, (tt, (record { fits = room₁ }, tt)))) $ pass1 ! (init ! 6 refl wt₅) $
-        pass1 ! (init ! 4 refl wt₆) $ pass0 ! $
-        move ! (18 ∷ 20 ∷ []) $ loads κ₀ q₀ p₀ x₀ fits₀ !
-        (and-then ! (held ! 15 refl) (and-then ! (held ! 13 refl) (no-more !)))
-        (λ u typed-u. land ! (from ! (stop !)) (init ! 4 refl typed-u) $
-        move ! (20 ∷ 21 ∷ []) $ loads κ₁ q₁ p₁ x₁ fits₁ !
-        (and-then ! (held ! 13 refl) (and-then ! (held ! 11 refl) (no-more !)))
-        (λ w typed-w. land ! (from ! (stop !)) (init ! 4 refl typed-w) $
+        pass1 ! (init ! 4 refl wt₆) $
+        pass0 ! $ move ! (18 ∷ 19 ∷ 20 ∷ 21 ∷ []) $ loads-which κ₀ κ₁ q₀ q₁ x₀ x₁ v p₀ fits₀ !
+        (λ i j k m. and-then ! (held ! 18 refl) (and-then ! (either κ₀ κ₁ q₀ q₁ x₀ x₁ v (held ! 16 refl)
+        (held ! 12 refl)) (no-more !))) (λ u typed-u. land ! (from ! (stop !)) (init ! 7 refl typed-u) $
+        move ! (1 ∷ 2 ∷ 3 ∷ 4 ∷ []) $ loads-which κ₀ κ₁ q₀ q₁ x₀ x₁ w p₁ fits₁ !
+        (λ i j k m. and-then ! (held ! 15 refl) (and-then ! (either κ₀ κ₁ q₀ q₁ x₀ x₁ w (held ! 17 refl)
+        (held ! 13 refl)) (no-more !))) (λ u′ typed-u′. land ! (from ! (stop !)) (init ! 6 refl typed-u′) $
         -- both routes and what else is owned go to the callee
-        move ! (0 ∷ 22 ∷ []) $ join ! $ move ! (2 ∷ 0 ∷ []) $ join ! $
-        calls-from ! fm _ (u ∷ w ∷ v₅ ∷ v₆ ∷ []) Q (met u w) (and-then ! (held ! 5 refl) (and-then ! (held ! 3 refl)
-        (and-then ! (held ! 9 refl) (and-then ! (held ! 7 refl) (no-more !))))) (λ v. move ! (0 ∷ 2 ∷ 1 ∷ []) $
-        use3 W (later (given (T (hasTy τ v) × WT v) (raw (Kf v)))) (ends v) $ await ! tt $ learn ! (λ typed.
-        land ! (from ! (stop !)) (init ! 17 refl typed) $ returns ! (look ! 17 refl) $
-        move ! (17 ∷ 18 ∷ 15 ∷ 16 ∷ 13 ∷ 14 ∷ 11 ∷ 12 ∷ 9 ∷ 10 ∷ 7 ∷ 8 ∷ 5 ∷ 6 ∷ 3 ∷ 4 ∷ 1 ∷ 2 ∷ []) $
-        all-freed ! _ _ $ done !)))))
+        move ! (5 ∷ 0 ∷ 24 ∷ []) $ group ! 3 $
+        calls-from ! fm _ (u ∷ u′ ∷ v₅ ∷ v₆ ∷ []) Q (met u u′)
+        (and-then ! (held ! 7 refl) (and-then ! (held ! 5 refl) (and-then ! (held ! 11 refl) (and-then ! (held ! 9 refl) (no-more !))))) (λ r.
+        use3 W (later (given (T (hasTy τ r) × WT r) (raw (Kf r)))) (ends r) $ await ! tt $ learn ! (λ typed.
+        land ! (from ! (stop !)) (init ! 19 refl typed) $ returns ! (look ! 19 refl) $
+        move ! (19 ∷ 20 ∷ 17 ∷ 18 ∷ 15 ∷ 16 ∷ 13 ∷ 14 ∷ 11 ∷ 12 ∷ 9 ∷ 10 ∷ 7 ∷ 8 ∷ 5 ∷ 6 ∷ 3 ∷ 4 ∷ []) $
+        all-freed ! _ _ $ keep ! (0 ∷ []) $ done !)))))
 
     -- with bytes that are lent on
     pub calls-mut : (b o n : ℕ) → n < 2 ^ 64
-        → Walk 𝓤 H A C Λ κ₀ κ₁ q₀ q₁ p₀ p₁ x₀ x₁ (body-mut τ τ₅ k) k τ (v₅ ∷ sliceVal (b, o) n ∷ [])
+        → Walk 𝓤 H A C Λ κ₀ κ₁ q₀ q₁ p₀ p₁ x₀ x₁ v w (body-mut τ τ₅ (loc v) (loc w) k) k τ (v₅ ∷ sliceVal (b, o) n ∷ [])
     calls-mut b o n room₆ rest Q Kf met ends =
-        qed W (Entered 𝓤 H A C Λ κ₀ κ₁ q₀ q₁ p₀ p₁ x₀ x₁ rest) ∵ enter ! C Λ (body-mut τ τ₅ k)
-        (vint w64 p₀ ∷ val x₀ ∷ vint w64 p₁ ∷ val x₁ ∷ v₅ ∷ sliceVal (b, o) n ∷ []) _ $
-        all-locals ! _ (λ l. params1 ! $
+        qed W (Entered 𝓤 H A C Λ κ₀ κ₁ q₀ q₁ p₀ p₁ x₀ x₁ v w rest) ∵ enter ! C Λ (body-mut τ τ₅ (loc v) (loc w) k)
+        (vint w64 p₀ ∷ val x₀ ∷ vint w64 p₁ ∷ val x₁ ∷ v₅ ∷ sliceVal (b, o) n ∷ []) _ $ all-locals ! _ (λ l. params1 ! $
         pass1 ! (init ! 18 refl (tt, record { fits = fits₀ })) $
         pass1 ! (init ! 16 refl (tt, (tt, (record { fits = room₀ }, tt)))) $
         pass1 ! (init ! 14 refl (tt, record { fits = fits₁ })) $
         pass1 ! (init ! 12 refl (tt, (tt, (record { fits = room₁ }, tt)))) $ pass1 ! (init ! 10 refl wt₅) $
-        pass1 ! (init ! 8 refl (tt, (tt, (record { fits = room₆ }, tt)))) $ pass0 ! $
-        move ! (22 ∷ 24 ∷ []) $ loads κ₀ q₀ p₀ x₀ fits₀ !
-        (and-then ! (held ! 19 refl) (and-then ! (held ! 17 refl) (no-more !)))
-        (λ u typed-u. land ! (from ! (stop !)) (init ! 8 refl typed-u) $
-        move ! (24 ∷ 25 ∷ []) $ loads κ₁ q₁ p₁ x₁ fits₁ !
-        (and-then ! (held ! 17 refl) (and-then ! (held ! 15 refl) (no-more !)))
-        (λ w typed-w. land ! (from ! (stop !)) (init ! 8 refl typed-w) $
+        pass1 ! (init ! 8 refl (tt, (tt, (record { fits = room₆ }, tt)))) $
+        pass0 ! $ move ! (22 ∷ 23 ∷ 24 ∷ 25 ∷ []) $ loads-which κ₀ κ₁ q₀ q₁ x₀ x₁ v p₀ fits₀ !
+        (λ i j k m. and-then ! (held ! 22 refl) (and-then ! (either κ₀ κ₁ q₀ q₁ x₀ x₁ v (held ! 20 refl)
+        (held ! 16 refl)) (no-more !))) (λ u typed-u. land ! (from ! (stop !)) (init ! 11 refl typed-u) $
+        move ! (1 ∷ 2 ∷ 3 ∷ 4 ∷ []) $ loads-which κ₀ κ₁ q₀ q₁ x₀ x₁ w p₁ fits₁ !
+        (λ i j k m. and-then ! (held ! 19 refl) (and-then ! (either κ₀ κ₁ q₀ q₁ x₀ x₁ w (held ! 21 refl)
+        (held ! 17 refl)) (no-more !))) (λ u′ typed-u′. land ! (from ! (stop !)) (init ! 10 refl typed-u′) $
         -- the bytes are lent on
-        sets ! (addr ! (from ! (fld ! refl (hop ! (look-in ! 12 (sub ! 0 refl (whole !))) (stop !))))) 6 refl (tt, tt) $
-        sets ! (agg ! (and-then ! (held ! 6 refl) (and-then ! (load ! (from ! (fld ! refl (stop !)))
-        (look-in ! 12 (sub ! 1 refl (whole !)))) (no-more !)))) 4 refl (tt, (tt, (record { fits = room₆ }, tt))) $
+        sets ! (addr ! (from ! (fld ! refl (hop ! (look-in ! 14 (sub ! 0 refl (whole !))) (stop !))))) 8 refl (tt, tt) $
+        sets ! (agg ! (and-then ! (held ! 8 refl) (and-then ! (load ! (from ! (fld ! refl (stop !)))
+        (look-in ! 14 (sub ! 1 refl (whole !)))) (no-more !)))) 6 refl (tt, (tt, (record { fits = room₆ }, tt))) $
         -- both routes and what else is owned go to the callee
-        move ! (0 ∷ 26 ∷ []) $ join ! $ move ! (2 ∷ 0 ∷ []) $ join ! $
-        calls-from ! fm _ (u ∷ w ∷ v₅ ∷ sliceVal (b, o) n ∷ []) Q (met u w) (and-then ! (held ! 9 refl)
-        (and-then ! (held ! 7 refl) (and-then ! (held ! 13 refl) (and-then ! (held ! 3 refl) (no-more !)))))
-        (λ v. move ! (0 ∷ 2 ∷ 1 ∷ []) $
-        use3 W (later (given (T (hasTy τ v) × WT v) (raw (Kf v)))) (ends v) $ await ! tt $ learn ! (λ typed.
-        land ! (from ! (stop !)) (init ! 21 refl typed) $ returns ! (look ! 21 refl) $
-        move ! (21 ∷ 22 ∷ 19 ∷ 20 ∷ 17 ∷ 18 ∷ 15 ∷ 16 ∷ 13 ∷ 14 ∷ 11 ∷ 12 ∷ 9 ∷ 10 ∷ 7 ∷ 8 ∷ 5 ∷ 6 ∷ 3 ∷ 4 ∷ 1 ∷ 2 ∷
-        []) $ all-freed ! _ _ $ done !)))))
+        move ! (5 ∷ 0 ∷ 28 ∷ []) $ group ! 3 $
+        calls-from ! fm _ (u ∷ u′ ∷ v₅ ∷ sliceVal (b, o) n ∷ []) Q (met u u′)
+        (and-then ! (held ! 11 refl) (and-then ! (held ! 9 refl) (and-then ! (held ! 15 refl) (and-then ! (held ! 5 refl) (no-more !))))) (λ r.
+        use3 W (later (given (T (hasTy τ r) × WT r) (raw (Kf r)))) (ends r) $ await ! tt $ learn ! (λ typed.
+        land ! (from ! (stop !)) (init ! 23 refl typed) $ returns ! (look ! 23 refl) $
+        move ! (23 ∷ 24 ∷ 21 ∷ 22 ∷ 19 ∷ 20 ∷ 17 ∷ 18 ∷ 15 ∷ 16 ∷ 13 ∷ 14 ∷ 11 ∷ 12 ∷ 9 ∷ 10 ∷ 7 ∷ 8 ∷ 5 ∷ 6 ∷ 3 ∷ 4 ∷ []) $
+        all-freed ! _ _ $ keep ! (0 ∷ []) $ done !)))))

@@ -86,7 +86,7 @@ pub fn write(
     ensures { λ r. ⌜ (r ≡ wrote (lentJob «old_places» (now (old .entry)) «new_places» (now (new .entry)) (now (done .entry))) (length (now (out .entry))))
         × (now (out .exit) ≡ outAfter (lentJob «old_places» (now (old .entry)) «new_places» (now (new .entry)) (now (done .entry))) (now (out .entry))) ⌝ }
 {
-    let a = load(old_places, old);
-    let b = load(new_places, new);
-    writer::writes::write(a, b, done, out)
+    let from = load(old_places, old);
+    let to = load(new_places, new);
+    writer::writes::write(from, to, done, out)
 }
