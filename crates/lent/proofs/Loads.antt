@@ -1,6 +1,6 @@
 -- Both lists are loaded and another function is called: a walk of the MIR that every operation over lent lists has, whatever it is called with
 -- besides the two routes and whatever it gives.
-use mathlib.Core.Path.{_≡_, refl}
+use mathlib.Core.Path.{_≡_, refl, subst}
 use Prim.Native.Nat.{ℕ, zero, suc, _<_, _^_}
 use mathlib.Core.List.{List, [], _∷_}
 use lib.ListN.{length}
@@ -16,7 +16,7 @@ use prog.Wp.{Heap, Env, Calls, Loops, WpFn}
 use ghost.Atoms.{Atoms}
 use contract.Monad.{Fun}
 use sound.WpLaws.{FmC}
-use types.Kit.{Given, Item, Post, Seq, ‵, raw, _⊛_, given, later, ⋆, mean, _$_, _∵_, !, qed, move, drop, use1, use2, use3, split, join, learn, rewrite, fjoin, lands, runs, await, frame, done, group, keep}
+use types.Kit.{Given, Item, Post, Seq, ‵, raw, _⊛_, given, later, ⋆, mean, _$_, _∵_, !, qed, move, drop, use1, use2, use3, split, join, learn, fjoin, lands, runs, await, frame, done, group, keep}
 use types.Part.{whole, sub, look-in, agg}
 use types.Run.{Opd, Opds, look, init, stop, hop, fld, from, load, addr, and-then, no-more, land, returns, enter, params1, pass1, pass0}
 use denote.Laws.{Is}
@@ -58,7 +58,7 @@ val x = sliceVal (x .ptr) (length (x .now))
 abbrev pub fetch : ℕ → ℕ → ℕ → Body
 fetch p x r = call #load (copy (place p []) ∷ copy (place x []) ∷ []) (place r [])
 
--- which of the two lists is loaded; the locals that hold them are 2 and 4
+-- one of two: of the lists, of the routes
 pub data Which : Type 0 where
   old : Which
   new : Which
@@ -67,14 +67,32 @@ abbrev pub pick : {X : Type 0} → Which → X → X → X
 pick old a b = a
 pick new a b = b
 
-abbrev pub loc : Which → ℕ
-loc w = pick w 2 4
+-- which list each route is loaded from, and which route is the callee's first and second
+abbrev pub Choice : Type 0
+Choice = Which × (Which × (Which × Which))
 
-abbrev pub which : ℕ → Which
-which zero = new
-which (suc zero) = new
-which (suc (suc zero)) = old
-which (suc (suc (suc n))) = new
+-- the locals that the MIR reads there: the lists are 2 and 4, the routes r and the next
+abbrev pub Reads : Type 0
+Reads = ℕ × (ℕ × (ℕ × ℕ))
+
+abbrev pub reads : ℕ → Choice → Reads
+reads r c = (pick (c .0) 2 4, (pick (c .1 .0) 2 4, (pick (c .1 .1 .0) r (suc r), pick (c .1 .1 .1) r (suc r))))
+
+abbrev which : ℕ → ℕ → Which
+which zero zero = old
+which zero (suc b) = new
+which (suc a) zero = new
+which (suc a) (suc b) = which a b
+
+abbrev pub choice : ℕ → Reads → Choice
+choice r n = (which 2 (n .0), (which 2 (n .1 .0), (which r (n .1 .1 .0), which r (n .1 .1 .1))))
+
+-- the routes that the callee gets
+abbrev pub firstOf : Choice → ℕ → List Step → ℕ → List Step → Route
+firstOf c p l q m = pick (c .1 .1 .0) (loaded p (pick (c .0) l m)) (loaded q (pick (c .1 .0) l m))
+
+abbrev pub secondOf : Choice → ℕ → List Step → ℕ → List Step → Route
+secondOf c p l q m = pick (c .1 .1 .1) (loaded p (pick (c .0) l m)) (loaded q (pick (c .1 .0) l m))
 
 -- the MIR: both lists are loaded, and the operation over routes is called with them and what else there is
 abbrev lists : List Local → List Local
@@ -83,37 +101,37 @@ lists ls = value word ∷ value (listTy 0) ∷ value word ∷ value (listTy 1) �
 abbrev calls : Name → (a b : ℕ) → List Operand → Body
 calls k a b more = seq (call k (copy (place a []) ∷ copy (place b []) ∷ more) (place 0 [])) return
 
-abbrev pub body-one : (τ τ₅ : Ty) (x y : ℕ) → Name → Fn
-body-one τ τ₅ x y k = record {
+abbrev pub body-one : (τ τ₅ : Ty) → Reads → Name → Fn
+body-one τ τ₅ n k = record {
   lifetimes = 3;
   outlives = [];
   params = 5;
   locals = value τ ∷ lists (value τ₅ ∷ value Ro′.mir ∷ value Ro′.mir ∷ []);
-  body = seq (fetch 1 x 6) (seq (fetch 3 y 7) (calls k 6 7 (copy (place 5 []) ∷ [])));
+  body = seq (fetch 1 (n .0) 6) (seq (fetch 3 (n .1 .0) 7) (calls k (n .1 .1 .0) (n .1 .1 .1) (copy (place 5 []) ∷ [])));
 }
 
 -- with one more slice
-abbrev pub body-two : (τ τ₅ τ₆ : Ty) (x y : ℕ) → Name → Fn
-body-two τ τ₅ τ₆ x y k = record {
+abbrev pub body-two : (τ τ₅ τ₆ : Ty) → Reads → Name → Fn
+body-two τ τ₅ τ₆ n k = record {
   lifetimes = 4;
   outlives = [];
   params = 6;
   locals = value τ ∷ lists (value τ₅ ∷ value τ₆ ∷ value Ro′.mir ∷ value Ro′.mir ∷ []);
-  body = seq (fetch 1 x 7) (seq (fetch 3 y 8) (calls k 7 8 (copy (place 5 []) ∷ copy (place 6 []) ∷ [])));
+  body = seq (fetch 1 (n .0) 7) (seq (fetch 3 (n .1 .0) 8) (calls k (n .1 .1 .0) (n .1 .1 .1) (copy (place 5 []) ∷ copy (place 6 []) ∷ [])));
 }
 
 -- with bytes that are lent on
-abbrev pub body-mut : (τ τ₅ : Ty) (x y : ℕ) → Name → Fn
-body-mut τ τ₅ x y k = record {
+abbrev pub body-mut : (τ τ₅ : Ty) → Reads → Name → Fn
+body-mut τ τ₅ n k = record {
   lifetimes = 4;
   outlives = [];
   params = 6;
   locals = value τ ∷ lists (value τ₅ ∷ value (sliceTy (tyRef (named 3) mut (tyInt w8))) ∷ value Ro′.mir ∷
       value Ro′.mir ∷ value (tyRef erased mut (tyInt w8)) ∷ value (sliceTy (tyRef erased mut (tyInt w8))) ∷ []);
-  body = seq (fetch 1 x 7) (seq (fetch 3 y 8)
+  body = seq (fetch 1 (n .0) 7) (seq (fetch 3 (n .1 .0) 8)
       (seq (assign (place 9 []) (addrOf (place 6 (field 0 ∷ deref (tyInt w8) ∷ []))))
       (seq (assign (place 10 []) (aggregate (copy (place 9 []) ∷ copy (place 6 (field 1 ∷ [])) ∷ [])))
-      (calls k 7 8 (copy (place 5 []) ∷ copy (place 10 []) ∷ [])))));
+      (calls k (n .1 .1 .0) (n .1 .1 .1) (copy (place 5 []) ∷ copy (place 10 []) ∷ [])))));
 }
 
 module _ {M : Type 1} (𝓤 : URA M) (H : Heap 𝓤) (A : Atoms 𝓤) (mem : Memory → SProp 𝓤) (run : Routine → Fun 𝓤) where
@@ -127,19 +145,31 @@ abbrev pub owned-route : Route → Val → Fml
 owned-route r v = Ro.the-row .own r (v ∷ [])
 
 module _ {M : Type 1} (𝓤 : URA M) (H : Heap 𝓤) (A : Atoms 𝓤) (C : Calls 𝓤 H) (Λ : Loops 𝓤 H) (κ₀ κ₁ : Lft)
-    (q₀ q₁ : Share) (p₀ p₁ : ℕ) (x₀ x₁ : Lent) (v w : Which) where
+    (q₀ q₁ : Share) (p₀ p₁ : ℕ) (x₀ x₁ : Lent) (c : Choice) where
   abbrev Entered : SProp 𝓤 → List (Item 𝓤)
   Entered rest = ‵ (flft κ₀ q₀) ∷ ‵ (flft κ₁ q₁) ∷ ‵ (own κ₀ x₀) ∷ ‵ (own κ₁ x₁) ∷ raw rest ∷ []
 
   -- a walk that hands both routes and the values us to k: whatever k is given besides the routes, and whatever it gives
   abbrev pub Walk : Fn → Name → Ty → List Val → Type 2
   Walk body k τ us = (rest : SProp 𝓤) (Q Kf : Val → SProp 𝓤)
-      → ((u w′ : Val) → ent 𝓤 (mean 𝓤 H A (‵ (owned-route (loaded p₀ (pick v (x₀ .now) (x₁ .now))) u) ⊛
-      (‵ (owned-route (loaded p₁ (pick w (x₀ .now) (x₁ .now))) w′) ⊛ raw rest))) (C k (u ∷ w′ ∷ us) Q))
+      → ((u u′ : Val) → ent 𝓤 (mean 𝓤 H A (‵ (owned-route (firstOf c p₀ (x₀ .now) p₁ (x₁ .now)) u) ⊛
+      (‵ (owned-route (secondOf c p₀ (x₀ .now) p₁ (x₁ .now)) u′) ⊛ raw rest))) (C k (u ∷ u′ ∷ us) Q))
       → ((r : Val) → ent 𝓤 (⋆ 𝓤 H A (raw (Q r) ∷ ‵ (flft κ₀ q₀) ∷ ‵ (flft κ₁ q₁) ∷ []))
       (mean 𝓤 H A (later (given (T (hasTy τ r) × WT r) (raw (Kf r))))))
       → ent 𝓤 (⋆ 𝓤 H A (Entered rest))
       (WpFn 𝓤 H C Λ body (vint w64 p₀ ∷ val x₀ ∷ vint w64 p₁ ∷ val x₁ ∷ us) Kf)
+
+-- the local that is read is one of two
+either : {M : Type 1} {𝓤 : URA M} {H : Heap 𝓤} {A : Atoms 𝓤} {W : Given 𝓤 H A} (w : Which) {K : Type 0}
+    {Γ : List (Item 𝓤)} {E : Env 𝓤 H} {i j : ℕ} {u v : Val} → Opd K W Γ E (copy (place i [])) u
+    → Opd K W Γ E (copy (place j [])) v → Opd K W Γ E (copy (place (pick w i j) [])) (pick w u v)
+either old a b = a
+either new a b = b
+
+picked : (w : Which) (a b : Route) {u v : Val} → Is Ro.the-row a (u ∷ []) → Is Ro.the-row b (v ∷ [])
+    → Is Ro.the-row (pick w a b) (pick w u v ∷ [])
+picked old a b x y = x
+picked new a b x y = y
 
 module _ {M : Type 1} (𝓤 : URA M) (H : Heap 𝓤) (A : Atoms 𝓤) (W : Given 𝓤 H A) (mem : Memory → SProp 𝓤)
     (run : Routine → Fun 𝓤) (C : Calls 𝓤 H) (Λ : Loops 𝓤 H) (fm : FmC 𝓤 H (W .laws) C)
@@ -157,60 +187,67 @@ module _ {M : Type 1} (𝓤 : URA M) (H : Heap 𝓤) (A : Atoms 𝓤) (W : Given
 
     pub loads : {K : Type 0} → K → {Γ : List (Item 𝓤)} {E : Env 𝓤 H} {xs : List Operand} {d : Place} {rest : Body}
         {end : Post 𝓤 H} → Opds K W (raw (Load 𝓤 H A mem run .pre to) ∷ Γ) E xs (vint w64 p ∷ val x ∷ [])
-        → ((v : Val) → T (hasTy Ro′.mir v) × WT v → Seq K W (‵ (owned-route (loaded p (x .now)) v) ∷ ‵ (flft κ q) ∷ Γ)
-        (lands C Λ E d v rest end))
+        → ((v : Val) → Is Ro.the-row (loaded p (x .now)) (v ∷ []) → Seq K W (‵ (flft κ q) ∷ Γ) (lands C Λ E d v rest end))
         → Seq K W (‵ (flft κ q) ∷ ‵ (own κ x) ∷ Γ) (runs C Λ E (seq (call #load xs d) rest) end)
     loads t os k =
         use2 W (raw (Load 𝓤 H A mem run .pre to)) asks $ calls-at t fm (Load 𝓤 H A mem run) known to os (λ v.
         told 𝓤 H A W load′.ended (load′.clauses 𝓤 H A mem run) to v t tt (λ r ws. r ≡ loaded p (x .now))
-        (λ r ws. id⊢ 𝓤 _) (λ r ws e is. rewrite t 0 (λ (s : Route). ‵ (owned-route s v)) e refl $
-        move t (1 ∷ []) $ use1 W (‵ (flft κ q) ⊛ ‵ ftrue) (id⊢ 𝓤 _) $ split t $ move t (1 ∷ 3 ∷ 2 ∷ []) $
-        drop t $ drop t $ k v (LL.lawful Ro.the-type Ro′.the-laws 𝓤 H A W .typed r _ is .0)))
+        (λ r ws. id⊢ 𝓤 _) (λ r ws e is. drop t $ use1 W (‵ (flft κ q) ⊛ ‵ ftrue) (id⊢ 𝓤 _) $ split t $
+        move t (1 ∷ 2 ∷ []) $ drop t $ drop t $ k v (subst (λ (s : Route). Is Ro.the-row s (v ∷ [])) e is)))
 
   -- whichever of both lists is loaded, both stay
   module _ (κ₀ κ₁ : Lft) (q₀ q₁ : Share) (x₀ x₁ : Lent) where
-    either : (w : Which) {K : Type 0} {Γ : List (Item 𝓤)} {E : Env 𝓤 H} → Opd K W Γ E (copy (place 2 [])) (val x₀)
-        → Opd K W Γ E (copy (place 4 [])) (val x₁) → Opd K W Γ E (copy (place (loc w) [])) (val (pick w x₀ x₁))
-    either old a b = a
-    either new a b = b
-
     loads-which : (w : Which) (p : ℕ) → p < 2 ^ 64 → {K : Type 0} → K → {Γ : List (Item 𝓤)} {E : Env 𝓤 H}
         {xs : List Operand} {d : Place} {rest : Body} {end : Post 𝓤 H}
-        → ((i j k m : Item 𝓤) → Opds K W (i ∷ j ∷ k ∷ m ∷ Γ) E xs (vint w64 p ∷ val (pick w x₀ x₁) ∷ []))
-        → ((v : Val) → T (hasTy Ro′.mir v) × WT v → Seq K W (‵ (owned-route (loaded p (pick w (x₀ .now) (x₁ .now))) v) ∷ ‵
-        (flft κ₀ q₀) ∷ ‵ (flft κ₁ q₁) ∷ ‵ (own κ₀ x₀) ∷ ‵ (own κ₁ x₁) ∷ Γ) (lands C Λ E d v rest end))
+        → ((i j k m : Item 𝓤) → Opds K W (i ∷ j ∷ k ∷ m ∷ Γ) E xs (vint w64 p ∷ pick w (val x₀) (val x₁) ∷ []))
+        → ((v : Val) → Is Ro.the-row (loaded p (pick w (x₀ .now) (x₁ .now))) (v ∷ []) → Seq K W (‵ (flft κ₀ q₀) ∷ ‵
+        (flft κ₁ q₁) ∷ ‵ (own κ₀ x₀) ∷ ‵ (own κ₁ x₁) ∷ Γ) (lands C Λ E d v rest end))
         → Seq K W (‵ (flft κ₀ q₀) ∷ ‵ (flft κ₁ q₁) ∷ ‵ (own κ₀ x₀) ∷ ‵ (own κ₁ x₁) ∷ Γ)
         (runs C Λ E (seq (call #load xs d) rest) end)
     loads-which old p fits t os k =
         move t (2 ∷ []) $ use1 W (‵ (own κ₀ x₀) ⊛ ‵ (own κ₀ x₀))
         (shr-slice-copy 𝓤 H A W (named 0) κ₀ St.the-row .twice x₀ (val x₀ ∷ [])) $ split t $ move t (2 ∷ 0 ∷ []) $
-        loads κ₀ q₀ p x₀ fits t (os _ _ _ _) (λ v typed. move t (0 ∷ 1 ∷ 3 ∷ 2 ∷ []) $ k v typed)
+        loads κ₀ q₀ p x₀ fits t (os _ _ _ _) (λ v is. move t (0 ∷ 2 ∷ 1 ∷ []) $ k v is)
     loads-which new p fits t os k =
         move t (3 ∷ []) $ use1 W (‵ (own κ₁ x₁) ⊛ ‵ (own κ₁ x₁))
         (shr-slice-copy 𝓤 H A W (named 0) κ₁ St.the-row .twice x₁ (val x₁ ∷ [])) $ split t $ move t (3 ∷ 0 ∷ []) $
-        loads κ₁ q₁ p x₁ fits t (os _ _ _ _) (λ v typed. move t (0 ∷ 3 ∷ 1 ∷ 4 ∷ 2 ∷ []) $ k v typed)
+        loads κ₁ q₁ p x₁ fits t (os _ _ _ _) (λ v is. move t (2 ∷ 0 ∷ 3 ∷ 1 ∷ []) $ k v is)
 
-  module _ (κ₀ κ₁ : Lft) (q₀ q₁ : Share) (p₀ p₁ : ℕ) (x₀ x₁ : Lent) (v w : Which) (fits₀ : p₀ < 2 ^ 64)
+  module _ (κ₀ κ₁ : Lft) (q₀ q₁ : Share) (p₀ p₁ : ℕ) (x₀ x₁ : Lent) (c : Choice) (fits₀ : p₀ < 2 ^ 64)
       (fits₁ : p₁ < 2 ^ 64) (room₀ : length (x₀ .now) < 2 ^ 64) (room₁ : length (x₁ .now) < 2 ^ 64) (τ τ₅ : Ty) (k : Name)
       (v₅ : Val) (wt₅ : T (hasTy τ₅ v₅) × WT v₅) where
-    pub calls-one : Walk 𝓤 H A C Λ κ₀ κ₁ q₀ q₁ p₀ p₁ x₀ x₁ v w (body-one τ τ₅ (loc v) (loc w) k) k τ (v₅ ∷ [])
+    abbrev a : Route
+    a = loaded p₀ (pick (c .0) (x₀ .now) (x₁ .now))
+
+    abbrev b : Route
+    b = loaded p₁ (pick (c .1 .0) (x₀ .now) (x₁ .now))
+
+    typed-route : (r : Route) (v : Val) → Is Ro.the-row r (v ∷ []) → T (hasTy Ro′.mir v) × WT v
+    typed-route r v is = LL.lawful Ro.the-type Ro′.the-laws 𝓤 H A W .typed r _ is .0
+
+    pub calls-one : Walk 𝓤 H A C Λ κ₀ κ₁ q₀ q₁ p₀ p₁ x₀ x₁ c (body-one τ τ₅ (reads 6 c) k) k τ (v₅ ∷ [])
     calls-one rest Q Kf met ends =
-        qed W (Entered 𝓤 H A C Λ κ₀ κ₁ q₀ q₁ p₀ p₁ x₀ x₁ v w rest) ∵ enter ! C Λ (body-one τ τ₅ (loc v) (loc w) k)
+        qed W (Entered 𝓤 H A C Λ κ₀ κ₁ q₀ q₁ p₀ p₁ x₀ x₁ c rest) ∵ enter ! C Λ (body-one τ τ₅ (reads 6 c) k)
         (vint w64 p₀ ∷ val x₀ ∷ vint w64 p₁ ∷ val x₁ ∷ v₅ ∷ []) _ $ all-locals ! _ (λ l. params1 ! $
         pass1 ! (init ! 12 refl (tt, record { fits = fits₀ })) $
         pass1 ! (init ! 10 refl (tt, (tt, (record { fits = room₀ }, tt)))) $
         pass1 ! (init ! 8 refl (tt, record { fits = fits₁ })) $
         pass1 ! (init ! 6 refl (tt, (tt, (record { fits = room₁ }, tt)))) $ pass1 ! (init ! 4 refl wt₅) $
-        pass0 ! $ move ! (16 ∷ 17 ∷ 18 ∷ 19 ∷ []) $ loads-which κ₀ κ₁ q₀ q₁ x₀ x₁ v p₀ fits₀ !
-        (λ i j k m. and-then ! (held ! 16 refl) (and-then ! (either κ₀ κ₁ q₀ q₁ x₀ x₁ v (held ! 14 refl)
-        (held ! 10 refl)) (no-more !))) (λ u typed-u. land ! (from ! (stop !)) (init ! 7 refl typed-u) $
-        move ! (1 ∷ 2 ∷ 3 ∷ 4 ∷ []) $ loads-which κ₀ κ₁ q₀ q₁ x₀ x₁ w p₁ fits₁ !
-        (λ i j k m. and-then ! (held ! 13 refl) (and-then ! (either κ₀ κ₁ q₀ q₁ x₀ x₁ w (held ! 15 refl)
-        (held ! 11 refl)) (no-more !))) (λ u′ typed-u′. land ! (from ! (stop !)) (init ! 6 refl typed-u′) $
-        -- both routes and what else is owned go to the callee
-        move ! (5 ∷ 0 ∷ 22 ∷ []) $ group ! 3 $
-        calls-from ! fm _ (u ∷ u′ ∷ v₅ ∷ []) Q (met u u′)
-        (and-then ! (held ! 7 refl) (and-then ! (held ! 5 refl) (and-then ! (held ! 9 refl) (no-more !)))) (λ r.
+        pass0 ! $ move ! (16 ∷ 17 ∷ 18 ∷ 19 ∷ []) $ loads-which κ₀ κ₁ q₀ q₁ x₀ x₁ (c .0) p₀ fits₀ !
+        (λ i j k m. and-then ! (held ! 16 refl) (and-then ! (either (c .0) (held ! 14 refl)
+        (held ! 10 refl)) (no-more !))) (λ u is. land ! (from ! (stop !)) (init ! 6 refl (typed-route a u is)) $
+        loads-which κ₀ κ₁ q₀ q₁ x₀ x₁ (c .1 .0) p₁ fits₁ !
+        (λ i j k m. and-then ! (held ! 12 refl) (and-then ! (either (c .1 .0) (held ! 14 refl)
+        (held ! 10 refl)) (no-more !))) (λ u′ is′. land ! (from ! (stop !)) (init ! 4 refl (typed-route b u′ is′)) $
+        -- the callee's two routes and what else is owned go to it
+        owned ! Ro.the-row (Is Ro.the-row) (LL.makes Ro.the-type Ro′.the-plain 𝓤 H A) (pick (c .1 .1 .1) a b) _
+        (picked (c .1 .1 .1) a b is is′) $
+        owned ! Ro.the-row (Is Ro.the-row) (LL.makes Ro.the-type Ro′.the-plain 𝓤 H A) (pick (c .1 .1 .0) a b) _
+        (picked (c .1 .1 .0) a b is is′) $
+        move ! (0 ∷ 1 ∷ 22 ∷ []) $ group ! 3 $
+        calls-from ! fm _ (pick (c .1 .1 .0) u u′ ∷ pick (c .1 .1 .1) u u′ ∷ v₅ ∷ []) Q (met _ _)
+        (and-then ! (either (c .1 .1 .0) (held ! 7 refl) (held ! 5 refl))
+        (and-then ! (either (c .1 .1 .1) (held ! 7 refl) (held ! 5 refl)) (and-then ! (held ! 9 refl) (no-more !)))) (λ r.
         use3 W (later (given (T (hasTy τ r) × WT r) (raw (Kf r)))) (ends r) $ await ! tt $ learn ! (λ typed.
         land ! (from ! (stop !)) (init ! 17 refl typed) $ returns ! (look ! 17 refl) $
         move ! (17 ∷ 18 ∷ 15 ∷ 16 ∷ 13 ∷ 14 ∷ 11 ∷ 12 ∷ 9 ∷ 10 ∷ 7 ∷ 8 ∷ 5 ∷ 6 ∷ 3 ∷ 4 ∷ []) $
@@ -218,55 +255,65 @@ module _ {M : Type 1} (𝓤 : URA M) (H : Heap 𝓤) (A : Atoms 𝓤) (W : Given
 
     -- with one more slice
     pub calls-two : (τ₆ : Ty) (v₆ : Val) → T (hasTy τ₆ v₆) × WT v₆
-        → Walk 𝓤 H A C Λ κ₀ κ₁ q₀ q₁ p₀ p₁ x₀ x₁ v w (body-two τ τ₅ τ₆ (loc v) (loc w) k) k τ (v₅ ∷ v₆ ∷ [])
+        → Walk 𝓤 H A C Λ κ₀ κ₁ q₀ q₁ p₀ p₁ x₀ x₁ c (body-two τ τ₅ τ₆ (reads 7 c) k) k τ (v₅ ∷ v₆ ∷ [])
     calls-two τ₆ v₆ wt₆ rest Q Kf met ends =
-        qed W (Entered 𝓤 H A C Λ κ₀ κ₁ q₀ q₁ p₀ p₁ x₀ x₁ v w rest) ∵ enter ! C Λ (body-two τ τ₅ τ₆ (loc v) (loc w) k)
+        qed W (Entered 𝓤 H A C Λ κ₀ κ₁ q₀ q₁ p₀ p₁ x₀ x₁ c rest) ∵ enter ! C Λ (body-two τ τ₅ τ₆ (reads 7 c) k)
         (vint w64 p₀ ∷ val x₀ ∷ vint w64 p₁ ∷ val x₁ ∷ v₅ ∷ v₆ ∷ []) _ $ all-locals ! _ (λ l. params1 ! $
         pass1 ! (init ! 14 refl (tt, record { fits = fits₀ })) $
         pass1 ! (init ! 12 refl (tt, (tt, (record { fits = room₀ }, tt)))) $
         pass1 ! (init ! 10 refl (tt, record { fits = fits₁ })) $
         pass1 ! (init ! 8 refl (tt, (tt, (record { fits = room₁ }, tt)))) $ pass1 ! (init ! 6 refl wt₅) $
         pass1 ! (init ! 4 refl wt₆) $
-        pass0 ! $ move ! (18 ∷ 19 ∷ 20 ∷ 21 ∷ []) $ loads-which κ₀ κ₁ q₀ q₁ x₀ x₁ v p₀ fits₀ !
-        (λ i j k m. and-then ! (held ! 18 refl) (and-then ! (either κ₀ κ₁ q₀ q₁ x₀ x₁ v (held ! 16 refl)
-        (held ! 12 refl)) (no-more !))) (λ u typed-u. land ! (from ! (stop !)) (init ! 7 refl typed-u) $
-        move ! (1 ∷ 2 ∷ 3 ∷ 4 ∷ []) $ loads-which κ₀ κ₁ q₀ q₁ x₀ x₁ w p₁ fits₁ !
-        (λ i j k m. and-then ! (held ! 15 refl) (and-then ! (either κ₀ κ₁ q₀ q₁ x₀ x₁ w (held ! 17 refl)
-        (held ! 13 refl)) (no-more !))) (λ u′ typed-u′. land ! (from ! (stop !)) (init ! 6 refl typed-u′) $
-        -- both routes and what else is owned go to the callee
-        move ! (5 ∷ 0 ∷ 24 ∷ []) $ group ! 3 $
-        calls-from ! fm _ (u ∷ u′ ∷ v₅ ∷ v₆ ∷ []) Q (met u u′)
-        (and-then ! (held ! 7 refl) (and-then ! (held ! 5 refl) (and-then ! (held ! 11 refl) (and-then ! (held ! 9 refl) (no-more !))))) (λ r.
+        pass0 ! $ move ! (18 ∷ 19 ∷ 20 ∷ 21 ∷ []) $ loads-which κ₀ κ₁ q₀ q₁ x₀ x₁ (c .0) p₀ fits₀ !
+        (λ i j k m. and-then ! (held ! 18 refl) (and-then ! (either (c .0) (held ! 16 refl)
+        (held ! 12 refl)) (no-more !))) (λ u is. land ! (from ! (stop !)) (init ! 6 refl (typed-route a u is)) $
+        loads-which κ₀ κ₁ q₀ q₁ x₀ x₁ (c .1 .0) p₁ fits₁ !
+        (λ i j k m. and-then ! (held ! 14 refl) (and-then ! (either (c .1 .0) (held ! 16 refl)
+        (held ! 12 refl)) (no-more !))) (λ u′ is′. land ! (from ! (stop !)) (init ! 4 refl (typed-route b u′ is′)) $
+        -- the callee's two routes and what else is owned go to it
+        owned ! Ro.the-row (Is Ro.the-row) (LL.makes Ro.the-type Ro′.the-plain 𝓤 H A) (pick (c .1 .1 .1) a b) _
+        (picked (c .1 .1 .1) a b is is′) $
+        owned ! Ro.the-row (Is Ro.the-row) (LL.makes Ro.the-type Ro′.the-plain 𝓤 H A) (pick (c .1 .1 .0) a b) _
+        (picked (c .1 .1 .0) a b is is′) $
+        move ! (0 ∷ 1 ∷ 24 ∷ []) $ group ! 3 $
+        calls-from ! fm _ (pick (c .1 .1 .0) u u′ ∷ pick (c .1 .1 .1) u u′ ∷ v₅ ∷ v₆ ∷ []) Q (met _ _)
+        (and-then ! (either (c .1 .1 .0) (held ! 7 refl) (held ! 5 refl))
+        (and-then ! (either (c .1 .1 .1) (held ! 7 refl) (held ! 5 refl)) (and-then ! (held ! 11 refl) (and-then ! (held ! 9 refl) (no-more !))))) (λ r.
         use3 W (later (given (T (hasTy τ r) × WT r) (raw (Kf r)))) (ends r) $ await ! tt $ learn ! (λ typed.
         land ! (from ! (stop !)) (init ! 19 refl typed) $ returns ! (look ! 19 refl) $
         move ! (19 ∷ 20 ∷ 17 ∷ 18 ∷ 15 ∷ 16 ∷ 13 ∷ 14 ∷ 11 ∷ 12 ∷ 9 ∷ 10 ∷ 7 ∷ 8 ∷ 5 ∷ 6 ∷ 3 ∷ 4 ∷ []) $
         all-freed ! _ _ $ keep ! (0 ∷ []) $ done !)))))
 
     -- with bytes that are lent on
-    pub calls-mut : (b o n : ℕ) → n < 2 ^ 64
-        → Walk 𝓤 H A C Λ κ₀ κ₁ q₀ q₁ p₀ p₁ x₀ x₁ v w (body-mut τ τ₅ (loc v) (loc w) k) k τ (v₅ ∷ sliceVal (b, o) n ∷ [])
-    calls-mut b o n room₆ rest Q Kf met ends =
-        qed W (Entered 𝓤 H A C Λ κ₀ κ₁ q₀ q₁ p₀ p₁ x₀ x₁ v w rest) ∵ enter ! C Λ (body-mut τ τ₅ (loc v) (loc w) k)
-        (vint w64 p₀ ∷ val x₀ ∷ vint w64 p₁ ∷ val x₁ ∷ v₅ ∷ sliceVal (b, o) n ∷ []) _ $ all-locals ! _ (λ l. params1 ! $
+    pub calls-mut : (e o n : ℕ) → n < 2 ^ 64
+        → Walk 𝓤 H A C Λ κ₀ κ₁ q₀ q₁ p₀ p₁ x₀ x₁ c (body-mut τ τ₅ (reads 7 c) k) k τ (v₅ ∷ sliceVal (e, o) n ∷ [])
+    calls-mut e o n room₆ rest Q Kf met ends =
+        qed W (Entered 𝓤 H A C Λ κ₀ κ₁ q₀ q₁ p₀ p₁ x₀ x₁ c rest) ∵ enter ! C Λ (body-mut τ τ₅ (reads 7 c) k)
+        (vint w64 p₀ ∷ val x₀ ∷ vint w64 p₁ ∷ val x₁ ∷ v₅ ∷ sliceVal (e, o) n ∷ []) _ $ all-locals ! _ (λ l. params1 ! $
         pass1 ! (init ! 18 refl (tt, record { fits = fits₀ })) $
         pass1 ! (init ! 16 refl (tt, (tt, (record { fits = room₀ }, tt)))) $
         pass1 ! (init ! 14 refl (tt, record { fits = fits₁ })) $
         pass1 ! (init ! 12 refl (tt, (tt, (record { fits = room₁ }, tt)))) $ pass1 ! (init ! 10 refl wt₅) $
         pass1 ! (init ! 8 refl (tt, (tt, (record { fits = room₆ }, tt)))) $
-        pass0 ! $ move ! (22 ∷ 23 ∷ 24 ∷ 25 ∷ []) $ loads-which κ₀ κ₁ q₀ q₁ x₀ x₁ v p₀ fits₀ !
-        (λ i j k m. and-then ! (held ! 22 refl) (and-then ! (either κ₀ κ₁ q₀ q₁ x₀ x₁ v (held ! 20 refl)
-        (held ! 16 refl)) (no-more !))) (λ u typed-u. land ! (from ! (stop !)) (init ! 11 refl typed-u) $
-        move ! (1 ∷ 2 ∷ 3 ∷ 4 ∷ []) $ loads-which κ₀ κ₁ q₀ q₁ x₀ x₁ w p₁ fits₁ !
-        (λ i j k m. and-then ! (held ! 19 refl) (and-then ! (either κ₀ κ₁ q₀ q₁ x₀ x₁ w (held ! 21 refl)
-        (held ! 17 refl)) (no-more !))) (λ u′ typed-u′. land ! (from ! (stop !)) (init ! 10 refl typed-u′) $
+        pass0 ! $ move ! (22 ∷ 23 ∷ 24 ∷ 25 ∷ []) $ loads-which κ₀ κ₁ q₀ q₁ x₀ x₁ (c .0) p₀ fits₀ !
+        (λ i j k m. and-then ! (held ! 22 refl) (and-then ! (either (c .0) (held ! 20 refl)
+        (held ! 16 refl)) (no-more !))) (λ u is. land ! (from ! (stop !)) (init ! 10 refl (typed-route a u is)) $
+        loads-which κ₀ κ₁ q₀ q₁ x₀ x₁ (c .1 .0) p₁ fits₁ !
+        (λ i j k m. and-then ! (held ! 18 refl) (and-then ! (either (c .1 .0) (held ! 20 refl)
+        (held ! 16 refl)) (no-more !))) (λ u′ is′. land ! (from ! (stop !)) (init ! 8 refl (typed-route b u′ is′)) $
         -- the bytes are lent on
-        sets ! (addr ! (from ! (fld ! refl (hop ! (look-in ! 14 (sub ! 0 refl (whole !))) (stop !))))) 8 refl (tt, tt) $
-        sets ! (agg ! (and-then ! (held ! 8 refl) (and-then ! (load ! (from ! (fld ! refl (stop !)))
-        (look-in ! 14 (sub ! 1 refl (whole !)))) (no-more !)))) 6 refl (tt, (tt, (record { fits = room₆ }, tt))) $
-        -- both routes and what else is owned go to the callee
-        move ! (5 ∷ 0 ∷ 28 ∷ []) $ group ! 3 $
-        calls-from ! fm _ (u ∷ u′ ∷ v₅ ∷ sliceVal (b, o) n ∷ []) Q (met u u′)
-        (and-then ! (held ! 11 refl) (and-then ! (held ! 9 refl) (and-then ! (held ! 15 refl) (and-then ! (held ! 5 refl) (no-more !))))) (λ r.
+        sets ! (addr ! (from ! (fld ! refl (hop ! (look-in ! 12 (sub ! 0 refl (whole !))) (stop !))))) 6 refl (tt, tt) $
+        sets ! (agg ! (and-then ! (held ! 6 refl) (and-then ! (load ! (from ! (fld ! refl (stop !)))
+        (look-in ! 12 (sub ! 1 refl (whole !)))) (no-more !)))) 4 refl (tt, (tt, (record { fits = room₆ }, tt))) $
+        -- the callee's two routes and what else is owned go to it
+        owned ! Ro.the-row (Is Ro.the-row) (LL.makes Ro.the-type Ro′.the-plain 𝓤 H A) (pick (c .1 .1 .1) a b) _
+        (picked (c .1 .1 .1) a b is is′) $
+        owned ! Ro.the-row (Is Ro.the-row) (LL.makes Ro.the-type Ro′.the-plain 𝓤 H A) (pick (c .1 .1 .0) a b) _
+        (picked (c .1 .1 .0) a b is is′) $
+        move ! (0 ∷ 1 ∷ 28 ∷ []) $ group ! 3 $
+        calls-from ! fm _ (pick (c .1 .1 .0) u u′ ∷ pick (c .1 .1 .1) u u′ ∷ v₅ ∷ sliceVal (e, o) n ∷ []) Q (met _ _)
+        (and-then ! (either (c .1 .1 .0) (held ! 11 refl) (held ! 9 refl))
+        (and-then ! (either (c .1 .1 .1) (held ! 11 refl) (held ! 9 refl)) (and-then ! (held ! 15 refl) (and-then ! (held ! 5 refl) (no-more !))))) (λ r.
         use3 W (later (given (T (hasTy τ r) × WT r) (raw (Kf r)))) (ends r) $ await ! tt $ learn ! (λ typed.
         land ! (from ! (stop !)) (init ! 23 refl typed) $ returns ! (look ! 23 refl) $
         move ! (23 ∷ 24 ∷ 21 ∷ 22 ∷ 19 ∷ 20 ∷ 17 ∷ 18 ∷ 15 ∷ 16 ∷ 13 ∷ 14 ∷ 11 ∷ 12 ∷ 9 ∷ 10 ∷ 7 ∷ 8 ∷ 5 ∷ 6 ∷ 3 ∷ 4 ∷ []) $

@@ -37,11 +37,10 @@ use Rattle.route.specs.declared.Step.{Step}
 use Rattle.route.specs.declared.Route.{Route}
 use Rattle.route.proofs.Step as St
 use Rattle.route.proofs.Route as Ro
-use Rattle.records.specs.Loaded.{loaded}
 use Rattle.records.proofs.Called.{Known, told, tells, meets}
 use Rattle.records.proofs.load.Symbol.{name as #load}
 use Rattle.lent.proofs.Slices.{Slice, shr, mut, many, spells, tell, on, on-vals, flat-on, back, owns-on, lasts-back, same, past, alone, behind, alone-kept, behind-kept, Alone, Behind, AloneOut, BehindOut, behind-vals}
-use Rattle.lent.proofs.Loads.{Lent, val, owned-route, Load, Which, pick, loc, which, Walk, body-one, body-two, body-mut, calls-one, calls-two, calls-mut}
+use Rattle.lent.proofs.Loads.{Lent, val, owned-route, Load, Choice, Reads, reads, choice, firstOf, secondOf, Walk, body-one, body-two, body-mut, calls-one, calls-two, calls-mut}
 
 module _ (R : RattleType) (l : List Slice) where
   abbrev places : Slot (suc (suc (many l)))
@@ -100,7 +99,7 @@ module _ (R : RattleType) (l : List Slice) where
 
   module _ {M : Type 1} (𝓤 : URA M) (H : Heap 𝓤) (A : Atoms 𝓤) (W : Given 𝓤 H A) (mem : Memory → SProp 𝓤)
       (run : Routine → Fun 𝓤) (τ : Ty) (typed : (r : R .Denot) (v : Val) → Is R r (v ∷ []) → T (hasTy τ v) × WT v)
-      (s : Says 𝓤) (φ : Fact) (v w : Which) where
+      (s : Says 𝓤) (φ : Fact) (c : Choice) where
     abbrev k : ℕ
     k = suc (suc (many l))
 
@@ -116,7 +115,7 @@ module _ (R : RattleType) (l : List Slice) where
     -- what core says of loaded routes is what lent says of the lists
     abbrev pub Same : Type 1
     Same = (κs : Lfts k) (p : ℕ) (m : List Step) (q : ℕ) (n : List Step) (x : Behind l κs) (r : R .Denot) (ws : Last κs x)
-        → ent 𝓤 (s (past l κs) (loaded p (pick v m n)) (loaded q (pick w m n)) (passed κs x) r
+        → ent 𝓤 (s (past l κs) (firstOf c p m q n) (secondOf c p m q n) (passed κs x) r
         (outs (past l κs) (alone l) (alone-kept l) (passed κs x) ws))
         (fact 𝓤 (φ κs p m q n x r (outs κs (behind l) (behind-kept l) x (returned κs x ws))))
 
@@ -125,7 +124,7 @@ module _ (R : RattleType) (l : List Slice) where
     Walks C Λ name body = (κs : Lfts k) (q₀ q₁ : Share) (p₀ p₁ : ℕ) (x₀ x₁ : Lent) → p₀ < 2 ^ 64 → p₁ < 2 ^ 64
         → length (x₀ .now) < 2 ^ 64 → length (x₁ .now) < 2 ^ 64 → (x : Behind l κs)
         → Are (typesAt (behind l) κs) (Ises (typesAt (behind l) κs)) x (behind-vals l κs x)
-        → Walk 𝓤 H A C Λ (κs .0) (κs .1 .0) q₀ q₁ p₀ p₁ x₀ x₁ v w body name τ (flat (typesAt (behind l) κs) (behind-vals l κs x))
+        → Walk 𝓤 H A C Λ (κs .0) (κs .1 .0) q₀ q₁ p₀ p₁ x₀ x₁ c body name τ (flat (typesAt (behind l) κs) (behind-vals l κs x))
 
     module _ (same-answer : Same) (name : Name) (body : Fn) (𝓣 : Tables 𝓤 H)
         (known : Triple 𝓤 (𝓣 .C name) (Known 𝓤 H A core (core-says 𝓤 s))) (walks : Walks (𝓣 .C) (𝓣 .Λ) name body) where
@@ -152,10 +151,10 @@ module _ (R : RattleType) (l : List Slice) where
         x = y .0 .3 .1 .1 .1 .1
 
         abbrev a : Route
-        a = loaded p₀ (pick v (x₀ .now) (x₁ .now))
+        a = firstOf c p₀ (x₀ .now) p₁ (x₁ .now)
 
         abbrev b : Route
-        b = loaded p₁ (pick w (x₀ .now) (x₁ .now))
+        b = secondOf c p₀ (x₀ .now) p₁ (x₁ .now)
 
         abbrev tokens : SProp 𝓤
         tokens = toks 𝓤 A (many l) (past l κs) (qs .1 .1)
@@ -287,7 +286,7 @@ module _ (R : RattleType) where
   module _ {M : Type 1} (𝓤 : URA M) (H : Heap 𝓤) (A : Atoms 𝓤) (W : Given 𝓤 H A) (mem : Memory → SProp 𝓤)
       (run : Routine → Fun 𝓤) (τ : Ty) (typed : (r : R .Denot) (v : Val) → Is R r (v ∷ []) → T (hasTy τ v) × WT v)
       (name : Name) (𝓣 : Tables 𝓤 H)
-      (x y : ℕ) (e : _≡_ {A = ℕ × ℕ} (loc (which x), loc (which y)) (x, y)) (known-load : Triple 𝓤 (𝓣 .C #load) (Load 𝓤 H A mem run)) where
+      (n : Reads) (known-load : Triple 𝓤 (𝓣 .C #load) (Load 𝓤 H A mem run)) where
     abbrev done-says : (Route → Route → List ℕ → R .Denot) → Says R done 𝓤
     done-says f κs a b x r e = fact 𝓤 (r ≡ f a b (now (x .0)))
 
@@ -298,57 +297,57 @@ module _ (R : RattleType) where
     abbrev bytes-says : (Route → Route → List ℕ → List ℕ → R .Denot → List ℕ → SProp 𝓤) → Says R bytes 𝓤
     bytes-says s κs a b x r e = s a b (now (x .0)) (now (x .1 .0)) r (now (e .1 .0))
 
-    pub with-done : (f : Route → Route → List ℕ → R .Denot) (g : Lists (List ℕ → R .Denot))
+    pub with-done : reads 6 (choice 6 n) ≡ n → (f : Route → Route → List ℕ → R .Denot) (g : Lists (List ℕ → R .Denot))
         → ((p : ℕ) (l : List Step) (q : ℕ) (m : List Step) (d : List ℕ)
-        → f (loaded p (pick (which x) l m)) (loaded q (pick (which y) l m)) d ≡ g p l q m d)
+        → f (firstOf (choice 6 n) p l q m) (secondOf (choice 6 n) p l q m) d ≡ g p l q m d)
         → Triple 𝓤 (𝓣 .C name) (Known 𝓤 H A (core R done) (core-says R done 𝓤 (done-says f)))
-        → Meets 𝓤 H A (lent R done .signature) (WpFn 𝓤 H (𝓣 .C) (𝓣 .Λ) (body-one τ namesTy x y name))
+        → Meets 𝓤 H A (lent R done .signature) (WpFn 𝓤 H (𝓣 .C) (𝓣 .Λ) (body-one τ namesTy n name))
         (closing 𝓤 H A (lent R done) (lent-says R done 𝓤 (done-fact g)))
-    with-done f g agree known =
-        subst (λ (i : ℕ × ℕ). Meets 𝓤 H A (lent R done .signature)
-        (WpFn 𝓤 H (𝓣 .C) (𝓣 .Λ) (body-one τ namesTy (i .0) (i .1) name))
+    with-done e f g agree known =
+        subst (λ (i : Reads). Meets 𝓤 H A (lent R done .signature)
+        (WpFn 𝓤 H (𝓣 .C) (𝓣 .Λ) (body-one τ namesTy i name))
         (closing 𝓤 H A (lent R done) (lent-says R done 𝓤 (done-fact g)))) e
-        (over-lists R done 𝓤 H A W mem run τ typed (done-says f) (done-fact g) (which x) (which y)
+        (over-lists R done 𝓤 H A W mem run τ typed (done-says f) (done-fact g) (choice 6 n)
         (λ κs p l q m z r ws. fact-mono 𝓤 _ _ (λ e. e ∙ agree p l q m (now (z .0)))) name
-        (body-one τ namesTy (loc (which x)) (loc (which y)) name) 𝓣 known
+        (body-one τ namesTy (reads 6 (choice 6 n)) name) 𝓣 known
         (λ κs q₀ q₁ p₀ p₁ x₀ x₁ f₀ f₁ r₀ r₁ z are. calls-one 𝓤 H A W mem run (𝓣 .C) (𝓣 .Λ) (fmOf 𝓤 H (W .laws) 𝓣) known-load
-        (κs .0) (κs .1 .0) q₀ q₁ p₀ p₁ x₀ x₁ (which x) (which y) f₀ f₁ r₀ r₁ τ namesTy name _
+        (κs .0) (κs .1 .0) q₀ q₁ p₀ p₁ x₀ x₁ (choice 6 n) f₀ f₁ r₀ r₁ τ namesTy name _
         (tt, (tt, (record { fits = are .0 .0 .1 .0 }, tt)))))
 
-    pub with-order : (f : Route → Route → List ℕ → List ℕ → R .Denot) (g : Lists (List ℕ → List ℕ → R .Denot))
+    pub with-order : reads 7 (choice 7 n) ≡ n → (f : Route → Route → List ℕ → List ℕ → R .Denot) (g : Lists (List ℕ → List ℕ → R .Denot))
         → ((p : ℕ) (l : List Step) (q : ℕ) (m : List Step) (d o : List ℕ)
-        → f (loaded p (pick (which x) l m)) (loaded q (pick (which y) l m)) d o ≡ g p l q m d o)
+        → f (firstOf (choice 7 n) p l q m) (secondOf (choice 7 n) p l q m) d o ≡ g p l q m d o)
         → Triple 𝓤 (𝓣 .C name) (Known 𝓤 H A (core R order) (core-says R order 𝓤 (order-says f)))
-        → Meets 𝓤 H A (lent R order .signature) (WpFn 𝓤 H (𝓣 .C) (𝓣 .Λ) (body-two τ namesTy bytesTy x y name))
+        → Meets 𝓤 H A (lent R order .signature) (WpFn 𝓤 H (𝓣 .C) (𝓣 .Λ) (body-two τ namesTy bytesTy n name))
         (closing 𝓤 H A (lent R order) (lent-says R order 𝓤 (order-fact g)))
-    with-order f g agree known =
-        subst (λ (i : ℕ × ℕ). Meets 𝓤 H A (lent R order .signature)
-        (WpFn 𝓤 H (𝓣 .C) (𝓣 .Λ) (body-two τ namesTy bytesTy (i .0) (i .1) name))
+    with-order e f g agree known =
+        subst (λ (i : Reads). Meets 𝓤 H A (lent R order .signature)
+        (WpFn 𝓤 H (𝓣 .C) (𝓣 .Λ) (body-two τ namesTy bytesTy i name))
         (closing 𝓤 H A (lent R order) (lent-says R order 𝓤 (order-fact g)))) e
-        (over-lists R order 𝓤 H A W mem run τ typed (order-says f) (order-fact g) (which x) (which y)
+        (over-lists R order 𝓤 H A W mem run τ typed (order-says f) (order-fact g) (choice 7 n)
         (λ κs p l q m z r ws. fact-mono 𝓤 _ _ (λ e. e ∙ agree p l q m (now (z .0)) (now (z .1 .0)))) name
-        (body-two τ namesTy bytesTy (loc (which x)) (loc (which y)) name) 𝓣 known
+        (body-two τ namesTy bytesTy (reads 7 (choice 7 n)) name) 𝓣 known
         (λ κs q₀ q₁ p₀ p₁ x₀ x₁ f₀ f₁ r₀ r₁ z are. calls-two 𝓤 H A W mem run (𝓣 .C) (𝓣 .Λ) (fmOf 𝓤 H (W .laws) 𝓣) known-load
-        (κs .0) (κs .1 .0) q₀ q₁ p₀ p₁ x₀ x₁ (which x) (which y) f₀ f₁ r₀ r₁ τ namesTy name _
+        (κs .0) (κs .1 .0) q₀ q₁ p₀ p₁ x₀ x₁ (choice 7 n) f₀ f₁ r₀ r₁ τ namesTy name _
         (tt, (tt, (record { fits = are .0 .0 .1 .0 }, tt)))
         bytesTy _ (tt, (tt, (record { fits = are .1 .0 .0 .1 .0 }, tt)))))
 
-    pub with-bytes : (s : Route → Route → List ℕ → List ℕ → R .Denot → List ℕ → SProp 𝓤)
+    pub with-bytes : reads 7 (choice 7 n) ≡ n → (s : Route → Route → List ℕ → List ℕ → R .Denot → List ℕ → SProp 𝓤)
         (g : Lists (List ℕ → List ℕ → R .Denot)) (h : Lists (List ℕ → List ℕ → List ℕ))
         → ((p : ℕ) (l : List Step) (q : ℕ) (m : List Step) (d o : List ℕ) (r : R .Denot) (z : List ℕ)
-        → ent 𝓤 (s (loaded p (pick (which x) l m)) (loaded q (pick (which y) l m)) d o r z)
+        → ent 𝓤 (s (firstOf (choice 7 n) p l q m) (secondOf (choice 7 n) p l q m) d o r z)
         (fact 𝓤 ((r ≡ g p l q m d o) × (z ≡ h p l q m d o))))
         → Triple 𝓤 (𝓣 .C name) (Known 𝓤 H A (core R bytes) (core-says R bytes 𝓤 (bytes-says s)))
-        → Meets 𝓤 H A (lent R bytes .signature) (WpFn 𝓤 H (𝓣 .C) (𝓣 .Λ) (body-mut τ namesTy x y name))
+        → Meets 𝓤 H A (lent R bytes .signature) (WpFn 𝓤 H (𝓣 .C) (𝓣 .Λ) (body-mut τ namesTy n name))
         (closing 𝓤 H A (lent R bytes) (lent-says R bytes 𝓤 (bytes-fact g h)))
-    with-bytes s g h agree known =
-        subst (λ (i : ℕ × ℕ). Meets 𝓤 H A (lent R bytes .signature)
-        (WpFn 𝓤 H (𝓣 .C) (𝓣 .Λ) (body-mut τ namesTy (i .0) (i .1) name))
+    with-bytes e s g h agree known =
+        subst (λ (i : Reads). Meets 𝓤 H A (lent R bytes .signature)
+        (WpFn 𝓤 H (𝓣 .C) (𝓣 .Λ) (body-mut τ namesTy i name))
         (closing 𝓤 H A (lent R bytes) (lent-says R bytes 𝓤 (bytes-fact g h)))) e
-        (over-lists R bytes 𝓤 H A W mem run τ typed (bytes-says s) (bytes-fact g h) (which x) (which y)
+        (over-lists R bytes 𝓤 H A W mem run τ typed (bytes-says s) (bytes-fact g h) (choice 7 n)
         (λ κs p l q m z r ws. agree p l q m (now (z .0)) (now (z .1 .0)) r (ws .1 .0)) name
-        (body-mut τ namesTy (loc (which x)) (loc (which y)) name) 𝓣 known
+        (body-mut τ namesTy (reads 7 (choice 7 n)) name) 𝓣 known
         (λ κs q₀ q₁ p₀ p₁ x₀ x₁ f₀ f₁ r₀ r₁ z are. calls-mut 𝓤 H A W mem run (𝓣 .C) (𝓣 .Λ) (fmOf 𝓤 H (W .laws) 𝓣) known-load
-        (κs .0) (κs .1 .0) q₀ q₁ p₀ p₁ x₀ x₁ (which x) (which y) f₀ f₁ r₀ r₁ τ namesTy name _
+        (κs .0) (κs .1 .0) q₀ q₁ p₀ p₁ x₀ x₁ (choice 7 n) f₀ f₁ r₀ r₁ τ namesTy name _
         (tt, (tt, (record { fits = are .0 .0 .1 .0 }, tt)))
         (z .1 .0 .ptr .0) (z .1 .0 .ptr .1) _ (are .1 .0 .0 .1 .0)))

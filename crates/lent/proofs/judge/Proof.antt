@@ -31,8 +31,8 @@ judge-spec 𝓤 H 𝓜 𝓖 𝓡 =
     (tables 𝓤 H 𝓜 𝓡 code.env .C) (tables 𝓤 H 𝓜 𝓡 code.env .Λ) #lent·judge code.function (code.unfolded 𝓤 H 𝓜 𝓡)
     (with-bytes R.the-row 𝓤 H (𝓖 .A) (givenOf 𝓤 H 𝓜 𝓖) (𝓜 .mem) (𝓡 .run) R′.mir
     (λ r v is. LL.lawful R.the-type R′.the-laws 𝓤 H (𝓖 .A) (givenOf 𝓤 H 𝓜 𝓖) .typed r _ is .0)
-    core.name (tablesOf 𝓤 H 𝓜 (tables 𝓤 H 𝓜 𝓡 code.env)) _ _ refl
-    (cited 𝓤 H _ 𝓜 𝓡 code.env load.name load.routine code.calls-records·load (load-thm.met 𝓤 H 𝓜 𝓖 𝓡))
+    core.name (tablesOf 𝓤 H 𝓜 (tables 𝓤 H 𝓜 𝓡 code.env)) _
+    (cited 𝓤 H _ 𝓜 𝓡 code.env load.name load.routine code.calls-records·load (load-thm.met 𝓤 H 𝓜 𝓖 𝓡)) refl
     (λ a b d o r z. sep 𝓤 (fact 𝓤 (r ≡ judged (jobOf a b d) (length o))) (fact 𝓤 (z ≡ workAfter (jobOf a b d) o)))
     (λ p l q m d o. judged (lentJob p l q m d) (length o)) (λ p l q m d o. workAfter (lentJob p l q m d) o)
     (λ p l q m d o r z. needs 𝓤 _ _ (λ e′. fact-mono 𝓤 _ _
