@@ -36,9 +36,8 @@ fn show(s: &[u8], old: Route, new: Route, done: &[u32], out: &mut [u8]) {
 // With a slice of `room` bytes.
 fn room(s: &[u8], old: Route, new: Route, done: &[u32], room: usize) {
     let mut out = [46u8; 512];
-    if room <= 512 {
-        show(s, old, new, done, &mut out[..room]);
-    }
+    let k = counts::bytes(room, &out);
+    show(s, old, new, done, &mut out[..k]);
 }
 
 fn rooms(s: &[u8], old: Route, new: Route, done: &[u32]) {
@@ -85,19 +84,16 @@ fn refusals(s: &[u8], old: Route, new: Route, done: &[u32]) {
     room(s, name_twice(old), new, done, 16);
 }
 
-fn show_records(s: &[u8], old: Route, new: Route, done: [u32; 64], k: usize) {
-    if k <= 64 {
-        rooms(s, old, new, &done[..k]);
-        refusals(s, old, new, &done[..k]);
-    }
+fn show_records(s: &[u8], old: Route, new: Route, done: &[u32]) {
+    rooms(s, old, new, done);
+    refusals(s, old, new, done);
 }
 
 fn show_sheet(s: &[u8]) {
     let x = reader::reads::read(s);
-    let old = x.old;
-    let new = x.new;
     let done = x.done;
-    show_records(s, old, new, done, x.done_len);
+    let k = counts::names(x.done_len, &done);
+    show_records(s, x.old, x.new, &done[..k]);
 }
 
 fn main() {
