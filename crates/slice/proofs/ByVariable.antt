@@ -17,7 +17,7 @@ use Rattle.mask.specs.Mask.{has, bit, meets, collect}
 use Rattle.mask.proofs.Laws.{has-or, has-zero, has-ext, has-collect, collect-hit, collect-miss}
 use Rattle.mask.proofs.Truth.{both}
 use Rattle.mask.proofs.Lowest.{lowest-of, has-less-lowest, meets-less}
-use Rattle.slice.specs.ByVariable.{ByVariable, meeting}
+use Rattle.slice.specs.ByVariable.{ByVariable, meeting, Gathers, Joins}
 use Rattle.slice.proofs.Filled.{zeros-at}
 use Rattle.slice.proofs.Meeting.{or-meets, and-either}
 
@@ -41,13 +41,13 @@ Untouched left by₀ by = (v : ℕ) → has left v ≡ true → getD by v 0 ≡ 
 pub gathering-init : (by : List ℕ) (vars : ℕ) → Gathering by vars vars 0
 gathering-init by vars = record { union = λ f n is j. ap (λ (t : Bool). t || (ltb j n && meets (f j) vars)) (has-zero j) }
 
-pub gathering-done : (by : List ℕ) (vars left m : ℕ) → left ≡ 0 → Gathering by vars left m → (f : ℕ → ℕ) (n : ℕ) → ByVariable f n by → m ≡ meeting f vars n
+pub gathering-done : (by : List ℕ) (vars left m : ℕ) → left ≡ 0 → Gathering by vars left m → Gathers by vars m
 unfolding meeting
-gathering-done by vars left m e inv f n is =
-    has-ext m (meeting f vars n) (λ j. sym (none j) ∙ inv .union f n is j ∙ sym (has-collect (λ (j : ℕ). meets (f j) vars) n j))
+gathering-done by vars left m e inv =
+    record { union = λ f n is. has-ext m (meeting f vars n) (λ j. sym (none f n j) ∙ inv .union f n is j ∙ sym (has-collect (λ (j : ℕ). meets (f j) vars) n j)) }
   where
-    none : (j : ℕ) → (has m j || (ltb j n && meets (f j) left)) ≡ has m j
-    none j =
+    none : (f : ℕ → ℕ) (n j : ℕ) → (has m j || (ltb j n && meets (f j) left)) ≡ has m j
+    none f n j =
         let apart : meets (f j) left ≡ false = ap (λ (x : ℕ). not (eqb x 0)) (ap (bitAnd (f j)) e ∙ and-zero-r (f j)) in
         simp (apart, and-false, or-false)
 
@@ -74,7 +74,7 @@ pub gathering-both :
     → ByVariable g n by′
     → r ≡ bitOr (meeting f vars n) (meeting g vars n)
 gathering-both by by′ vars left a b r e p q is f g n x y =
-    is ∙ ap₂ bitOr (gathering-done by vars left a e p f n x) (gathering-done by′ vars left b e q g n y)
+    is ∙ ap₂ bitOr (gathering-done by vars left a e p .union f n x) (gathering-done by′ vars left b e q .union g n y)
 
 -- the lowest variable that is left
 module _ (left : ℕ) (some : left ≡ 0 → ⊥) (narrow : left < 2 ^ 32) where
@@ -156,7 +156,7 @@ module _ (left : ℕ) (some : left ≡ 0 → ⊥) (narrow : left < 2 ^ 32) where
 
 pub ruleset at-lowest = (needs, lowest-below, lowest-wide, lowest-offset)
 
-pub joining-done :
+joined :
     (by₀ by : List ℕ) (vars own left : ℕ)
     → length by ≡ length by₀
     → left ≡ 0
@@ -166,7 +166,7 @@ pub joining-done :
     → vars ≡ f n
     → own ≡ bit n
     → ByVariable f (n + 1) by
-joining-done by₀ by vars own left same-room e inv f n is all one =
+joined by₀ by vars own left same-room e inv f n is all one =
     record { room = same-room ∙ is .room; entry = λ v b. sym (none v) ∙ inv (is .room) v b ∙ go v b (has vars v) refl }
   where
     none : (v : ℕ) → cond (has left v) (bitOr (getD by v 0) own) (getD by v 0) ≡ getD by v 0
@@ -175,6 +175,9 @@ joining-done by₀ by vars own left same-room e inv f n is all one =
     go : (v : ℕ) → v < 32 → (t : Bool) → has vars v ≡ t → cond t (bitOr (getD by₀ v 0) own) (getD by₀ v 0) ≡ collect (λ (j : ℕ). has (f j) v) (n + 1)
     go v b true h = ap (bitOr (getD by₀ v 0)) one ∙ collect-hit (λ (j : ℕ). has (f j) v) n (getD by₀ v 0) (is .entry v b) (ap (λ (x : ℕ). has x v) (sym all) ∙ h)
     go v b false h = collect-miss (λ (j : ℕ). has (f j) v) n (getD by₀ v 0) (is .entry v b) (ap (λ (x : ℕ). has x v) (sym all) ∙ h)
+
+pub joining-done : (by₀ by : List ℕ) (vars own left : ℕ) → length by ≡ length by₀ → left ≡ 0 → Joining by₀ vars own left by → Joins by₀ vars own by
+joining-done by₀ by vars own left same-room e inv = record { more = joined by₀ by vars own left same-room e inv }
 
 -- before the first occurrence
 pub by-none : (f : ℕ → ℕ) → ByVariable f 0 (replicate 32 0)

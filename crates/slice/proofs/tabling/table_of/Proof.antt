@@ -4,7 +4,8 @@ use mathlib.Core.List.{List}
 use Prim.Native.Nat.{ℕ, _+_, _-_, _≤_, _<_}
 use native.Mathlib.Omega.{arith}
 use borrow.Author.Needs.{needs}
-use lib.Bits.{bitOr}
+use lib.Bits.{bitAnd, bitOr}
+use lib.Pow.{pow-pos}
 use lib.ListN.{length, getD, set}
 use Rattle.mask.specs.Mask.{bit}
 use Rattle.route.specs.Steps.{blank}
@@ -12,7 +13,7 @@ use Rattle.route.specs.Flat.{stepsIn}
 use Rattle.route.specs.declared.Step.{Step}
 use Rattle.slice.specs.Precedence.{row}
 use Rattle.slice.specs.Table.{table}
-use Rattle.slice.specs.ByVariable.{ByVariable, meeting}
+use Rattle.slice.specs.ByVariable.{ByVariable, meeting, Gathers, Joins}
 use Rattle.slice.proofs.ByVariable.{by-none, meeting-or}
 use Rattle.slice.proofs.Filled.{Filled, filled-none, filled-more, filled-all}
 use Rattle.slice.proofs.Laws.{row-past}
@@ -20,38 +21,38 @@ use Rattle.slice.proofs.RowByVariable.{readBy, writtenBy, row-by}
 use Rattle.slice.proofs.tabling.table_of.Statement.{statement}
 use Rattle.slice.proofs.tabling.table_of.Tie as tie
 
-abbrev Gathers : List ℕ → ℕ → ℕ → Type 0
-Gathers by vars m = (f : ℕ → ℕ) (n : ℕ) → ByVariable f n by → m ≡ meeting f vars n
-
 abbrev GathersBoth : List ℕ → List ℕ → ℕ → ℕ → Type 0
 GathersBoth by by′ vars m = (f g : ℕ → ℕ) (n : ℕ) → ByVariable f n by → ByVariable g n by′ → m ≡ bitOr (meeting f vars n) (meeting g vars n)
 
-abbrev Joins : List ℕ → ℕ → ℕ → List ℕ → Type 0
-Joins by vars own by′ = (f : ℕ → ℕ) (n : ℕ) → ByVariable f n by → vars ≡ f n → own ≡ bit n → ByVariable f (n + 1) by′
-
 -- an occurrence's row and entries
 module _ (l : List Step) (i : ℕ) (s : Step) (is : s ≡ getD l i blank) where
+  writers-more : (by by′ : List ℕ) (own : ℕ) → own ≡ bit i → ByVariable (writtenBy l) i by → Joins by (s .writes) own by′ → ByVariable (writtenBy l) (i + 1) by′
+  writers-more by by′ own e h j = j .more (writtenBy l) i h (ap (λ (x : Step). x .writes) is) e
+
+  readers-more : (by by′ : List ℕ) (own : ℕ) → own ≡ bit i → ByVariable (readBy l) i by → Joins by (s .reads) own by′ → ByVariable (readBy l) (i + 1) by′
+  readers-more by by′ own e h j = j .more (readBy l) i h (ap (λ (x : Step). x .reads) is) e
+
   row-more :
-      (n : ℕ) (rows readers writers : List ℕ) (a b : ℕ)
+      (n own : ℕ) (rows readers writers writers′ : List ℕ) (a b : ℕ)
       → length l ≤ 64
       → n ≡ length l
       → i < n
       → Filled (row l) i rows
       → length rows ≡ 64
+      → own ≡ bit i
       → ByVariable (readBy l) i readers
       → ByVariable (writtenBy l) i writers
-      → Gathers writers (s .reads) a
-      → GathersBoth readers writers (s .writes) b
-      → Filled (row l) (i + 1) (set rows i (bitOr a b))
-  row-more n rows readers writers a b short count h filled room r w p q =
-      filled-more (row l) i (bitOr a b) rows filled (omega arith)
-      (row-by l i s a b is (p (writtenBy l) i w) (q (readBy l) (writtenBy l) i r w ∙ meeting-or (readBy l) (writtenBy l) (s .writes) i))
+      → Joins writers (s .writes) own writers′
+      → GathersBoth readers writers (s .writes) a
+      → Gathers writers′ (s .reads) b
+      → Filled (row l) (i + 1) (set rows i (bitAnd (bitOr a b) (own - 1)))
+  row-more n own rows readers writers writers′ a b short count h filled room e r w j p q =
+      filled-more (row l) i (bitAnd (bitOr a b) (own - 1)) rows filled (omega arith)
+      (row-by l i s own a b is e (p (readBy l) (writtenBy l) i r w ∙ meeting-or (readBy l) (writtenBy l) (s .writes) i)
+      (q .union (writtenBy l) (i + 1) (writers-more writers writers′ own e w j)))
 
-  writers-more : (by by′ : List ℕ) (own : ℕ) → own ≡ bit i → ByVariable (writtenBy l) i by → Joins by (s .writes) own by′ → ByVariable (writtenBy l) (i + 1) by′
-  writers-more by by′ own e h j = j (writtenBy l) i h (ap (λ (x : Step). x .writes) is) e
-
-  readers-more : (by by′ : List ℕ) (own : ℕ) → own ≡ bit i → ByVariable (readBy l) i by → Joins by (s .reads) own by′ → ByVariable (readBy l) (i + 1) by′
-  readers-more by by′ own e h j = j (readBy l) i h (ap (λ (x : Step). x .reads) is) e
+own-some : (i own : ℕ) → own ≡ bit i → 1 ≤ own
+own-some i own e = rw e (pow-pos i)
 
 all-rows : (l : List Step) (n i : ℕ) (rows : List ℕ) → n ≡ length l → n ≤ i → length rows ≡ 64 → Filled (row l) i rows → rows ≡ table l
 unfolding table
@@ -74,11 +75,14 @@ loop-holds c = (search needs, (refl, (filled-none _ 64, (by-none _, by-none _)))
 step-at-requires : tie.Need-step-at-requires Inv-loop μ-loop
 step-at-requires c κs = search needs
 
-gathered-requires : tie.Need-gathered-requires Inv-loop μ-loop
-gathered-requires c κs = search needs
+after-writes-requires : tie.Need-after-writes-requires Inv-loop μ-loop
+after-writes-requires c κs = search needs
 
-written-requires : tie.Need-written-requires Inv-loop μ-loop
-written-requires c κs = search needs
+after-reads-requires : tie.Need-after-reads-requires Inv-loop μ-loop
+after-reads-requires c κs = search needs
+
+sub-rows : tie.Need-sub-rows Inv-loop μ-loop
+sub-rows c = search (needs, own-some)
 
 mul-rows : tie.Need-mul-rows Inv-loop μ-loop
 mul-rows c = search needs
@@ -88,9 +92,6 @@ array-write-rows c = search needs
 
 bit64-requires : tie.Need-bit64-requires Inv-loop μ-loop
 bit64-requires c κs = search needs
-
-joined-requires : tie.Need-joined-requires Inv-loop μ-loop
-joined-requires c κs = search needs
 
 add-i : tie.Need-add-i Inv-loop μ-loop
 add-i c = search needs
@@ -105,4 +106,4 @@ returns : tie.Need-returns Inv-loop μ-loop
 returns c = search (needs, all-rows)
 
 pub table-of-spec : {M : Type 1} → statement M
-table-of-spec = tie.close (tie.spec Inv-loop μ-loop count-requires loop-holds step-at-requires bit64-requires gathered-requires written-requires mul-rows array-write-rows joined-requires add-i loop-less loop-again returns)
+table-of-spec = tie.close (tie.spec Inv-loop μ-loop count-requires loop-holds step-at-requires bit64-requires after-writes-requires after-reads-requires sub-rows mul-rows array-write-rows add-i loop-less loop-again returns)

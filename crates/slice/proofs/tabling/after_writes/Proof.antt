@@ -1,4 +1,4 @@
--- `slice::tabling::written`: what is gathered of both, and the entries at the variables that are left lack the occurrence.
+-- `slice::tabling::after_writes`: what is gathered of both, and the entries at the variables that are left lack the occurrence.
 use mathlib.Core.Path.{_≡_, refl}
 use Prim.Native.Nat.{_<_, _^_}
 use borrow.Author.Needs.{needs}
@@ -18,8 +18,8 @@ use Rattle.slice.proofs.ByVariable.{
   less-left,
   less-narrow,
 }
-use Rattle.slice.proofs.tabling.written.Statement.{statement}
-use Rattle.slice.proofs.tabling.written.Tie as tie
+use Rattle.slice.proofs.tabling.after_writes.Statement.{statement}
+use Rattle.slice.proofs.tabling.after_writes.Tie as tie
 
 abbrev Inv-loop : tie.InvT-loop
 Inv-loop readers writers₀ vars own left₀ read₀ wrote₀ writers left read wrote =
@@ -69,5 +69,5 @@ loop-again c =
 returns : tie.Need-returns Inv-loop μ-loop
 returns c = (search (needs, gathering-both), search (needs, joining-done))
 
-pub written-spec : {M : Type 1} → statement M
-written-spec = tie.close (tie.spec Inv-loop μ-loop loop-holds cast-v sub-left mul-read element-copy-out-read mul-wrote element-copy-out-wrote mul-writers element-copy-out-writers element-write-writers loop-less loop-again returns)
+pub after-writes-spec : {M : Type 1} → statement M
+after-writes-spec = tie.close (tie.spec Inv-loop μ-loop loop-holds cast-v sub-left mul-read element-copy-out-read mul-wrote element-copy-out-wrote mul-writers element-copy-out-writers element-write-writers loop-less loop-again returns)
