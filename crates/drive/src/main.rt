@@ -9,9 +9,9 @@
 //     16                 read into lent lists of three lengths
 //
 // An answer is all its numbers, and every slice that was lent as it then stands. The second program says the same of scripts (reference/src/script.rs).
-use answers::out;
-use script::ends;
-use script::numbers;
+use drive_answers::out;
+use drive_script::ends;
+use drive_script::numbers;
 
 mod operations;
 mod over_sheets;

@@ -1,9 +1,9 @@
 // The operations by their numbers.
 use crate::over_sheets;
-use answers::out;
-use on_records::lists;
-use on_records::routes;
-use script::numbers;
+use drive_answers::out;
+use drive_records::lists;
+use drive_records::routes;
+use drive_script::numbers;
 
 // The line of the operation whose number stands here.
 pub fn answer(nums: &[u64], at: usize, o: &mut [u8; 65536], n: usize) -> usize {

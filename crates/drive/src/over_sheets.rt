@@ -1,8 +1,8 @@
 // The operations over a sheet, each on the arguments that begin at a number of the script.
-use answers::runs;
+use drive_answers::runs;
+use drive_script::ends;
+use drive_script::load;
 use route::Step;
-use script::ends;
-use script::load;
 ghost use Prim.Native.Nat.{_≤_};
 
 fn print_into(
@@ -13,7 +13,7 @@ fn print_into(
     n: usize,
 ) -> usize {
     let r = ops::print::print(sheet, work, out);
-    answers::printed(o, n, r, work, out)
+    drive_answers::printed(o, n, r, work, out)
 }
 
 fn print(sheet: &[u8], nums: &[u64], at: usize, o: &mut [u8; 65536], n: usize) -> usize {
@@ -28,7 +28,7 @@ fn try_sheet(sheet: &[u8], nums: &[u64], at: usize, o: &mut [u8; 65536], n: usiz
     let mut order = [0u8; 20000];
     let b = load::bytes(nums, at, false, &mut order);
     let r = ops::tries::try_sheet(sheet, &order[..b]);
-    answers::marked(o, n, r.number, r.second, r.marking)
+    drive_answers::marked(o, n, r.number, r.second, r.marking)
 }
 
 fn seven() -> Step {
@@ -54,11 +54,11 @@ fn read_into(
 {
     let list = [seven(); 100];
     let r = arrays::read(sheet, list, a, list, b, done);
-    let mut m = answers::counts(o, n, r.counts);
+    let mut m = drive_answers::counts(o, n, r.counts);
     let old = r.old;
-    m = answers::records(o, m, old, a);
+    m = drive_answers::records(o, m, old, a);
     let new = r.new;
-    m = answers::records(o, m, new, b);
+    m = drive_answers::records(o, m, new, b);
     runs::names(o, m, done)
 }
 
@@ -74,7 +74,7 @@ fn read_lists(sheet: &[u8], nums: &[u64], at: usize, o: &mut [u8; 65536], n: usi
 // With the arguments past the sheet.
 fn with(op: u64, sheet: &[u8], nums: &[u64], at: usize, o: &mut [u8; 65536], n: usize) -> usize {
     match op {
-        6 => answers::sheet(o, n, reader::reads::read(sheet)),
+        6 => drive_answers::sheet(o, n, reader::reads::read(sheet)),
         7 => runs::bytes(o, n, reader::part::job_part(sheet)),
         9 => print(sheet, nums, at, o, n),
         10 => try_sheet(sheet, nums, at, o, n),

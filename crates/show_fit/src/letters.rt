@@ -6,7 +6,7 @@ use samples::letters::Sample;
 // A work slice of 8,192 bytes is enough; what it holds doesn't matter.
 pub fn say(label: &[u8], x: Sample) {
     let mut work = [7u8; 8192];
-    judged::say(label, judge_in(x, &mut work));
+    show_judged::say(label, judge_in(x, &mut work));
 }
 
 pub fn show() {

@@ -16,6 +16,6 @@ fn main() {
     letters::show();
     searches::show();
     searches::show_work();
-    orders::show();
-    orders::show_letters();
+    show_orders::show();
+    show_orders::show_letters();
 }

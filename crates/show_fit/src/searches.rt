@@ -10,7 +10,7 @@ use samples::two;
 
 fn say(label: &[u8], old: Route, new: Route, done: &[u32]) {
     let mut work = [7u8; 8192];
-    judged::say(label, judging::judging::judge(old, new, done, &mut work));
+    show_judged::say(label, judging::judging::judge(old, new, done, &mut work));
 }
 
 // The first n of the chain's names are done.
