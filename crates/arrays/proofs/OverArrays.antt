@@ -249,10 +249,12 @@ module _ (R : RattleType) (l : List Slice) where
             )) ∷ []) ∵ move ! (1 ∷ []) $
             fsplit ! $ drop ! $ fsplit ! $ drop ! $ fsplit ! $ drop ! $ fsplit ! $ drop ! $ fsplit ! $ drop ! $
             fsplit ! $ drop ! $ move ! (1 ∷ 0 ∷ []) $ join ! $ by ! (walks p q n m a b fits-p fits-q (few .0) (few .1)
-            is-a is-b κs z are (mean 𝓤 H A Rest) (λ x. Known 𝓤 H A (lent R l) (lent-says R l 𝓤 φ) .post (to fits-p fits-q x))
+            is-a is-b κs z are (mean 𝓤 H A Rest) (λ x. Known 𝓤 H A (lent R l) (lent-says R l 𝓤 φ) .post
+            (to fits-p fits-q x))
             End (met fits-p fits-q) (ends fits-p fits-q))
 
-      pub over-arrays : Meets 𝓤 H A (first .signature) (WpFn 𝓤 H (𝓣 .C) (𝓣 .Λ) body) (closing 𝓤 H A first (first-says 𝓤 ψ))
+      pub over-arrays : Meets 𝓤 H A (first .signature) (WpFn 𝓤 H (𝓣 .C) (𝓣 .Λ) body) (closing 𝓤 H A first
+          (first-says 𝓤 ψ))
       over-arrays = meets 𝓤 H A W first (first-says 𝓤 ψ) (WpFn 𝓤 H (𝓣 .C) (𝓣 .Λ) body)
           (λ κs. (
             uint-vals w64,
@@ -304,7 +306,8 @@ module _ (R : RattleType) {M : Type 1} (𝓤 : URA M) (H : Heap 𝓤) (A : Atoms
       → Triple 𝓤 (𝓣 .C name) (Known 𝓤 H A (lent R done) (lent-says R done 𝓤 (done-fact R g)))
       → Meets 𝓤 H A (first R done .signature) (WpFn 𝓤 H (𝓣 .C) (𝓣 .Λ) (body-one τ namesTy name)) (closing 𝓤 H A
       (first R done) (first-says R done 𝓤 (λ κs p a q b z r e. r ≡ g p a q b (now (z .0)))))
-  with-done g known = over-arrays R done 𝓤 H A W τ typed (done-fact R g) (λ κs p a q b z r e. r ≡ g p a q b (now (z .0)))
+  with-done g known = over-arrays R done 𝓤 H A W τ typed (done-fact R g) (λ κs p a q b z r e. r ≡ g p a q b (now
+      (z .0)))
       (λ κs κs′ p a q b z r ws e. e) name (body-one τ namesTy name) 𝓣 known
       (λ p q n m a b fp fq fn fm ia ib κs z are. calls-one 𝓤 H A W (𝓣 .C) (𝓣 .Λ) (fmOf 𝓤 H (W .laws) 𝓣) p q n m a b
       fp fq fn fm ia ib τ namesTy name _ (tt, (tt, (record { fits = are .0 .0 .1 .0 }, tt))))

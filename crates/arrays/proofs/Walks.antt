@@ -153,22 +153,28 @@ module _ {M : Type 1} (𝓤 : URA M) (H : Heap 𝓤) (A : Atoms 𝓤) (W : Given
       sets ! (addr ! (from ! (stop !))) 6 refl (tt, tt) $
       sets ! (agg ! (and-then ! (held ! 6 refl) (and-then ! (held ! 20 refl) (no-more !)))) 4 refl
       (tt, (tt, (record { fits = fits n few₀ }, tt))) $
-      rewrite ! 4 (λ (i : ℕ). ‵ (fat fullShare listTy (l .1 .1 .1 .1 .1 .1 .1 .1 .1 .1 .1 .0) 0 (sliceVal (l .1 .1 .1 .1 .1 .1 .1 .1 .0, 0) i)))
+      rewrite ! 4 (λ (i : ℕ). ‵ (fat fullShare listTy (l .1 .1 .1 .1 .1 .1 .1 .1 .1 .1 .1 .0) 0 (sliceVal
+      (l .1 .1 .1 .1 .1 .1 .1 .1 .0, 0) i)))
       (sym (first-long a n few₀ (is-a .1 .0 .1))) refl $
       sets ! (addr ! (from ! (stop !))) 2 refl (tt, tt) $
       sets ! (agg ! (and-then ! (held ! 2 refl) (and-then ! (held ! 14 refl) (no-more !)))) 0 refl
       (tt, (tt, (record { fits = fits m few₁ }, tt))) $
-      rewrite ! 0 (λ (i : ℕ). ‵ (fat fullShare listTy (l .1 .1 .1 .1 .1 .1 .1 .1 .1 .1 .1 .1 .1 .0) 0 (sliceVal (l .1 .1 .1 .1 .1 .1 .1 .1 .1 .0, 0) i)))
+      rewrite ! 0 (λ (i : ℕ). ‵ (fat fullShare listTy (l .1 .1 .1 .1 .1 .1 .1 .1 .1 .1 .1 .1 .1 .0) 0 (sliceVal
+      (l .1 .1 .1 .1 .1 .1 .1 .1 .1 .0, 0) i)))
       (sym (first-long b m few₁ (is-b .1 .0 .1))) refl $
       lft-new ! tt (λ α. lft-new ! tt (λ β.
       move ! (12 ∷ []) $ lends-first 𝓤 H A W ! tt a (val a) is-a n (α ∷ []) few₀ _ (λ γ. move ! (13 ∷ []) $
       lends-first 𝓤 H A W ! tt b (val b) is-b m (β ∷ []) few₁ _ (λ δ.
       -- both lists and what else is owned go to the callee
       move ! (7 ∷ 6 ∷ 3 ∷ 0 ∷ 34 ∷ []) $ group ! 5 $
-      calls-from ! fm _ _ (Q (lent α β (l .1 .1 .1 .1 .1 .1 .1 .1 .0) (l .1 .1 .1 .1 .1 .1 .1 .1 .1 .0) γ δ)) (met (lent α β (l .1 .1 .1 .1 .1 .1 .1 .1 .0) (l .1 .1 .1 .1 .1 .1 .1 .1 .1 .0) γ δ))
-      (and-then ! (held ! 27 refl) (and-then ! (held ! 9 refl) (and-then ! (held ! 21 refl) (and-then ! (held ! 5 refl) (and-then ! (held ! 15 refl) (no-more !))))))
-      (λ v. use1 W (Returned 𝓤 H A W (lent α β (l .1 .1 .1 .1 .1 .1 .1 .1 .0) (l .1 .1 .1 .1 .1 .1 .1 .1 .1 .0) γ δ) τ Kf v)
-      (ends (lent α β (l .1 .1 .1 .1 .1 .1 .1 .1 .0) (l .1 .1 .1 .1 .1 .1 .1 .1 .1 .0) γ δ) v) $ await ! tt $ learn ! (λ typed. split ! $ move ! (1 ∷ []) $ split ! $
+      calls-from ! fm _ _ (Q (lent α β (l .1 .1 .1 .1 .1 .1 .1 .1 .0) (l .1 .1 .1 .1 .1 .1 .1 .1 .1 .0) γ δ)) (met
+      (lent α β (l .1 .1 .1 .1 .1 .1 .1 .1 .0) (l .1 .1 .1 .1 .1 .1 .1 .1 .1 .0) γ δ))
+      (and-then ! (held ! 27 refl) (and-then ! (held ! 9 refl) (and-then ! (held ! 21 refl) (and-then !
+      (held ! 5 refl) (and-then ! (held ! 15 refl) (no-more !))))))
+      (λ v. use1 W (Returned 𝓤 H A W (lent α β (l .1 .1 .1 .1 .1 .1 .1 .1 .0)
+      (l .1 .1 .1 .1 .1 .1 .1 .1 .1 .0) γ δ) τ Kf v)
+      (ends (lent α β (l .1 .1 .1 .1 .1 .1 .1 .1 .0) (l .1 .1 .1 .1 .1 .1 .1 .1 .1 .0) γ δ) v) $ await ! tt $
+      learn ! (λ typed. split ! $ move ! (1 ∷ []) $ split ! $
       land ! (from ! (stop !)) (init ! 31 refl typed) $
       move ! (2 ∷ 5 ∷ 6 ∷ []) $ takes-back 𝓤 H A W ! tt a n _ (is-a .1 .0 .1) (λ u₀. move ! (1 ∷ 3 ∷ 4 ∷ []) $
       takes-back 𝓤 H A W ! tt b m _ (is-b .1 .0 .1) (λ u₁.
@@ -195,22 +201,28 @@ module _ {M : Type 1} (𝓤 : URA M) (H : Heap 𝓤) (A : Atoms 𝓤) (W : Given
       sets ! (addr ! (from ! (stop !))) 6 refl (tt, tt) $
       sets ! (agg ! (and-then ! (held ! 6 refl) (and-then ! (held ! 22 refl) (no-more !)))) 4 refl
       (tt, (tt, (record { fits = fits n few₀ }, tt))) $
-      rewrite ! 4 (λ (i : ℕ). ‵ (fat fullShare listTy (l .1 .1 .1 .1 .1 .1 .1 .1 .1 .1 .1 .1 .0) 0 (sliceVal (l .1 .1 .1 .1 .1 .1 .1 .1 .1 .0, 0) i)))
+      rewrite ! 4 (λ (i : ℕ). ‵ (fat fullShare listTy (l .1 .1 .1 .1 .1 .1 .1 .1 .1 .1 .1 .1 .0) 0 (sliceVal
+      (l .1 .1 .1 .1 .1 .1 .1 .1 .1 .0, 0) i)))
       (sym (first-long a n few₀ (is-a .1 .0 .1))) refl $
       sets ! (addr ! (from ! (stop !))) 2 refl (tt, tt) $
       sets ! (agg ! (and-then ! (held ! 2 refl) (and-then ! (held ! 16 refl) (no-more !)))) 0 refl
       (tt, (tt, (record { fits = fits m few₁ }, tt))) $
-      rewrite ! 0 (λ (i : ℕ). ‵ (fat fullShare listTy (l .1 .1 .1 .1 .1 .1 .1 .1 .1 .1 .1 .1 .1 .1 .0) 0 (sliceVal (l .1 .1 .1 .1 .1 .1 .1 .1 .1 .1 .0, 0) i)))
+      rewrite ! 0 (λ (i : ℕ). ‵ (fat fullShare listTy (l .1 .1 .1 .1 .1 .1 .1 .1 .1 .1 .1 .1 .1 .1 .0) 0 (sliceVal
+      (l .1 .1 .1 .1 .1 .1 .1 .1 .1 .1 .0, 0) i)))
       (sym (first-long b m few₁ (is-b .1 .0 .1))) refl $
       lft-new ! tt (λ α. lft-new ! tt (λ β.
       move ! (12 ∷ []) $ lends-first 𝓤 H A W ! tt a (val a) is-a n (α ∷ []) few₀ _ (λ γ. move ! (13 ∷ []) $
       lends-first 𝓤 H A W ! tt b (val b) is-b m (β ∷ []) few₁ _ (λ δ.
       -- both lists and what else is owned go to the callee
       move ! (7 ∷ 6 ∷ 3 ∷ 0 ∷ 36 ∷ []) $ group ! 5 $
-      calls-from ! fm _ _ (Q (lent α β (l .1 .1 .1 .1 .1 .1 .1 .1 .1 .0) (l .1 .1 .1 .1 .1 .1 .1 .1 .1 .1 .0) γ δ)) (met (lent α β (l .1 .1 .1 .1 .1 .1 .1 .1 .1 .0) (l .1 .1 .1 .1 .1 .1 .1 .1 .1 .1 .0) γ δ))
-      (and-then ! (held ! 29 refl) (and-then ! (held ! 9 refl) (and-then ! (held ! 23 refl) (and-then ! (held ! 5 refl) (and-then ! (held ! 17 refl) (and-then ! (held ! 15 refl) (no-more !)))))))
-      (λ v. use1 W (Returned 𝓤 H A W (lent α β (l .1 .1 .1 .1 .1 .1 .1 .1 .1 .0) (l .1 .1 .1 .1 .1 .1 .1 .1 .1 .1 .0) γ δ) τ Kf v)
-      (ends (lent α β (l .1 .1 .1 .1 .1 .1 .1 .1 .1 .0) (l .1 .1 .1 .1 .1 .1 .1 .1 .1 .1 .0) γ δ) v) $ await ! tt $ learn ! (λ typed. split ! $ move ! (1 ∷ []) $ split ! $
+      calls-from ! fm _ _ (Q (lent α β (l .1 .1 .1 .1 .1 .1 .1 .1 .1 .0) (l .1 .1 .1 .1 .1 .1 .1 .1 .1 .1 .0) γ δ))
+      (met (lent α β (l .1 .1 .1 .1 .1 .1 .1 .1 .1 .0) (l .1 .1 .1 .1 .1 .1 .1 .1 .1 .1 .0) γ δ))
+      (and-then ! (held ! 29 refl) (and-then ! (held ! 9 refl) (and-then ! (held ! 23 refl) (and-then !
+      (held ! 5 refl) (and-then ! (held ! 17 refl) (and-then ! (held ! 15 refl) (no-more !)))))))
+      (λ v. use1 W (Returned 𝓤 H A W (lent α β (l .1 .1 .1 .1 .1 .1 .1 .1 .1 .0)
+      (l .1 .1 .1 .1 .1 .1 .1 .1 .1 .1 .0) γ δ) τ Kf v)
+      (ends (lent α β (l .1 .1 .1 .1 .1 .1 .1 .1 .1 .0) (l .1 .1 .1 .1 .1 .1 .1 .1 .1 .1 .0) γ δ) v) $ await ! tt $
+      learn ! (λ typed. split ! $ move ! (1 ∷ []) $ split ! $
       land ! (from ! (stop !)) (init ! 33 refl typed) $
       move ! (2 ∷ 5 ∷ 6 ∷ []) $ takes-back 𝓤 H A W ! tt a n _ (is-a .1 .0 .1) (λ u₀. move ! (1 ∷ 3 ∷ 4 ∷ []) $
       takes-back 𝓤 H A W ! tt b m _ (is-b .1 .0 .1) (λ u₁.
@@ -218,7 +230,8 @@ module _ {M : Type 1} (𝓤 : URA M) (H : Heap 𝓤) (A : Atoms 𝓤) (W : Given
       move ! (29 ∷ 30 ∷ 27 ∷ 28 ∷ 25 ∷ 26 ∷ 23 ∷ 24 ∷ 21 ∷ 22 ∷ 19 ∷ 20 ∷ 17 ∷ 18 ∷ 15 ∷ 16 ∷ 13 ∷ 14 ∷ 1 ∷ 12 ∷ 0 ∷ 11 ∷ 9 ∷ 10 ∷ 7 ∷ 8 ∷ 5 ∷ 6 ∷ 3 ∷ 4 ∷ []) $ all-freed ! _ _ $ done !)))))))))
 
   -- with bytes that are lent on
-  pub calls-mut : (e o j : ℕ) → j < 2 ^ 64 → Walk 𝓤 H A W C Λ p q n m a b (body-mut τ τ₇ k) k τ (v₇ ∷ sliceVal (e, o) j ∷ [])
+  pub calls-mut : (e o j : ℕ) → j < 2 ^ 64 → Walk 𝓤 H A W C Λ p q n m a b (body-mut τ τ₇ k) k τ (v₇ ∷ sliceVal
+      (e, o) j ∷ [])
   calls-mut e o j room rest Q Kf met ends =
       qed W (raw rest ∷ []) ∵ enter ! C Λ (body-mut τ τ₇ k) (vint w64 p ∷ val a ∷ vint w64 n ∷ vint w64 q ∷ val b ∷
       vint w64 m ∷ v₇ ∷ sliceVal (e, o) j ∷ []) _ $ all-locals ! _ (λ l. params1 ! $
@@ -236,12 +249,14 @@ module _ {M : Type 1} (𝓤 : URA M) (H : Heap 𝓤) (A : Atoms 𝓤) (W : Given
       sets ! (addr ! (from ! (stop !))) 10 refl (tt, tt) $
       sets ! (agg ! (and-then ! (held ! 10 refl) (and-then ! (held ! 26 refl) (no-more !)))) 8 refl
       (tt, (tt, (record { fits = fits n few₀ }, tt))) $
-      rewrite ! 8 (λ (i : ℕ). ‵ (fat fullShare listTy (l .1 .1 .1 .1 .1 .1 .1 .1 .1 .1 .1 .1 .0) 0 (sliceVal (l .1 .1 .1 .1 .1 .1 .1 .1 .1 .0, 0) i)))
+      rewrite ! 8 (λ (i : ℕ). ‵ (fat fullShare listTy (l .1 .1 .1 .1 .1 .1 .1 .1 .1 .1 .1 .1 .0) 0 (sliceVal
+      (l .1 .1 .1 .1 .1 .1 .1 .1 .1 .0, 0) i)))
       (sym (first-long a n few₀ (is-a .1 .0 .1))) refl $
       sets ! (addr ! (from ! (stop !))) 6 refl (tt, tt) $
       sets ! (agg ! (and-then ! (held ! 6 refl) (and-then ! (held ! 20 refl) (no-more !)))) 4 refl
       (tt, (tt, (record { fits = fits m few₁ }, tt))) $
-      rewrite ! 4 (λ (i : ℕ). ‵ (fat fullShare listTy (l .1 .1 .1 .1 .1 .1 .1 .1 .1 .1 .1 .1 .1 .1 .0) 0 (sliceVal (l .1 .1 .1 .1 .1 .1 .1 .1 .1 .1 .0, 0) i)))
+      rewrite ! 4 (λ (i : ℕ). ‵ (fat fullShare listTy (l .1 .1 .1 .1 .1 .1 .1 .1 .1 .1 .1 .1 .1 .1 .0) 0 (sliceVal
+      (l .1 .1 .1 .1 .1 .1 .1 .1 .1 .1 .0, 0) i)))
       (sym (first-long b m few₁ (is-b .1 .0 .1))) refl $
       -- the bytes are lent on
       sets ! (addr ! (from ! (fld ! refl (hop ! (look-in ! 16 (sub ! 0 refl (whole !))) (stop !))))) 2 refl
@@ -253,10 +268,14 @@ module _ {M : Type 1} (𝓤 : URA M) (H : Heap 𝓤) (A : Atoms 𝓤) (W : Given
       lends-first 𝓤 H A W ! tt b (val b) is-b m (β ∷ []) few₁ _ (λ δ.
       -- both lists and what else is owned go to the callee
       move ! (7 ∷ 6 ∷ 3 ∷ 0 ∷ 40 ∷ []) $ group ! 5 $
-      calls-from ! fm _ _ (Q (lent α β (l .1 .1 .1 .1 .1 .1 .1 .1 .1 .0) (l .1 .1 .1 .1 .1 .1 .1 .1 .1 .1 .0) γ δ)) (met (lent α β (l .1 .1 .1 .1 .1 .1 .1 .1 .1 .0) (l .1 .1 .1 .1 .1 .1 .1 .1 .1 .1 .0) γ δ))
-      (and-then ! (held ! 33 refl) (and-then ! (held ! 13 refl) (and-then ! (held ! 27 refl) (and-then ! (held ! 9 refl) (and-then ! (held ! 21 refl) (and-then ! (held ! 5 refl) (no-more !)))))))
-      (λ v. use1 W (Returned 𝓤 H A W (lent α β (l .1 .1 .1 .1 .1 .1 .1 .1 .1 .0) (l .1 .1 .1 .1 .1 .1 .1 .1 .1 .1 .0) γ δ) τ Kf v)
-      (ends (lent α β (l .1 .1 .1 .1 .1 .1 .1 .1 .1 .0) (l .1 .1 .1 .1 .1 .1 .1 .1 .1 .1 .0) γ δ) v) $ await ! tt $ learn ! (λ typed. split ! $ move ! (1 ∷ []) $ split ! $
+      calls-from ! fm _ _ (Q (lent α β (l .1 .1 .1 .1 .1 .1 .1 .1 .1 .0) (l .1 .1 .1 .1 .1 .1 .1 .1 .1 .1 .0) γ δ))
+      (met (lent α β (l .1 .1 .1 .1 .1 .1 .1 .1 .1 .0) (l .1 .1 .1 .1 .1 .1 .1 .1 .1 .1 .0) γ δ))
+      (and-then ! (held ! 33 refl) (and-then ! (held ! 13 refl) (and-then ! (held ! 27 refl) (and-then !
+      (held ! 9 refl) (and-then ! (held ! 21 refl) (and-then ! (held ! 5 refl) (no-more !)))))))
+      (λ v. use1 W (Returned 𝓤 H A W (lent α β (l .1 .1 .1 .1 .1 .1 .1 .1 .1 .0)
+      (l .1 .1 .1 .1 .1 .1 .1 .1 .1 .1 .0) γ δ) τ Kf v)
+      (ends (lent α β (l .1 .1 .1 .1 .1 .1 .1 .1 .1 .0) (l .1 .1 .1 .1 .1 .1 .1 .1 .1 .1 .0) γ δ) v) $ await ! tt $
+      learn ! (λ typed. split ! $ move ! (1 ∷ []) $ split ! $
       land ! (from ! (stop !)) (init ! 37 refl typed) $
       move ! (2 ∷ 5 ∷ 6 ∷ []) $ takes-back 𝓤 H A W ! tt a n _ (is-a .1 .0 .1) (λ u₀. move ! (1 ∷ 3 ∷ 4 ∷ []) $
       takes-back 𝓤 H A W ! tt b m _ (is-b .1 .0 .1) (λ u₁.

@@ -38,7 +38,13 @@ use Rattle.records.proofs.Called.{told}
 module _ (X : RattleType) where
   abbrev laying : Ended
   laying = record {
-    signature = record { lifetimes = 1; outlives = []; params = mutSliceOf (0 ∷ []) tt (plain (λ _. X)) ∷ plain (λ _. usize) ∷ arrayOf (plain (λ _. X)) 64 ∷ []; result = plain (λ _. unit) };
+    signature = record {
+      lifetimes = 1;
+      outlives = [];
+      params = mutSliceOf (0 ∷ []) tt (plain (λ _. X)) ∷ plain
+          (λ _. usize) ∷ arrayOf (plain (λ _. X)) 64 ∷ [];
+      result = plain (λ _. unit);
+    };
     kept = (yes, (yes, (yes, tt)));
   }
 
@@ -62,15 +68,19 @@ module _ (X : RattleType) where
   abbrev pub Laid : RefT (List (X .Denot)) → List (X .Denot) → Fml
   Laid o zs = fsep (finally X (o .name) zs) (feq ℕ (length zs) (length (now o)))
 
-  module _ {M : Type 1} (𝓤 : URA M) (H : Heap 𝓤) (A : Atoms 𝓤) (W : Given 𝓤 H A) (mk : Makes 𝓤 H A X (Is X)) (C : Calls 𝓤 H) (Λ : Loops 𝓤 H) (fm : FmC 𝓤 H (W .laws) C) (k : Name) (known : Triple 𝓤 (C k) (Lay 𝓤 H A))
-      (κ : Lft) (q : Share) (o : RefT (List (X .Denot))) (n : ℕ) (xs : List (X .Denot)) (xv : Val) (is : Is (Array X 64) xs (xv ∷ [])) (few : (n ≤ 64) × (n ≤ length (now o))) (fits : n < 2 ^ 64) where
+  module _ {M : Type 1} (𝓤 : URA M) (H : Heap 𝓤) (A : Atoms 𝓤) (W : Given 𝓤 H A) (mk : Makes 𝓤 H A X (Is X))
+      (C : Calls 𝓤 H) (Λ : Loops 𝓤 H) (fm : FmC 𝓤 H (W .laws) C) (k : Name) (known : Triple 𝓤 (C k) (Lay 𝓤 H A))
+      (κ : Lft) (q : Share) (o : RefT (List (X .Denot))) (n : ℕ) (xs : List (X .Denot)) (xv : Val) (is : Is
+      (Array X 64) xs (xv ∷ [])) (few : (n ≤ 64) × (n ≤ length (now o))) (fits : n < 2 ^ 64) where
     abbrev to : Lay 𝓤 H A .Ghost
     to = (((κ, tt), (q, tt), tt, (o, (n, (xs, tt))), (listVal o ∷ [], (vint w64 n ∷ [], (xv ∷ [], tt)))), tt)
 
     asks : ent 𝓤 (⋆ 𝓤 H A (‵ (flft κ q) ∷ ‵ (ownList κ o) ∷ [])) (Lay 𝓤 H A .pre to)
     asks =
-        qed W (‵ (flft κ q) ∷ ‵ (ownList κ o) ∷ []) ∵ says ! few $ owned ! (Array X 64) (Is (Array X 64)) (array-makes 𝓤 H A W X mk 64) xs (xv ∷ []) is $
-        nothing ! $ move ! (1 ∷ 0 ∷ []) $ fjoin ! $ owned ! usize (Is usize) (uint-makes 𝓤 H A W w64) n _ (refl, fits) $ fjoin ! $ move ! (2 ∷ 0 ∷ []) $ fjoin ! $
+        qed W (‵ (flft κ q) ∷ ‵ (ownList κ o) ∷ []) ∵ says ! few $
+        owned ! (Array X 64) (Is (Array X 64)) (array-makes 𝓤 H A W X mk 64) xs (xv ∷ []) is $
+        nothing ! $ move ! (1 ∷ 0 ∷ []) $ fjoin ! $ owned ! usize (Is usize) (uint-makes 𝓤 H A W w64) n _ (refl, fits) $
+        fjoin ! $ move ! (2 ∷ 0 ∷ []) $ fjoin ! $
         nothing ! $ move ! (2 ∷ 0 ∷ []) $ join ! $ frame ! $ done !
 
     pub lays : {K : Type 0} → K → {Γ : List (Item 𝓤)} {E : Env 𝓤 H} {ops : List Operand} {d : Place} {rest : Body}

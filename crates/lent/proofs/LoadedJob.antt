@@ -37,8 +37,10 @@ over p l h =
     let none-left : 64 - length l ≡ 0 = omega arith in
     let one-over : length l - 64 ≡ suc (length l - 65) = omega arith in
     let full = length-take-le 64 l (omega arith) in
-    ap₂ (λ (m n : ℕ). take 65 (take (length l) (take 64 l ++ replicate m blank) ++ replicate n blank)) none-left one-over
-    ∙ ap (λ (x : List Step). take 65 (take (length l) x ++ replicate (suc (length l - 65)) blank)) (append-nil (take 64 l))
+    ap₂ (λ (m n : ℕ). take 65 (take (length l)
+    (take 64 l ++ replicate m blank) ++ replicate n blank)) none-left one-over
+    ∙ ap (λ (x : List Step). take 65 (take (length l) x ++ replicate (suc (length l - 65)) blank)) (append-nil
+    (take 64 l))
     ∙ ap (λ (x : List Step). take 65 (x ++ replicate (suc (length l - 65)) blank))
     (take-all (length l) (take 64 l) (omega (arith, full)))
     ∙ ap (λ (x : List Step). take 65 x) (sym (append-assoc (take 64 l) (blank ∷ []) (replicate (length l - 65) blank)))

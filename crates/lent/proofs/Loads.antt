@@ -107,7 +107,8 @@ body-one τ τ₅ n k = record {
   outlives = [];
   params = 5;
   locals = value τ ∷ lists (value τ₅ ∷ value Ro′.mir ∷ value Ro′.mir ∷ []);
-  body = seq (fetch 1 (n .0) 6) (seq (fetch 3 (n .1 .0) 7) (calls k (n .1 .1 .0) (n .1 .1 .1) (copy (place 5 []) ∷ [])));
+  body = seq (fetch 1 (n .0) 6) (seq (fetch 3 (n .1 .0) 7) (calls k (n .1 .1 .0) (n .1 .1 .1) (copy
+      (place 5 []) ∷ [])));
 }
 
 -- with one more slice
@@ -117,7 +118,8 @@ body-two τ τ₅ τ₆ n k = record {
   outlives = [];
   params = 6;
   locals = value τ ∷ lists (value τ₅ ∷ value τ₆ ∷ value Ro′.mir ∷ value Ro′.mir ∷ []);
-  body = seq (fetch 1 (n .0) 7) (seq (fetch 3 (n .1 .0) 8) (calls k (n .1 .1 .0) (n .1 .1 .1) (copy (place 5 []) ∷ copy (place 6 []) ∷ [])));
+  body = seq (fetch 1 (n .0) 7) (seq (fetch 3 (n .1 .0) 8) (calls k (n .1 .1 .0) (n .1 .1 .1) (copy
+      (place 5 []) ∷ copy (place 6 []) ∷ [])));
 }
 
 -- with bytes that are lent on
@@ -187,7 +189,8 @@ module _ {M : Type 1} (𝓤 : URA M) (H : Heap 𝓤) (A : Atoms 𝓤) (W : Given
 
     pub loads : {K : Type 0} → K → {Γ : List (Item 𝓤)} {E : Env 𝓤 H} {xs : List Operand} {d : Place} {rest : Body}
         {end : Post 𝓤 H} → Opds K W (raw (Load 𝓤 H A mem run .pre to) ∷ Γ) E xs (vint w64 p ∷ val x ∷ [])
-        → ((v : Val) → Is Ro.the-row (loaded p (x .now)) (v ∷ []) → Seq K W (‵ (flft κ q) ∷ Γ) (lands C Λ E d v rest end))
+        → ((v : Val) → Is Ro.the-row (loaded p (x .now)) (v ∷ [])
+        → Seq K W (‵ (flft κ q) ∷ Γ) (lands C Λ E d v rest end))
         → Seq K W (‵ (flft κ q) ∷ ‵ (own κ x) ∷ Γ) (runs C Λ E (seq (call #load xs d) rest) end)
     loads t os k =
         use2 W (raw (Load 𝓤 H A mem run .pre to)) asks $ calls-at t fm (Load 𝓤 H A mem run) known to os (λ v.
@@ -214,7 +217,8 @@ module _ {M : Type 1} (𝓤 : URA M) (H : Heap 𝓤) (A : Atoms 𝓤) (W : Given
         loads κ₁ q₁ p x₁ fits t (os _ _ _ _) (λ v is. move t (2 ∷ 0 ∷ 3 ∷ 1 ∷ []) $ k v is)
 
   module _ (κ₀ κ₁ : Lft) (q₀ q₁ : Share) (p₀ p₁ : ℕ) (x₀ x₁ : Lent) (c : Choice) (fits₀ : p₀ < 2 ^ 64)
-      (fits₁ : p₁ < 2 ^ 64) (room₀ : length (x₀ .now) < 2 ^ 64) (room₁ : length (x₁ .now) < 2 ^ 64) (τ τ₅ : Ty) (k : Name)
+      (fits₁ : p₁ < 2 ^ 64) (room₀ : length (x₀ .now) < 2 ^ 64) (room₁ : length (x₁ .now) < 2 ^ 64) (τ τ₅ : Ty)
+      (k : Name)
       (v₅ : Val) (wt₅ : T (hasTy τ₅ v₅) × WT v₅) where
     abbrev a : Route
     a = loaded p₀ (pick (c .0) (x₀ .now) (x₁ .now))
@@ -247,7 +251,8 @@ module _ {M : Type 1} (𝓤 : URA M) (H : Heap 𝓤) (A : Atoms 𝓤) (W : Given
         move ! (0 ∷ 1 ∷ 22 ∷ []) $ group ! 3 $
         calls-from ! fm _ (pick (c .1 .1 .0) u u′ ∷ pick (c .1 .1 .1) u u′ ∷ v₅ ∷ []) Q (met _ _)
         (and-then ! (either (c .1 .1 .0) (held ! 7 refl) (held ! 5 refl))
-        (and-then ! (either (c .1 .1 .1) (held ! 7 refl) (held ! 5 refl)) (and-then ! (held ! 9 refl) (no-more !)))) (λ r.
+        (and-then ! (either (c .1 .1 .1) (held ! 7 refl) (held ! 5 refl)) (and-then ! (held ! 9 refl) (no-more !))))
+        (λ r.
         use3 W (later (given (T (hasTy τ r) × WT r) (raw (Kf r)))) (ends r) $ await ! tt $ learn ! (λ typed.
         land ! (from ! (stop !)) (init ! 17 refl typed) $ returns ! (look ! 17 refl) $
         move ! (17 ∷ 18 ∷ 15 ∷ 16 ∷ 13 ∷ 14 ∷ 11 ∷ 12 ∷ 9 ∷ 10 ∷ 7 ∷ 8 ∷ 5 ∷ 6 ∷ 3 ∷ 4 ∷ []) $
@@ -278,7 +283,8 @@ module _ {M : Type 1} (𝓤 : URA M) (H : Heap 𝓤) (A : Atoms 𝓤) (W : Given
         move ! (0 ∷ 1 ∷ 24 ∷ []) $ group ! 3 $
         calls-from ! fm _ (pick (c .1 .1 .0) u u′ ∷ pick (c .1 .1 .1) u u′ ∷ v₅ ∷ v₆ ∷ []) Q (met _ _)
         (and-then ! (either (c .1 .1 .0) (held ! 7 refl) (held ! 5 refl))
-        (and-then ! (either (c .1 .1 .1) (held ! 7 refl) (held ! 5 refl)) (and-then ! (held ! 11 refl) (and-then ! (held ! 9 refl) (no-more !))))) (λ r.
+        (and-then ! (either (c .1 .1 .1) (held ! 7 refl) (held ! 5 refl)) (and-then ! (held ! 11 refl) (and-then !
+        (held ! 9 refl) (no-more !))))) (λ r.
         use3 W (later (given (T (hasTy τ r) × WT r) (raw (Kf r)))) (ends r) $ await ! tt $ learn ! (λ typed.
         land ! (from ! (stop !)) (init ! 19 refl typed) $ returns ! (look ! 19 refl) $
         move ! (19 ∷ 20 ∷ 17 ∷ 18 ∷ 15 ∷ 16 ∷ 13 ∷ 14 ∷ 11 ∷ 12 ∷ 9 ∷ 10 ∷ 7 ∷ 8 ∷ 5 ∷ 6 ∷ 3 ∷ 4 ∷ []) $
@@ -313,7 +319,8 @@ module _ {M : Type 1} (𝓤 : URA M) (H : Heap 𝓤) (A : Atoms 𝓤) (W : Given
         move ! (0 ∷ 1 ∷ 28 ∷ []) $ group ! 3 $
         calls-from ! fm _ (pick (c .1 .1 .0) u u′ ∷ pick (c .1 .1 .1) u u′ ∷ v₅ ∷ sliceVal (e, o) n ∷ []) Q (met _ _)
         (and-then ! (either (c .1 .1 .0) (held ! 11 refl) (held ! 9 refl))
-        (and-then ! (either (c .1 .1 .1) (held ! 11 refl) (held ! 9 refl)) (and-then ! (held ! 15 refl) (and-then ! (held ! 5 refl) (no-more !))))) (λ r.
+        (and-then ! (either (c .1 .1 .1) (held ! 11 refl) (held ! 9 refl)) (and-then ! (held ! 15 refl) (and-then !
+        (held ! 5 refl) (no-more !))))) (λ r.
         use3 W (later (given (T (hasTy τ r) × WT r) (raw (Kf r)))) (ends r) $ await ! tt $ learn ! (λ typed.
         land ! (from ! (stop !)) (init ! 23 refl typed) $ returns ! (look ! 23 refl) $
         move ! (23 ∷ 24 ∷ 21 ∷ 22 ∷ 19 ∷ 20 ∷ 17 ∷ 18 ∷ 15 ∷ 16 ∷ 13 ∷ 14 ∷ 11 ∷ 12 ∷ 9 ∷ 10 ∷ 7 ∷ 8 ∷ 5 ∷ 6 ∷ 3 ∷ 4 ∷ []) $

@@ -76,7 +76,8 @@ module _ (R : RattleType) (l : List Slice) where
 
   -- what each says
   abbrev pub Fact : Type 1
-  Fact = (κs : Lfts (suc (suc (many l)))) → ℕ → List Step → ℕ → List Step → Behind l κs → R .Denot → BehindOut l κs → Type 0
+  Fact = (κs : Lfts (suc (suc (many l)))) → ℕ → List Step → ℕ → List Step → Behind l κs → R .Denot → BehindOut l κs
+      → Type 0
 
   module _ {M : Type 1} (𝓤 : URA M) where
     abbrev pub Says : Type 2
@@ -114,7 +115,8 @@ module _ (R : RattleType) (l : List Slice) where
 
     -- what core says of loaded routes is what lent says of the lists
     abbrev pub Same : Type 1
-    Same = (κs : Lfts k) (p : ℕ) (m : List Step) (q : ℕ) (n : List Step) (x : Behind l κs) (r : R .Denot) (ws : Last κs x)
+    Same = (κs : Lfts k) (p : ℕ) (m : List Step) (q : ℕ) (n : List Step) (x : Behind l κs) (r : R .Denot)
+        (ws : Last κs x)
         → ent 𝓤 (s (past l κs) (firstOf c p m q n) (secondOf c p m q n) (passed κs x) r
         (outs (past l κs) (alone l) (alone-kept l) (passed κs x) ws))
         (fact 𝓤 (φ κs p m q n x r (outs κs (behind l) (behind-kept l) x (returned κs x ws))))
@@ -124,7 +126,8 @@ module _ (R : RattleType) (l : List Slice) where
     Walks C Λ name body = (κs : Lfts k) (q₀ q₁ : Share) (p₀ p₁ : ℕ) (x₀ x₁ : Lent) → p₀ < 2 ^ 64 → p₁ < 2 ^ 64
         → length (x₀ .now) < 2 ^ 64 → length (x₁ .now) < 2 ^ 64 → (x : Behind l κs)
         → Are (typesAt (behind l) κs) (Ises (typesAt (behind l) κs)) x (behind-vals l κs x)
-        → Walk 𝓤 H A C Λ (κs .0) (κs .1 .0) q₀ q₁ p₀ p₁ x₀ x₁ c body name τ (flat (typesAt (behind l) κs) (behind-vals l κs x))
+        → Walk 𝓤 H A C Λ (κs .0) (κs .1 .0) q₀ q₁ p₀ p₁ x₀ x₁ c body name τ (flat (typesAt (behind l) κs)
+        (behind-vals l κs x))
 
     module _ (same-answer : Same) (name : Name) (body : Fn) (𝓣 : Tables 𝓤 H)
         (known : Triple 𝓤 (𝓣 .C name) (Known 𝓤 H A core (core-says 𝓤 s))) (walks : Walks (𝓣 .C) (𝓣 .Λ) name body) where
@@ -187,7 +190,8 @@ module _ (R : RattleType) (l : List Slice) where
             nothing ! $ ends-here !
 
         met : (u u′ : Val) → ent 𝓤 (mean 𝓤 H A (‵ (owned-route a u) ⊛ (‵ (owned-route b u′) ⊛ Rest)))
-            (𝓣 .C name (u ∷ u′ ∷ flat (typesAt (behind l) κs) (behind-vals l κs x)) (Known 𝓤 H A core (core-says 𝓤 s) .post (to u u′)))
+            (𝓣 .C name (u ∷ u′ ∷ flat (typesAt (behind l) κs) (behind-vals l κs x)) (Known 𝓤 H A core
+            (core-says 𝓤 s) .post (to u u′)))
         met u u′ = subst (λ (us : List Val). ent 𝓤 (mean 𝓤 H A (‵ (owned-route a u) ⊛ (‵ (owned-route b u′) ⊛ Rest)))
             (𝓣 .C name (u ∷ u′ ∷ us) (Known 𝓤 H A core (core-says 𝓤 s) .post (to u u′))))
             (flat-on k (many l) κs (past l κs) 2 0 l (past l) (same l) (behind-vals l κs x))
@@ -197,7 +201,8 @@ module _ (R : RattleType) (l : List Slice) where
         abbrev Left : Val → SProp 𝓤
         Left = Known 𝓤 H A core (core-says 𝓤 s) .post (to (val x₀) (val x₁))
 
-        ends : (rv : Val) → ent 𝓤 (⋆ 𝓤 H A (raw (Left rv) ∷ ‵ (flft (κs .0) (qs .0)) ∷ ‵ (flft (κs .1 .0) (qs .1 .0)) ∷ []))
+        ends : (rv : Val) → ent 𝓤 (⋆ 𝓤 H A (raw (Left rv) ∷ ‵ (flft (κs .0) (qs .0)) ∷ ‵ (flft (κs .1 .0)
+            (qs .1 .0)) ∷ []))
             (mean 𝓤 H A (later (given (T (hasTy τ rv) × WT rv) (raw (Known 𝓤 H A lent (lent-says 𝓤 φ) .post y rv)))))
         ends rv =
             qed W (raw (Left rv) ∷ ‵ (flft (κs .0) (qs .0)) ∷ ‵ (flft (κs .1 .0) (qs .1 .0)) ∷ []) ∵ updating ! $
@@ -215,7 +220,8 @@ module _ (R : RattleType) (l : List Slice) where
             move ! (4 ∷ 2 ∷ []) $ join ! $ move ! (3 ∷ 0 ∷ []) $ join ! $ frame ! $ move ! (1 ∷ 0 ∷ []) $ frame ! $
             says ! e $ ends-here !)
 
-        walk : Are (typesAt (behind l) κs) (Ises (typesAt (behind l) κs)) x (behind-vals l κs x) → p₀ < 2 ^ 64 → p₁ < 2 ^ 64
+        walk : Are (typesAt (behind l) κs) (Ises (typesAt (behind l) κs)) x (behind-vals l κs x) → p₀ < 2 ^ 64
+            → p₁ < 2 ^ 64
             → length (x₀ .now) < 2 ^ 64 → length (x₁ .now) < 2 ^ 64
             → ent 𝓤 (onEntry 𝓤 H A (lent .signature) κs qs (y .0 .3)
             (vint w64 p₀ ∷ [], (val x₀ ∷ [], (vint w64 p₁ ∷ [], (val x₁ ∷ [], behind-vals l κs x)))))
@@ -310,11 +316,13 @@ module _ (R : RattleType) where
         (over-lists R done 𝓤 H A W mem run τ typed (done-says f) (done-fact g) (choice 6 n)
         (λ κs p l q m z r ws. fact-mono 𝓤 _ _ (λ e. e ∙ agree p l q m (now (z .0)))) name
         (body-one τ namesTy (reads 6 (choice 6 n)) name) 𝓣 known
-        (λ κs q₀ q₁ p₀ p₁ x₀ x₁ f₀ f₁ r₀ r₁ z are. calls-one 𝓤 H A W mem run (𝓣 .C) (𝓣 .Λ) (fmOf 𝓤 H (W .laws) 𝓣) known-load
+        (λ κs q₀ q₁ p₀ p₁ x₀ x₁ f₀ f₁ r₀ r₁ z are. calls-one 𝓤 H A W mem run (𝓣 .C) (𝓣 .Λ) (fmOf 𝓤 H
+        (W .laws) 𝓣) known-load
         (κs .0) (κs .1 .0) q₀ q₁ p₀ p₁ x₀ x₁ (choice 6 n) f₀ f₁ r₀ r₁ τ namesTy name _
         (tt, (tt, (record { fits = are .0 .0 .1 .0 }, tt)))))
 
-    pub with-order : reads 7 (choice 7 n) ≡ n → (f : Route → Route → List ℕ → List ℕ → R .Denot) (g : Lists (List ℕ → List ℕ → R .Denot))
+    pub with-order : reads 7 (choice 7 n) ≡ n → (f : Route → Route → List ℕ → List ℕ → R .Denot) (g : Lists (List ℕ
+        → List ℕ → R .Denot))
         → ((p : ℕ) (l : List Step) (q : ℕ) (m : List Step) (d o : List ℕ)
         → f (firstOf (choice 7 n) p l q m) (secondOf (choice 7 n) p l q m) d o ≡ g p l q m d o)
         → Triple 𝓤 (𝓣 .C name) (Known 𝓤 H A (core R order) (core-says R order 𝓤 (order-says f)))
@@ -327,7 +335,8 @@ module _ (R : RattleType) where
         (over-lists R order 𝓤 H A W mem run τ typed (order-says f) (order-fact g) (choice 7 n)
         (λ κs p l q m z r ws. fact-mono 𝓤 _ _ (λ e. e ∙ agree p l q m (now (z .0)) (now (z .1 .0)))) name
         (body-two τ namesTy bytesTy (reads 7 (choice 7 n)) name) 𝓣 known
-        (λ κs q₀ q₁ p₀ p₁ x₀ x₁ f₀ f₁ r₀ r₁ z are. calls-two 𝓤 H A W mem run (𝓣 .C) (𝓣 .Λ) (fmOf 𝓤 H (W .laws) 𝓣) known-load
+        (λ κs q₀ q₁ p₀ p₁ x₀ x₁ f₀ f₁ r₀ r₁ z are. calls-two 𝓤 H A W mem run (𝓣 .C) (𝓣 .Λ) (fmOf 𝓤 H
+        (W .laws) 𝓣) known-load
         (κs .0) (κs .1 .0) q₀ q₁ p₀ p₁ x₀ x₁ (choice 7 n) f₀ f₁ r₀ r₁ τ namesTy name _
         (tt, (tt, (record { fits = are .0 .0 .1 .0 }, tt)))
         bytesTy _ (tt, (tt, (record { fits = are .1 .0 .0 .1 .0 }, tt)))))
@@ -347,7 +356,8 @@ module _ (R : RattleType) where
         (over-lists R bytes 𝓤 H A W mem run τ typed (bytes-says s) (bytes-fact g h) (choice 7 n)
         (λ κs p l q m z r ws. agree p l q m (now (z .0)) (now (z .1 .0)) r (ws .1 .0)) name
         (body-mut τ namesTy (reads 7 (choice 7 n)) name) 𝓣 known
-        (λ κs q₀ q₁ p₀ p₁ x₀ x₁ f₀ f₁ r₀ r₁ z are. calls-mut 𝓤 H A W mem run (𝓣 .C) (𝓣 .Λ) (fmOf 𝓤 H (W .laws) 𝓣) known-load
+        (λ κs q₀ q₁ p₀ p₁ x₀ x₁ f₀ f₁ r₀ r₁ z are. calls-mut 𝓤 H A W mem run (𝓣 .C) (𝓣 .Λ) (fmOf 𝓤 H
+        (W .laws) 𝓣) known-load
         (κs .0) (κs .1 .0) q₀ q₁ p₀ p₁ x₀ x₁ (choice 7 n) f₀ f₁ r₀ r₁ τ namesTy name _
         (tt, (tt, (record { fits = are .0 .0 .1 .0 }, tt)))
         (z .1 .0 .ptr .0) (z .1 .0 .ptr .1) _ (are .1 .0 .0 .1 .0)))

@@ -47,7 +47,8 @@ module _ (n : ℕ) (κs : Lfts n) where
   spells o (shr R ∷ l) sh = (slice-vals, spells (suc o) l (λ κs. sh κs .1))
   spells o (mut R ∷ l) sh = (slice-vals, spells (suc o) l (λ κs. sh κs .1))
 
-  pub tell : (o : ℕ) (l : List Slice) (sh : Lfts n → Lfts (many l)) → Tellss (rows o l sh) (Ises (rows o l sh)) (spells o l sh)
+  pub tell : (o : ℕ) (l : List Slice) (sh : Lfts n → Lfts (many l))
+      → Tellss (rows o l sh) (Ises (rows o l sh)) (spells o l sh)
   tell o [] sh = tt
   tell o (shr R ∷ l) sh = (shr-slice-tells (named o) (sh κs .0) R, tell (suc o) l (λ κs. sh κs .1))
   tell o (mut R ∷ l) sh = (mut-slice-tells (named o) (sh κs .0) R, tell (suc o) l (λ κs. sh κs .1))
@@ -89,11 +90,13 @@ module _ (n n′ : ℕ) (κs : Lfts n) (κs′ : Lfts n′) where
     owns-on o o′ (shr R ∷ l) sh sh′ e x v = mono∗ 𝓤
         (subst (λ (κ : Lft). ent 𝓤 (sem 𝓤 H A (ShrSlice (named o) (sh κs .0) R .own (x .0) (v .0)))
         (sem 𝓤 H A (ShrSlice (named o′) κ R .own (x .0) (v .0)))) (ap (λ (t : Lfts (suc (many l))). t .0) e) (id⊢ 𝓤 _))
-        (owns-on (suc o) (suc o′) l (λ κs. sh κs .1) (λ κs. sh′ κs .1) (ap (λ (t : Lfts (suc (many l))). t .1) e) (x .1) (v .1))
+        (owns-on (suc o) (suc o′) l (λ κs. sh κs .1) (λ κs. sh′ κs .1) (ap (λ (t : Lfts (suc (many l))). t .1) e)
+        (x .1) (v .1))
     owns-on o o′ (mut R ∷ l) sh sh′ e x v = mono∗ 𝓤
         (subst (λ (κ : Lft). ent 𝓤 (sem 𝓤 H A (MutSlice (named o) (sh κs .0) R .own (x .0) (v .0)))
         (sem 𝓤 H A (MutSlice (named o′) κ R .own (x .0) (v .0)))) (ap (λ (t : Lfts (suc (many l))). t .0) e) (id⊢ 𝓤 _))
-        (owns-on (suc o) (suc o′) l (λ κs. sh κs .1) (λ κs. sh′ κs .1) (ap (λ (t : Lfts (suc (many l))). t .1) e) (x .1) (v .1))
+        (owns-on (suc o) (suc o′) l (λ κs. sh κs .1) (λ κs. sh′ κs .1) (ap (λ (t : Lfts (suc (many l))). t .1) e)
+        (x .1) (v .1))
 
     pub lasts-back : (o o′ : ℕ) (l : List Slice) (sh : Lfts n → Lfts (many l)) (sh′ : Lfts n′ → Lfts (many l))
         (x : Denots (rows n κs o l sh)) (ws : Fins κs′ (slots n′ o′ l sh′) (keeps n′ o′ l sh′) (on o o′ l sh sh′ x))

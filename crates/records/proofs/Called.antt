@@ -70,7 +70,8 @@ module _ {M : Type 1} (𝓤 : URA M) (H : Heap 𝓤) (A : Atoms 𝓤) (W : Given
       (Ises (typesAt (T .signature .params) (y .0 .0))) (y .0 .3)
       (valss (typesAt (T .signature .params) (y .0 .0)) (sp (y .0 .0)) (y .0 .3))
       → ent 𝓤 (sep 𝓤 (onEntry 𝓤 H A (T .signature) (y .0 .0) (y .0 .1) (y .0 .3)
-      (valss (typesAt (T .signature .params) (y .0 .0)) (sp (y .0 .0)) (y .0 .3))) (c (y .0 .0) (y .0 .3) .requires (y .1)))
+      (valss (typesAt (T .signature .params) (y .0 .0)) (sp (y .0 .0)) (y .0 .3))) (c (y .0 .0) (y .0 .3) .requires
+      (y .1)))
       (run (flat (typesAt (T .signature .params) (y .0 .0))
       (valss (typesAt (T .signature .params) (y .0 .0)) (sp (y .0 .0)) (y .0 .3))) (Known 𝓤 H A T c .post y)))
       → Meets 𝓤 H A (T .signature) run (closing 𝓤 H A T c)

@@ -38,7 +38,8 @@ module _ {M : Type 1} {𝓤 : URA M} {H : Heap 𝓤} {A : Atoms 𝓤} {K : Type 
       use1 W (‵ (arr-parts (shares S) n .part fullShare xs l 0)) (array-apart 𝓤 H A W S fullShare tt n xs l 0) $
       fsplit t $ drop t $ s)
 
-  pub array-in : length xs ≡ n → ((v : Val) → Is (Array S n) xs (v ∷ []) → Seq K W (‵ (fat fullShare (ty n) l 0 v) ∷ Γ) G)
+  pub array-in : length xs ≡ n → ((v : Val) → Is (Array S n) xs (v ∷ [])
+      → Seq K W (‵ (fat fullShare (ty n) l 0 v) ∷ Γ) G)
       → Seq K W (‵ (row S fullShare xs l 0) ∷ Γ) G
   unfolding partOf
   array-in long k =
@@ -47,5 +48,6 @@ module _ {M : Type 1} {𝓤 : URA M} {H : Heap 𝓤} {A : Atoms 𝓤} {K : Type 
       fpick t (λ us. fsplit t $ move t (1 ∷ []) $
       peeks t (Array S n) (Is (Array S n)) (shows 𝓤 H A (Array S n)) xs us (λ is. drop t $
       rewrite t 0 (λ (ws : List Val). ‵ (cellAt fullShare (Array S n .mir) ws l 0)) (is .1 .0 .0) refl $
-      use1 W (‵ (fat fullShare (ty n) l 0 (arrayVal (is .0)))) (W .laws .raw-at fullShare (ty n) l 0 (arrayVal (is .0))) $
+      use1 W (‵ (fat fullShare (ty n) l 0 (arrayVal (is .0)))) (W .laws .raw-at fullShare (ty n) l 0 (arrayVal
+      (is .0))) $
       k (arrayVal (is .0)) (subst (Is (Array S n) xs) (is .1 .0 .0) is)))

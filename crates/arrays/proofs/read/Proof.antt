@@ -145,10 +145,26 @@ module _ {M : Type 1} (𝓤 : URA M) (H : Heap 𝓤) (A : Atoms 𝓤) (W : Given
   )
 
   exits : (r : Filled) (v : Val) (z : List ℕ) → Answer r z → length z ≡ length (now d) → Is F.the-row r (v ∷ [])
-      → ent 𝓤 (⋆ 𝓤 H A (‵ (flft κ q) ∷ ‵ (flft κ′ q′) ∷ ‵ (finally u32 (d .name) z) ∷ [])) (First 𝓤 H A mem run .post bound v)
+      → ent 𝓤 (⋆ 𝓤 H A (‵ (flft κ q) ∷ ‵ (flft κ′ q′) ∷ ‵ (finally u32 (d .name) z) ∷ []))
+      (First 𝓤 H A mem run .post bound v)
   exits r v z e long is =
       qed W (‵ (flft κ q) ∷ ‵ (flft κ′ q′) ∷ ‵ (finally u32 (d .name) z) ∷ []) ∵
-      suffices ! _ (tells 𝓤 H A W first.ended (first.clauses 𝓤 H A mem run) bound v r (tt, (tt, (tt, (tt, (tt, (z, tt))))))) $
+      suffices ! _ (tells 𝓤 H A W first.ended (first.clauses 𝓤 H A mem run) bound v r (
+        tt,
+        (
+          tt,
+          (
+            tt,
+            (
+              tt,
+              (
+                tt,
+                (z, tt),
+              ),
+            ),
+          ),
+        ),
+      )) $
       nothing ! $ move ! (2 ∷ 0 ∷ []) $ join ! $ move ! (1 ∷ 0 ∷ []) $ join ! $ frame ! $
       owned ! F.the-row (Is F.the-row) (LL.makes F.the-type F′.the-plain 𝓤 H A) r _ is $ frame ! $
       feqI ! ℕ (length z) (length (now d)) long $ move ! (1 ∷ 0 ∷ []) $ fjoin ! $ nothing ! $ move ! (1 ∷ 0 ∷ []) $
@@ -260,7 +276,8 @@ module _ {M : Type 1} (𝓤 : URA M) (H : Heap 𝓤) (A : Atoms 𝓤) (W : Given
         move ! (23 ∷ []) $ lends-mut 𝓤 H A W ! tt b (val b) is-b m (β ∷ []) few₁ _ (λ δ.
         move ! (42 ∷ 7 ∷ 6 ∷ 44 ∷ 43 ∷ 3 ∷ 0 ∷ 45 ∷ []) $ group ! 8 $
         use1 W (raw (Read 𝓤 H A mem run .pre (to α β _ _ γ δ))) (asks α β _ _ γ δ) $
-        calls-at ! fm (Read 𝓤 H A mem run) known (to α β _ _ γ δ) (and-then ! (held ! 35 refl) (and-then ! (held ! 17 refl)
+        calls-at ! fm (Read 𝓤 H A mem run) known (to α β _ _ γ δ) (and-then ! (held ! 35 refl) (and-then !
+        (held ! 17 refl)
         (and-then ! (held ! 13 refl) (and-then ! (held ! 9 refl) (no-more !)))))
         (λ v. told-read ! tt α β (l .1 .1 .1 .1 .1 .1 .1 .0) (l .1 .1 .1 .1 .1 .1 .1 .1 .0) γ δ v
         (λ c z₁ z₂ z₃ e n₁ n₂ n₃ is.
@@ -285,7 +302,8 @@ module _ {M : Type 1} (𝓤 : URA M) (H : Heap 𝓤) (A : Atoms 𝓤) (W : Given
     walk : Is (Array S 100) a (val a ∷ []) → Is (Array S 100) b (val b ∷ []) → length (x .now) < 2 ^ 64
         → length (d .now) < 2 ^ 64 → (n ≤ 100) × (m ≤ 100)
         → ent 𝓤 (onEntry 𝓤 H A first.signature (bound .0 .0) (bound .0 .1) (bound .0 .3) (bound .0 .4))
-        (WpFn 𝓤 H C Λ function (sv ∷ val a ∷ vint w64 n ∷ val b ∷ vint w64 m ∷ dv ∷ []) (First 𝓤 H A mem run .post bound))
+        (WpFn 𝓤 H C Λ function (sv ∷ val a ∷ vint w64 n ∷ val b ∷ vint w64 m ∷ dv ∷ [])
+        (First 𝓤 H A mem run .post bound))
     walk is-a is-b room room′ few =
         qed W ((‵ (flft κ q) ⊛ (‵ (flft κ′ q′) ⊛ ‵ ftrue)) ∷ ‵ (owns
         (ShrSlice (named 0) κ u8 ∷ Array S 100 ∷ usize ∷ Array S 100 ∷ usize ∷ MutSlice (named 1) κ′ u32 ∷ [])

@@ -67,7 +67,9 @@ function = record { lifetimes = 1; outlives = []; params = 3; locals = local tyU
 function-is : function ≡ code.function
 function-is = refl
 
-module _ {M : Type 1} (𝓤 : URA M) (H : Heap 𝓤) (A : Atoms 𝓤) (W : Given 𝓤 H A) (at-mem : Memory → SProp 𝓤) (run : Routine → Fun 𝓤) (κ : Lft) (q : Share) (b o : ℕ) (γ : GName) (ys : List Step) (n : ℕ) (xs : List Step) where
+module _ {M : Type 1} (𝓤 : URA M) (H : Heap 𝓤) (A : Atoms 𝓤) (W : Given 𝓤 H A) (at-mem : Memory
+    → SProp 𝓤) (run : Routine → Fun 𝓤) (κ : Lft) (q : Share) (b o : ℕ) (γ : GName) (ys : List Step) (n : ℕ)
+    (xs : List Step) where
   abbrev x : RefT (List Step)
   x = record { ptr = (b, o); name = γ; now = ys }
 
@@ -88,14 +90,21 @@ module _ {M : Type 1} (𝓤 : URA M) (H : Heap 𝓤) (A : Atoms 𝓤) (W : Given
       → ent 𝓤 (⋆ 𝓤 H A (‵ (fobs γ (codedHoleys S .code (heres S zs))) ∷ ‵ (flft κ q) ∷ [])) (Post vunit)
   exits zs e long =
       qed W (‵ (fobs γ (codedHoleys S .code (heres S zs))) ∷ ‵ (flft κ q) ∷ []) ∵
-      suffices ! _ (ends-with 𝓤 H A W fill′.ended (fill′.clauses 𝓤 H A at-mem run) bound vunit tt (zs, (tt, (tt, tt)))) $
+      suffices ! _ (ends-with 𝓤 H A W fill′.ended (fill′.clauses 𝓤 H A at-mem run) bound vunit tt (
+        zs,
+        (
+          tt,
+          (tt, tt),
+        ),
+      )) $
       use1 W (‵ (fres γ (codedHoleys S .code (heres S zs)))) (W .names .obs-res γ (codedHoleys S .code (heres S zs))) $
       use1 W (‵ (finally S γ zs)) (res-finally 𝓤 H A W (named 0) κ S γ zs) $ feqI ! ℕ (length zs) (length ys) long $
       move ! (1 ∷ 0 ∷ []) $ fjoin ! $ nothing ! $ nothing ! $ fjoin ! $ nothing ! $ fjoin ! $ move ! (1 ∷ 0 ∷ []) $
       fjoin ! $ nothing ! $ move ! (2 ∷ 0 ∷ []) $ join ! $ frame ! $
       feqI ! (List Val) (vunit ∷ []) (vunit ∷ []) refl $ frame ! $ says ! e $ done !
 
-  module _ (𝓣 : Tables 𝓤 H) (g : Room S (length ys)) (gn : n < 2 ^ 64) (small : n ≤ 64) (short : n ≤ length ys) (given : Is (Array S 64) xs (xv ∷ [])) (l₀ l₁ l₂ l₃ l₄ l₅ l₆ l₇ l₈ l₉ l₁₀ l₁₁ l₁₂ : ℕ) where
+  module _ (𝓣 : Tables 𝓤 H) (g : Room S (length ys)) (gn : n < 2 ^ 64) (small : n ≤ 64) (short : n ≤ length ys)
+      (given : Is (Array S 64) xs (xv ∷ [])) (l₀ l₁ l₂ l₃ l₄ l₅ l₆ l₇ l₈ l₉ l₁₀ l₁₁ l₁₂ : ℕ) where
     abbrev C : Calls 𝓤 H
     C = 𝓣 .C
 
@@ -103,16 +112,23 @@ module _ {M : Type 1} (𝓤 : URA M) (H : Heap 𝓤) (A : Atoms 𝓤) (W : Given
     Λ = 𝓣 .Λ
 
     abbrev En : Env 𝓤 H
-    En = (tyUnit, l₀) ∷ (slice, l₁) ∷ (word, l₂) ∷ (records, l₃) ∷ (records, l₄) ∷ (word, l₅) ∷ (tyBool, l₆) ∷ (word, l₇) ∷ (tyPtr, l₈) ∷ (tyPtr, l₉) ∷ (St′.mir, l₁₀) ∷ (word, l₁₁) ∷ (tyPtr, l₁₂) ∷ []
+    En = (tyUnit, l₀) ∷ (slice, l₁) ∷ (word, l₂) ∷ (records, l₃) ∷ (records, l₄) ∷ (word, l₅) ∷ (tyBool, l₆) ∷
+        (word, l₇) ∷ (tyPtr, l₈) ∷ (tyPtr, l₉) ∷ (St′.mir, l₁₀) ∷ (word, l₁₁) ∷ (tyPtr, l₁₂) ∷ []
 
     -- what no turn touches
     abbrev Frame : List (Item 𝓤)
-    Frame = ‵ (fat fullShare slice l₁ 0 sv) ∷ ‵ (fat fullShare word l₂ 0 (vint w64 n)) ∷ ‵ (fat fullShare records l₃ 0 xv) ∷ ‵ (froom tyUnit l₀ 0) ∷ ‵ (fobor κ q (Held S (length ys) b o γ)) ∷ ‵ (fobs γ (codedHoleys S .code (heres S ys))) ∷ ‵ (fauth γ (codedHoleys S .code (heres S ys)))
-        ∷ ‵ (fdies tyUnit l₀) ∷ ‵ (fdies slice l₁) ∷ ‵ (fdies word l₂) ∷ ‵ (fdies records l₃) ∷ ‵ (fdies records l₄) ∷ ‵ (fdies word l₅) ∷ ‵ (fdies tyBool l₆) ∷ ‵ (fdies word l₇) ∷ ‵ (fdies tyPtr l₈) ∷ ‵ (fdies tyPtr l₉) ∷ ‵ (fdies St′.mir l₁₀) ∷ ‵ (fdies word l₁₁) ∷ ‵ (fdies tyPtr l₁₂) ∷ []
+    Frame = ‵ (fat fullShare slice l₁ 0 sv) ∷ ‵ (fat fullShare word l₂ 0 (vint w64 n)) ∷ ‵
+        (fat fullShare records l₃ 0 xv) ∷ ‵ (froom tyUnit l₀ 0) ∷ ‵ (fobor κ q (Held S (length ys) b o γ)) ∷ ‵ (fobs γ
+        (codedHoleys S .code (heres S ys))) ∷ ‵ (fauth γ (codedHoleys S .code (heres S ys)))
+        ∷ ‵ (fdies tyUnit l₀) ∷ ‵ (fdies slice l₁) ∷ ‵ (fdies word l₂) ∷ ‵ (fdies records l₃) ∷ ‵
+        (fdies records l₄) ∷ ‵ (fdies word l₅) ∷ ‵ (fdies tyBool l₆) ∷ ‵ (fdies word l₇) ∷ ‵ (fdies tyPtr l₈) ∷ ‵
+        (fdies tyPtr l₉) ∷ ‵ (fdies St′.mir l₁₀) ∷ ‵ (fdies word l₁₁) ∷ ‵ (fdies tyPtr l₁₂) ∷ []
 
     -- i records are copied
     abbrev At : ℕ → List (Item 𝓤)
-    At i = ‵ (row S fullShare (copied ys xs i) b o) ∷ ‵ (row S fullShare xs l₄ 0) ∷ ‵ (fat fullShare word l₅ 0 (vint w64 i)) ∷ ‵ (froom tyBool l₆ 0) ∷ ‵ (froom word l₇ 0) ∷ ‵ (froom tyPtr l₈ 0) ∷ ‵ (froom tyPtr l₉ 0) ∷ ‵ (froom St′.mir l₁₀ 0) ∷ ‵ (froom word l₁₁ 0) ∷ ‵ (froom tyPtr l₁₂ 0) ∷ Frame
+    At i = ‵ (row S fullShare (copied ys xs i) b o) ∷ ‵ (row S fullShare xs l₄ 0) ∷ ‵ (fat fullShare word l₅ 0
+        (vint w64 i)) ∷ ‵ (froom tyBool l₆ 0) ∷ ‵ (froom word l₇ 0) ∷ ‵ (froom tyPtr l₈ 0) ∷ ‵ (froom tyPtr l₉ 0) ∷ ‵
+        (froom St′.mir l₁₀ 0) ∷ ‵ (froom word l₁₁ 0) ∷ ‵ (froom tyPtr l₁₂ 0) ∷ Frame
 
     abbrev Left : Out → SProp 𝓤
     Left = afterBlock 𝓤 H (afterSeq 𝓤 H (Wp 𝓤 H C Λ En body.t-4 (atReturn 𝓤 H En Post)) (atReturn 𝓤 H En Post))
@@ -121,31 +137,42 @@ module _ {M : Type 1} (𝓤 : URA M) (H : Heap 𝓤) (A : Atoms 𝓤) (W : Given
     array-long = given .1 .0 .1
 
     -- a turn that copies one record
-    more : (i : ℕ) (X : SProp 𝓤) → i < n → ent 𝓤 (⋆ 𝓤 H A (At (suc i))) X → ent 𝓤 (⋆ 𝓤 H A (At i)) (Wp 𝓤 H C Λ En body.turn-1 (afterTurn 𝓤 H X Left))
+    more : (i : ℕ) (X : SProp 𝓤) → i < n → ent 𝓤 (⋆ 𝓤 H A (At (suc i))) X
+        → ent 𝓤 (⋆ 𝓤 H A (At i)) (Wp 𝓤 H C Λ En body.turn-1 (afterTurn 𝓤 H X Left))
     unfolding afterTurn copied
     more i X lt k =
         qed W (At i) ∵ exec ! C Λ En body.turn-1 (anyQ (afterTurn 𝓤 H X Left)) $
         sets ! (bin ! (held ! 2 refl) (held ! 11 refl) tt) 3 refl (tt, tt) $
         rewrite ! 3 (λ (t : Bool). ‵ (fat fullShare tyBool l₆ 0 (vbool t))) (holds (ltb i n) (lt→ltb i n lt)) refl $
         stays ! (held ! 3 refl) $
-        sets ! (bin ! (held ! 2 refl) (lit ! tt) (record { fits = offset-fits })) 4 refl (tt, record { fits = offset-fits }) $
+        sets ! (bin ! (held ! 2 refl) (lit ! tt) (record { fits = offset-fits })) 4 refl
+        (tt, record { fits = offset-fits }) $
         sets ! (addr ! (from ! (stop !))) 5 refl (tt, tt) $
         sets ! (bin ! (held ! 5 refl) (held ! 4 refl) tt) 6 refl (tt, tt) $
-        rewrite ! 6 (λ (k : ℕ). ‵ (fat fullShare tyPtr l₉ 0 (vptr l₄ k))) (sym (place-is 32 0 i)) refl $ move ! (1 ∷ []) $
+        rewrite ! 6 (λ (k : ℕ). ‵ (fat fullShare tyPtr l₉ 0 (vptr l₄ k))) (sym (place-is 32 0 i)) refl $
+        move ! (1 ∷ []) $
         -- the array's record at i is read
         elem-out ! S (Is S) (shows 𝓤 H A S) vals tells fullShare xs i blank l₄ 0 in-array (λ is.
-        sets ! (of-opd ! (load ! (from ! (hop ! (look ! 8 refl) (stop !))) (look-raw ! 0 refl))) 9 refl (typed 𝓤 H A W (getD xs i blank) _ is) $
+        sets ! (of-opd ! (load ! (from ! (hop ! (look ! 8 refl) (stop !))) (look-raw ! 0 refl))) 9 refl (typed 𝓤 H A W
+        (getD xs i blank) _ is) $
         elem-back ! S fullShare xs i blank (vals (getD xs i blank)) l₄ 0 in-array $
-        sets ! (bin ! (held ! 2 refl) (lit ! tt) (record { fits = offset-fits })) 8 refl (tt, record { fits = offset-fits }) $
-        sets ! (bin ! (load ! (from ! (fld ! refl (stop !))) (look-in ! 10 (sub ! 0 refl (whole !)))) (held ! 8 refl) tt) 9 refl (tt, tt) $
-        rewrite ! 9 (λ (k : ℕ). ‵ (fat fullShare tyPtr l₁₂ 0 (vptr b k))) (sym (place-is 32 o i)) refl $ move ! (1 ∷ []) $
+        sets ! (bin ! (held ! 2 refl) (lit ! tt) (record { fits = offset-fits })) 8 refl
+        (tt, record { fits = offset-fits }) $
+        sets ! (bin ! (load ! (from ! (fld ! refl (stop !))) (look-in ! 10 (sub ! 0 refl (whole !))))
+        (held ! 8 refl) tt) 9 refl (tt, tt) $
+        rewrite ! 9 (λ (k : ℕ). ‵ (fat fullShare tyPtr l₁₂ 0 (vptr b k))) (sym (place-is 32 o i)) refl $
+        move ! (1 ∷ []) $
         -- and stored in the lent list
         elem-out ! S (Is S) (shows 𝓤 H A S) vals tells fullShare (copied ys xs i) i blank b o in-list (λ was.
-        assigns ! (of-opd ! (held ! 9 refl)) (from ! (hop ! (look ! 11 refl) (stop !))) (store-raw ! 0 refl (typed 𝓤 H A W (getD xs i blank) _ is)) $
-        move ! (1 ∷ []) $ drop ! $ owned ! S (Is S) (makes 𝓤 H A W) (getD xs i blank) (vals (getD xs i blank)) is $ move ! (1 ∷ 0 ∷ []) $
+        assigns ! (of-opd ! (held ! 9 refl)) (from ! (hop ! (look ! 11 refl) (stop !))) (store-raw ! 0 refl
+        (typed 𝓤 H A W (getD xs i blank) _ is)) $
+        move ! (1 ∷ []) $ drop ! $ owned ! S (Is S) (makes 𝓤 H A W) (getD xs i blank) (vals (getD xs i blank)) is $
+        move ! (1 ∷ 0 ∷ []) $
         elem-put ! S fullShare (copied ys xs i) i (getD xs i blank) (vals (getD xs i blank)) b o in-list $
-        assigns-last ! (bin ! (held ! 2 refl) (lit ! tt) (record { fits = next-fits })) (from ! (stop !)) (store ! 2 refl (tt, record { fits = next-fits })) $
-        forget ! 3 refl $ forget ! 4 refl $ forget ! 5 refl $ forget ! 6 refl $ forget ! 7 refl $ forget ! 8 refl $ forget ! 9 refl $
+        assigns-last ! (bin ! (held ! 2 refl) (lit ! tt) (record { fits = next-fits })) (from ! (stop !))
+        (store ! 2 refl (tt, record { fits = next-fits })) $
+        forget ! 3 refl $ forget ! 4 refl $ forget ! 5 refl $ forget ! 6 refl $ forget ! 7 refl $ forget ! 8 refl $
+        forget ! 9 refl $
         rewrite ! 2 (λ (j : ℕ). ‵ (fat fullShare word l₅ 0 (vint w64 j))) (add-one i) refl $ by ! k))
       where
         in-array : i < length xs
@@ -166,13 +193,15 @@ module _ {M : Type 1} (𝓤 : URA M) (H : Heap 𝓤) (A : Atoms 𝓤) (W : Given
     ends X =
         qed W (At n) ∵ exec ! C Λ En body.turn-1 (anyQ (afterTurn 𝓤 H X Left)) $
         sets ! (bin ! (held ! 2 refl) (held ! 11 refl) tt) 3 refl (tt, tt) $
-        rewrite ! 3 (λ (t : Bool). ‵ (fat fullShare tyBool l₆ 0 (vbool t))) (fails (ltb n n) (λ a. lt-irrefl n (ltb→lt n n a))) refl $
+        rewrite ! 3 (λ (t : Bool). ‵ (fat fullShare tyBool l₆ 0 (vbool t))) (fails (ltb n n) (λ a. lt-irrefl n
+        (ltb→lt n n a))) refl $
         leaves-loop ! (held ! 3 refl) $ exec ! C Λ En body.t-4 (atRet En Post) $ move ! (1 ∷ []) $
         -- the array is put together
         array-in ! 64 xs l₄ array-long (λ v is.
         sets ! (of-opd ! (unit-lit !)) 13 refl (tt, tt) $
         move ! (1 ∷ 14 ∷ 15 ∷ 16 ∷ []) $ closes-slice ! tt S ys (copied ys xs n) (length-copied ys xs n) b o $
-        returns ! (look ! 15 refl) $ forget ! 3 refl $ forget ! 4 refl $ forget ! 5 refl $ forget ! 12 refl $ forget ! 13 refl $ forget ! 14 refl $ forget ! 15 refl $
+        returns ! (look ! 15 refl) $ forget ! 3 refl $ forget ! 4 refl $ forget ! 5 refl $ forget ! 12 refl $
+        forget ! 13 refl $ forget ! 14 refl $ forget ! 15 refl $
         move ! (15 ∷ 16 ∷ 12 ∷ 17 ∷ 13 ∷ 18 ∷ 14 ∷ 19 ∷ 3 ∷ 20 ∷ 4 ∷ 21 ∷ 5 ∷ 22 ∷ 6 ∷ 23 ∷ 7 ∷ 24 ∷ 8 ∷ 25 ∷ 9 ∷ 26 ∷ 10 ∷
         27 ∷ 11 ∷ 28 ∷ []) $ all-rooms ! _ $ keep ! (0 ∷ 2 ∷ []) $ by ! (exits (copied ys xs n)
         (copied-is ys xs n (omega (arith, array-long)) short) (length-copied ys xs n)))
@@ -182,20 +211,34 @@ module _ {M : Type 1} (𝓤 : URA M) (H : Heap 𝓤) (A : Atoms 𝓤) (W : Given
 
   -- the MIR, up to the loop: the list is opened, and the array taken apart
   walk : (𝓣 : Tables 𝓤 H) → Room S (length ys) → n < 2 ^ 64 → Is (Array S 64) xs (xv ∷ []) → (n ≤ 64) × (n ≤ length ys)
-      → ent 𝓤 (onEntry 𝓤 H A fill′.signature (κ, tt) (q, tt) (x, (n, (xs, tt))) (sv ∷ [], (vint w64 n ∷ [], (xv ∷ [], tt)))) (WpFn 𝓤 H (𝓣 .C) (𝓣 .Λ) function (sv ∷ vint w64 n ∷ xv ∷ []) Post)
+      → ent 𝓤 (onEntry 𝓤 H A fill′.signature (κ, tt) (q, tt) (x, (n, (xs, tt))) (
+        sv ∷ [],
+        (
+          vint w64 n ∷ [],
+          (xv ∷ [], tt),
+        ),
+      )) (WpFn 𝓤 H (𝓣 .C) (𝓣 .Λ) function (sv ∷ vint w64 n ∷ xv ∷ []) Post)
   unfolding partOf copied
   walk 𝓣 g gn given few =
-      qed W ((‵ (flft κ q) ⊛ ‵ ftrue) ∷ ‵ (owns (MutSlice (named 0) κ S ∷ usize ∷ Array S 64 ∷ []) (x, (n, (xs, tt))) (sv ∷ [], (vint w64 n ∷ [], (xv ∷ [], tt)))) ∷ []) ∵ enter ! (𝓣 .C) (𝓣 .Λ) function (sv ∷ vint w64 n ∷ xv ∷ []) _ $
-      alloc1 ! (λ l₀. alloc1 ! (λ l₁. alloc1 ! (λ l₂. alloc1 ! (λ l₃. alloc1 ! (λ l₄. alloc1 ! (λ l₅. alloc1 ! (λ l₆. alloc1 ! (λ l₇. alloc1 ! (λ l₈. alloc1 ! (λ l₉. alloc1 ! (λ l₁₀. alloc1 ! (λ l₁₁. alloc1 ! (λ l₁₂. alloc0 ! $ params1 ! $
-      pass1 ! (init ! 22 refl (tt, (tt, (record { fits = g .0 }, tt)))) $ pass1 ! (init ! 20 refl (tt, record { fits = gn })) $ pass1 ! (init ! 18 refl (typed-all 𝓤 H A W xs xv given)) $ pass0 ! $
+      qed W ((‵ (flft κ q) ⊛ ‵ ftrue) ∷ ‵ (owns (MutSlice (named 0) κ S ∷ usize ∷ Array S 64 ∷ []) (x, (n, (xs, tt)))
+      (sv ∷ [], (vint w64 n ∷ [], (xv ∷ [], tt)))) ∷ []) ∵ enter ! (𝓣 .C) (𝓣 .Λ) function
+      (sv ∷ vint w64 n ∷ xv ∷ []) _ $
+      alloc1 ! (λ l₀. alloc1 ! (λ l₁. alloc1 ! (λ l₂. alloc1 ! (λ l₃. alloc1 ! (λ l₄. alloc1 ! (λ l₅. alloc1 !
+      (λ l₆. alloc1 ! (λ l₇. alloc1 ! (λ l₈. alloc1 ! (λ l₉. alloc1 ! (λ l₁₀. alloc1 ! (λ l₁₁. alloc1 !
+      (λ l₁₂. alloc0 ! $ params1 ! $
+      pass1 ! (init ! 22 refl (tt, (tt, (record { fits = g .0 }, tt)))) $
+      pass1 ! (init ! 20 refl (tt, record { fits = gn })) $
+      pass1 ! (init ! 18 refl (typed-all 𝓤 H A W xs xv given)) $ pass0 ! $
       sets ! (of-opd ! (held ! 18 refl)) 16 refl (typed-all 𝓤 H A W xs xv given) $
       sets ! (of-opd ! (lit ! tt)) 14 refl (tt, record { fits = lit< tt }) $
-      move ! (27 ∷ []) $ fsplit ! $ move ! (1 ∷ []) $ drop ! $ fsplit ! $ drop ! $ fsplit ! $ move ! (28 ∷ []) $ split ! $ move ! (2 ∷ 3 ∷ 0 ∷ []) $
+      move ! (27 ∷ []) $ fsplit ! $ move ! (1 ∷ []) $ drop ! $ fsplit ! $ drop ! $ fsplit ! $ move ! (28 ∷ []) $
+      split ! $ move ! (2 ∷ 3 ∷ 0 ∷ []) $
       opens-slice ! tt S ys b o $ move ! (21 ∷ []) $
       array-out ! 64 xs l₄ xv given $
       keep ! (1 ∷ 0 ∷ 20 ∷ 18 ∷ 16 ∷ 14 ∷ 12 ∷ 10 ∷ 8 ∷ 6 ∷ 27 ∷ 25 ∷ 23 ∷ 29 ∷ 2 ∷ 3 ∷ 4 ∷ 30 ∷ 28 ∷ 26 ∷ 24 ∷ 22 ∷ 21 ∷ 19 ∷ 17 ∷ 15 ∷ 13 ∷ 11 ∷ 9 ∷ 7 ∷ []) $ by ! (loops 𝓣 g gn (few .0) (few .1) given l₀ l₁ l₂ l₃ l₄ l₅ l₆ l₇ l₈ l₉ l₁₀ l₁₁ l₁₂))))))))))))))
 
-module _ {M : Type 1} (𝓤 : URA M) (H : Heap 𝓤) (A : Atoms 𝓤) (W : Given 𝓤 H A) (at-mem : Memory → SProp 𝓤) (run : Routine → Fun 𝓤) (𝓣 : Tables 𝓤 H) where
+module _ {M : Type 1} (𝓤 : URA M) (H : Heap 𝓤) (A : Atoms 𝓤) (W : Given 𝓤 H A) (at-mem : Memory
+    → SProp 𝓤) (run : Routine → Fun 𝓤) (𝓣 : Tables 𝓤 H) where
   fill-meets : Meets 𝓤 H A fill′.signature (WpFn 𝓤 H (𝓣 .C) (𝓣 .Λ) code.function) (fill′.spec 𝓤 H A at-mem run)
   fill-meets = subst (λ (f : Fn). Meets 𝓤 H A fill′.signature (WpFn 𝓤 H (𝓣 .C) (𝓣 .Λ) f) (fill′.spec 𝓤 H A at-mem run))
       function-is (meets 𝓤 H A W fill′.ended (fill′.clauses 𝓤 H A at-mem run) (WpFn 𝓤 H (𝓣 .C) (𝓣 .Λ) function)

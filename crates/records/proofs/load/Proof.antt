@@ -81,7 +81,8 @@ is-blanks : Is (Array S 64) blanks (av ∷ [])
 is-blanks = (replicate 64 bv, ((refl, length-replicate 64 blank), all-blank 64))
 
 -- records in an array, as a route's field holds them
-all-fields : (xs : List Step) (us : List Val) → shadow (each Step (S .own) xs us) → shadow (each (St.the-field .row .Denot) (St.the-field .row .own) (map (St.the-field .into) xs) us)
+all-fields : (xs : List Step) (us : List Val) → shadow (each Step (S .own) xs us)
+    → shadow (each (St.the-field .row .Denot) (St.the-field .row .own) (map (St.the-field .into) xs) us)
 all-fields [] [] s = tt
 all-fields [] (u ∷ us) s = absurd s
 all-fields (x ∷ xs) [] s = absurd s
@@ -94,7 +95,8 @@ function = record { lifetimes = 1; outlives = []; params = 2; locals = local Ro�
 function-is : function ≡ code.function
 function-is = refl
 
-module _ {M : Type 1} (𝓤 : URA M) (H : Heap 𝓤) (A : Atoms 𝓤) (W : Given 𝓤 H A) (mem : Memory → SProp 𝓤) (run : Routine → Fun 𝓤) (κ : Lft) (q : Share) (p b o : ℕ) (γ : GName) (ys : List Step) where
+module _ {M : Type 1} (𝓤 : URA M) (H : Heap 𝓤) (A : Atoms 𝓤) (W : Given 𝓤 H A) (mem : Memory
+    → SProp 𝓤) (run : Routine → Fun 𝓤) (κ : Lft) (q : Share) (p b o : ℕ) (γ : GName) (ys : List Step) where
   abbrev xs : RefT (List Step)
   xs = record { ptr = (b, o); name = γ; now = ys }
 
@@ -118,7 +120,9 @@ module _ {M : Type 1} (𝓤 : URA M) (H : Heap 𝓤) (A : Atoms 𝓤) (W : Given
       nothing ! $ move ! (1 ∷ 0 ∷ []) $ join ! $ frame ! $ frame ! $ nothing ! $ nothing ! $ fjoin ! $ nothing ! $
       fjoin ! $ says ! e $ done !
 
-  module _ (𝓣 : Tables 𝓤 H) (known : Triple 𝓤 (𝓣 .C #record-at) (RecordAt 𝓤 H A mem run)) (g : Room S (length ys)) (gp : p < 2 ^ 64) (n : ℕ) (small : n ≤ 64) (short : n ≤ length ys) (fin : record { places = p; len = length ys; steps = copied blanks ys n } ≡ loaded p ys)
+  module _ (𝓣 : Tables 𝓤 H) (known : Triple 𝓤 (𝓣 .C #record-at) (RecordAt 𝓤 H A mem run)) (g : Room S (length ys))
+      (gp : p < 2 ^ 64) (n : ℕ) (small : n ≤ 64) (short : n ≤ length ys)
+      (fin : record { places = p; len = length ys; steps = copied blanks ys n } ≡ loaded p ys)
       (l₀ l₁ l₂ l₃ l₄ l₅ l₆ l₇ l₈ l₉ l₁₀ l₁₁ l₁₂ l₁₃ l₁₄ : ℕ) where
     abbrev C : Calls 𝓤 H
     C = 𝓣 .C
@@ -127,26 +131,34 @@ module _ {M : Type 1} (𝓤 : URA M) (H : Heap 𝓤) (A : Atoms 𝓤) (W : Given
     Λ = 𝓣 .Λ
 
     abbrev En : Env 𝓤 H
-    En = (Ro′.mir, l₀) ∷ (word, l₁) ∷ (slice, l₂) ∷ (records, l₃) ∷ (word, l₄) ∷ (word, l₅) ∷ (word, l₆) ∷ (St′.mir, l₇) ∷ (tyBool, l₈) ∷ (tyBool, l₉) ∷ (St′.mir, l₁₀) ∷ (word, l₁₁) ∷ (tyPtr, l₁₂) ∷ (tyPtr, l₁₃) ∷ (records, l₁₄) ∷ []
+    En = (Ro′.mir, l₀) ∷ (word, l₁) ∷ (slice, l₂) ∷ (records, l₃) ∷ (word, l₄) ∷ (word, l₅) ∷ (word, l₆) ∷
+        (St′.mir, l₇) ∷ (tyBool, l₈) ∷ (tyBool, l₉) ∷ (St′.mir, l₁₀) ∷ (word, l₁₁) ∷ (tyPtr, l₁₂) ∷ (tyPtr, l₁₃) ∷
+        (records, l₁₄) ∷ []
 
     -- what no turn touches
     abbrev Frame : List (Item 𝓤)
-    Frame = ‵ (fat fullShare slice l₂ 0 sv) ∷ ‵ (fat fullShare word l₅ 0 (vint w64 n)) ∷ ‵ (fat fullShare word l₄ 0 (vint w64 (length ys)))
-        ∷ ‵ (fat fullShare word l₁ 0 (vint w64 p)) ∷ ‵ (froom Ro′.mir l₀ 0) ∷ ‵ (froom St′.mir l₇ 0) ∷ ‵ (froom tyBool l₈ 0) ∷ ‵ (froom records l₁₄ 0)
-        ∷ ‵ (fdies Ro′.mir l₀) ∷ ‵ (fdies word l₁) ∷ ‵ (fdies slice l₂) ∷ ‵ (fdies records l₃) ∷ ‵ (fdies word l₄) ∷ ‵ (fdies word l₅) ∷ ‵ (fdies word l₆)
-        ∷ ‵ (fdies St′.mir l₇) ∷ ‵ (fdies tyBool l₈) ∷ ‵ (fdies tyBool l₉) ∷ ‵ (fdies St′.mir l₁₀) ∷ ‵ (fdies word l₁₁) ∷ ‵ (fdies tyPtr l₁₂)
+    Frame = ‵ (fat fullShare slice l₂ 0 sv) ∷ ‵ (fat fullShare word l₅ 0 (vint w64 n)) ∷ ‵ (fat fullShare word l₄ 0
+        (vint w64 (length ys)))
+        ∷ ‵ (fat fullShare word l₁ 0 (vint w64 p)) ∷ ‵ (froom Ro′.mir l₀ 0) ∷ ‵ (froom St′.mir l₇ 0) ∷ ‵
+        (froom tyBool l₈ 0) ∷ ‵ (froom records l₁₄ 0)
+        ∷ ‵ (fdies Ro′.mir l₀) ∷ ‵ (fdies word l₁) ∷ ‵ (fdies slice l₂) ∷ ‵ (fdies records l₃) ∷ ‵ (fdies word l₄) ∷ ‵
+        (fdies word l₅) ∷ ‵ (fdies word l₆)
+        ∷ ‵ (fdies St′.mir l₇) ∷ ‵ (fdies tyBool l₈) ∷ ‵ (fdies tyBool l₉) ∷ ‵ (fdies St′.mir l₁₀) ∷ ‵
+        (fdies word l₁₁) ∷ ‵ (fdies tyPtr l₁₂)
         ∷ ‵ (fdies tyPtr l₁₃) ∷ ‵ (fdies records l₁₄) ∷ []
 
     -- i records are copied
     abbrev At : ℕ → List (Item 𝓤)
-    At i = ‵ (row S fullShare (copied blanks ys i) l₃ 0) ∷ ‵ (flft κ q) ∷ ‵ Own ∷ ‵ (fat fullShare word l₆ 0 (vint w64 i)) ∷ ‵ (froom tyBool l₉ 0)
+    At i = ‵ (row S fullShare (copied blanks ys i) l₃ 0) ∷ ‵ (flft κ q) ∷ ‵ Own ∷ ‵ (fat fullShare word l₆ 0
+        (vint w64 i)) ∷ ‵ (froom tyBool l₉ 0)
         ∷ ‵ (froom St′.mir l₁₀ 0) ∷ ‵ (froom word l₁₁ 0) ∷ ‵ (froom tyPtr l₁₂ 0) ∷ ‵ (froom tyPtr l₁₃ 0) ∷ Frame
 
     abbrev Left : Out → SProp 𝓤
     Left = afterBlock 𝓤 H (afterSeq 𝓤 H (Wp 𝓤 H C Λ En body.t-9 (atReturn 𝓤 H En Post)) (atReturn 𝓤 H En Post))
 
     -- a turn that copies one record
-    more : (i : ℕ) (X : SProp 𝓤) → i < n → ent 𝓤 (⋆ 𝓤 H A (At (suc i))) X → ent 𝓤 (⋆ 𝓤 H A (At i)) (Wp 𝓤 H C Λ En body.turn-1 (afterTurn 𝓤 H X Left))
+    more : (i : ℕ) (X : SProp 𝓤) → i < n → ent 𝓤 (⋆ 𝓤 H A (At (suc i))) X
+        → ent 𝓤 (⋆ 𝓤 H A (At i)) (Wp 𝓤 H C Λ En body.turn-1 (afterTurn 𝓤 H X Left))
     unfolding afterTurn copied
     more i X lt k =
         qed W (At i) ∵ exec ! C Λ En body.turn-1 (anyQ (afterTurn 𝓤 H X Left)) $
@@ -154,19 +166,25 @@ module _ {M : Type 1} (𝓤 : URA M) (H : Heap 𝓤) (A : Atoms 𝓤) (W : Given
         rewrite ! 4 (λ (t : Bool). ‵ (fat fullShare tyBool l₉ 0 (vbool t))) (holds (ltb i n) (lt→ltb i n lt)) refl $
         stays ! (held ! 4 refl) $
         -- the record at i is copied out
-        move ! (2 ∷ []) $ use1 W (‵ Own ⊛ ‵ Own) (shr-slice-copy 𝓤 H A W (named 0) κ S .twice xs (sv ∷ [])) $ split ! $ move ! (3 ∷ 0 ∷ []) $
-        reads 𝓤 H A W mem run C Λ (fmOf 𝓤 H (W .laws) 𝓣) known κ q xs i (omega arith) ! (and-then ! (held ! 9 refl) (and-then ! (held ! 3 refl) (no-more !))) (λ v is.
+        move ! (2 ∷ []) $ use1 W (‵ Own ⊛ ‵ Own) (shr-slice-copy 𝓤 H A W (named 0) κ S .twice xs (sv ∷ [])) $ split ! $
+        move ! (3 ∷ 0 ∷ []) $
+        reads 𝓤 H A W mem run C Λ (fmOf 𝓤 H (W .laws) 𝓣) known κ q xs i (omega arith) ! (and-then ! (held ! 9 refl)
+        (and-then ! (held ! 3 refl) (no-more !))) (λ v is.
         land ! (from ! (stop !)) (init ! 6 refl (typed 𝓤 H A W (getD ys i blank) _ is)) $
         -- and stored in the array
-        sets ! (bin ! (held ! 4 refl) (lit ! tt) (record { fits = offset-fits })) 7 refl (tt, record { fits = offset-fits }) $
+        sets ! (bin ! (held ! 4 refl) (lit ! tt) (record { fits = offset-fits })) 7 refl
+        (tt, record { fits = offset-fits }) $
         sets ! (addr ! (from ! (stop !))) 8 refl (tt, tt) $
         sets ! (bin ! (held ! 8 refl) (held ! 7 refl) tt) 9 refl (tt, tt) $
-        rewrite ! 9 (λ (k : ℕ). ‵ (fat fullShare tyPtr l₁₃ 0 (vptr l₃ k))) (sym (place-is 32 0 i)) refl $ move ! (3 ∷ []) $
+        rewrite ! 9 (λ (k : ℕ). ‵ (fat fullShare tyPtr l₁₃ 0 (vptr l₃ k))) (sym (place-is 32 0 i)) refl $
+        move ! (3 ∷ []) $
         elem-out ! S (Is S) (shows 𝓤 H A S) vals tells fullShare (copied blanks ys i) i blank l₃ 0 in-array (λ was.
-        assigns ! (of-opd ! (held ! 8 refl)) (from ! (hop ! (look ! 11 refl) (stop !))) (store-raw ! 0 refl (typed 𝓤 H A W (getD ys i blank) _ is)) $
+        assigns ! (of-opd ! (held ! 8 refl)) (from ! (hop ! (look ! 11 refl) (stop !))) (store-raw ! 0 refl
+        (typed 𝓤 H A W (getD ys i blank) _ is)) $
         move ! (1 ∷ []) $ drop ! $ move ! (0 ∷ 2 ∷ []) $
         elem-put ! S fullShare (copied blanks ys i) i (getD ys i blank) (v ∷ []) l₃ 0 in-array $
-        assigns-last ! (bin ! (held ! 3 refl) (lit ! tt) (record { fits = next-fits })) (from ! (stop !)) (store ! 3 refl (tt, record { fits = next-fits })) $
+        assigns-last ! (bin ! (held ! 3 refl) (lit ! tt) (record { fits = next-fits })) (from ! (stop !))
+        (store ! 3 refl (tt, record { fits = next-fits })) $
         forget ! 4 refl $ forget ! 5 refl $ forget ! 6 refl $ forget ! 7 refl $ forget ! 8 refl $
         rewrite ! 3 (λ (j : ℕ). ‵ (fat fullShare word l₆ 0 (vint w64 j))) (add-one i) refl $ by ! k))
       where
@@ -185,13 +203,16 @@ module _ {M : Type 1} (𝓤 : URA M) (H : Heap 𝓤) (A : Atoms 𝓤) (W : Given
     ends X =
         qed W (At n) ∵ exec ! C Λ En body.turn-1 (anyQ (afterTurn 𝓤 H X Left)) $
         sets ! (bin ! (held ! 3 refl) (held ! 10 refl) tt) 4 refl (tt, tt) $
-        rewrite ! 4 (λ (t : Bool). ‵ (fat fullShare tyBool l₉ 0 (vbool t))) (fails (ltb n n) (λ a. lt-irrefl n (ltb→lt n n a))) refl $
+        rewrite ! 4 (λ (t : Bool). ‵ (fat fullShare tyBool l₉ 0 (vbool t))) (fails (ltb n n) (λ a. lt-irrefl n
+        (ltb→lt n n a))) refl $
         leaves-loop ! (held ! 4 refl) $ exec ! C Λ En body.t-9 (atRet En Post) $
         -- the array is put together
         array-in ! 64 all l₃ all-long (λ v is.
         sets ! (of-opd ! (held ! 0 refl)) 16 refl (typed-all 𝓤 H A W all v is) $
-        sets ! (agg ! (and-then ! (held ! 12 refl) (and-then ! (held ! 11 refl) (and-then ! (held ! 16 refl) (no-more !))))) 13 refl (LL.lawful Ro.the-type Ro′.the-laws 𝓤 H A W .typed made _ (is-made v is) .0) $
-        returns ! (look ! 13 refl) $ forget ! 0 refl $ forget ! 3 refl $ forget ! 4 refl $ forget ! 9 refl $ forget ! 10 refl $ forget ! 11 refl $ forget ! 12 refl $ forget ! 13 refl $ forget ! 16 refl $
+        sets ! (agg ! (and-then ! (held ! 12 refl) (and-then ! (held ! 11 refl) (and-then ! (held ! 16 refl)
+        (no-more !))))) 13 refl (LL.lawful Ro.the-type Ro′.the-laws 𝓤 H A W .typed made _ (is-made v is) .0) $
+        returns ! (look ! 13 refl) $ forget ! 0 refl $ forget ! 3 refl $ forget ! 4 refl $ forget ! 9 refl $
+        forget ! 10 refl $ forget ! 11 refl $ forget ! 12 refl $ forget ! 13 refl $ forget ! 16 refl $
         owned ! Ro.the-row (Is Ro.the-row) (LL.makes Ro.the-type Ro′.the-plain 𝓤 H A) made _ (is-made v is) $
         move ! (14 ∷ 18 ∷ 13 ∷ 19 ∷ 10 ∷ 20 ∷ 1 ∷ 21 ∷ 12 ∷ 22 ∷ 11 ∷ 23 ∷ 4 ∷ 24 ∷ 15 ∷ 25 ∷ 16 ∷ 26 ∷ 5 ∷ 27 ∷ 6 ∷ 28 ∷
         7 ∷ 29 ∷ 8 ∷ 30 ∷ 9 ∷ 31 ∷ 17 ∷ 32 ∷ []) $ all-rooms ! _ $ keep ! (1 ∷ 0 ∷ []) $ by ! (exits made _ fin))
@@ -216,7 +237,14 @@ module _ {M : Type 1} (𝓤 : URA M) (H : Heap 𝓤) (A : Atoms 𝓤) (W : Given
               (
                 (refl, g .0),
                 (
-                  (is .0, ((is .1 .0 .0, length-map all (St.the-field .into) ∙ all-long), all-fields all (is .0) (is .1 .1))),
+                  (
+                    is .0,
+                    (
+                      (is .1 .0 .0, length-map all (St.the-field .into) ∙ all-long),
+                      all-fields all (is .0)
+                          (is .1 .1),
+                    ),
+                  ),
                   tt,
                 ),
               ),
@@ -229,11 +257,16 @@ module _ {M : Type 1} (𝓤 : URA M) (H : Heap 𝓤) (A : Atoms 𝓤) (W : Given
 
     -- what stands before the loop
     abbrev Before : Bool → List (Item 𝓤)
-    Before t = ‵ (froom records l₁₄ 0) ∷ ‵ (fdies records l₁₄) ∷ ‵ (froom tyPtr l₁₃ 0) ∷ ‵ (fdies tyPtr l₁₃) ∷ ‵ (froom tyPtr l₁₂ 0) ∷ ‵ (fdies tyPtr l₁₂)
-        ∷ ‵ (froom word l₁₁ 0) ∷ ‵ (fdies word l₁₁) ∷ ‵ (froom St′.mir l₁₀ 0) ∷ ‵ (fdies St′.mir l₁₀) ∷ ‵ (froom tyBool l₉ 0) ∷ ‵ (fdies tyBool l₉)
-        ∷ ‵ (fat fullShare tyBool l₈ 0 (vbool t)) ∷ ‵ (fdies tyBool l₈) ∷ ‵ (fat fullShare St′.mir l₇ 0 bv) ∷ ‵ (fdies St′.mir l₇) ∷ ‵ (froom word l₆ 0)
-        ∷ ‵ (fdies word l₆) ∷ ‵ (fat fullShare word l₅ 0 (vint w64 n)) ∷ ‵ (fdies word l₅) ∷ ‵ (fat fullShare word l₄ 0 (vint w64 (length ys))) ∷ ‵ (fdies word l₄)
-        ∷ ‵ (fat fullShare records l₃ 0 av) ∷ ‵ (fdies records l₃) ∷ ‵ (fat fullShare slice l₂ 0 sv) ∷ ‵ (fdies slice l₂) ∷ ‵ (fat fullShare word l₁ 0 (vint w64 p))
+    Before t = ‵ (froom records l₁₄ 0) ∷ ‵ (fdies records l₁₄) ∷ ‵ (froom tyPtr l₁₃ 0) ∷ ‵ (fdies tyPtr l₁₃) ∷ ‵
+        (froom tyPtr l₁₂ 0) ∷ ‵ (fdies tyPtr l₁₂)
+        ∷ ‵ (froom word l₁₁ 0) ∷ ‵ (fdies word l₁₁) ∷ ‵ (froom St′.mir l₁₀ 0) ∷ ‵ (fdies St′.mir l₁₀) ∷ ‵
+        (froom tyBool l₉ 0) ∷ ‵ (fdies tyBool l₉)
+        ∷ ‵ (fat fullShare tyBool l₈ 0 (vbool t)) ∷ ‵ (fdies tyBool l₈) ∷ ‵ (fat fullShare St′.mir l₇ 0 bv) ∷ ‵
+        (fdies St′.mir l₇) ∷ ‵ (froom word l₆ 0)
+        ∷ ‵ (fdies word l₆) ∷ ‵ (fat fullShare word l₅ 0 (vint w64 n)) ∷ ‵ (fdies word l₅) ∷ ‵
+        (fat fullShare word l₄ 0 (vint w64 (length ys))) ∷ ‵ (fdies word l₄)
+        ∷ ‵ (fat fullShare records l₃ 0 av) ∷ ‵ (fdies records l₃) ∷ ‵ (fat fullShare slice l₂ 0 sv) ∷ ‵
+        (fdies slice l₂) ∷ ‵ (fat fullShare word l₁ 0 (vint w64 p))
         ∷ ‵ (fdies word l₁) ∷ ‵ (froom Ro′.mir l₀ 0) ∷ ‵ (fdies Ro′.mir l₀) ∷ (‵ (flft κ q) ⊛ ‵ ftrue)
         ∷ ‵ (owns (u64 ∷ ShrSlice (named 0) κ S ∷ []) (p, (xs, tt)) (vint w64 p ∷ [], (sv ∷ [], tt))) ∷ []
 
@@ -249,24 +282,39 @@ module _ {M : Type 1} (𝓤 : URA M) (H : Heap 𝓤) (A : Atoms 𝓤) (W : Given
         by ! loops
 
   -- the MIR from its entry
-  walk : (𝓣 : Tables 𝓤 H) → Triple 𝓤 (𝓣 .C #record-at) (RecordAt 𝓤 H A mem run) → Room S (length ys) → p < 2 ^ 64 → ent 𝓤 (onEntry 𝓤 H A load′.signature (κ, tt) (q, tt) (p, (xs, tt)) (vint w64 p ∷ [], (sv ∷ [], tt)))
+  walk : (𝓣 : Tables 𝓤 H) → Triple 𝓤 (𝓣 .C #record-at) (RecordAt 𝓤 H A mem run) → Room S (length ys) → p < 2 ^ 64
+      → ent 𝓤 (onEntry 𝓤 H A load′.signature (κ, tt) (q, tt) (p, (xs, tt)) (vint w64 p ∷ [], (sv ∷ [], tt)))
       (WpFn 𝓤 H (𝓣 .C) (𝓣 .Λ) function (vint w64 p ∷ sv ∷ []) Post)
   walk 𝓣 known g gp =
-      qed W ((‵ (flft κ q) ⊛ ‵ ftrue) ∷ ‵ (owns (u64 ∷ ShrSlice (named 0) κ S ∷ []) (p, (xs, tt)) (vint w64 p ∷ [], (sv ∷ [], tt))) ∷ []) ∵ enter ! (𝓣 .C) (𝓣 .Λ) function (vint w64 p ∷ sv ∷ []) _ $
-      alloc1 ! (λ l₀. alloc1 ! (λ l₁. alloc1 ! (λ l₂. alloc1 ! (λ l₃. alloc1 ! (λ l₄. alloc1 ! (λ l₅. alloc1 ! (λ l₆. alloc1 ! (λ l₇. alloc1 ! (λ l₈. alloc1 ! (λ l₉. alloc1 ! (λ l₁₀. alloc1 ! (λ l₁₁. alloc1 ! (λ l₁₂. alloc1 ! (λ l₁₃. alloc1 ! (λ l₁₄. alloc0 ! $ params1 ! $
-      pass1 ! (init ! 26 refl (tt, record { fits = gp })) $ pass1 ! (init ! 24 refl (tt, (tt, (record { fits = g .0 }, tt)))) $ pass0 ! $
-      sets ! (agg ! (and-then ! (lit ! tt) (and-then ! (lit ! tt) (and-then ! (lit ! tt) (and-then ! (lit ! tt) (and-then ! (lit ! tt) (no-more !))))))) 14 refl (typed 𝓤 H A W blank bv is-blank) $
+      qed W ((‵ (flft κ q) ⊛ ‵ ftrue) ∷ ‵ (owns (u64 ∷ ShrSlice (named 0) κ S ∷ []) (p, (xs, tt)) (
+        vint w64 p ∷ [],
+        (sv ∷ [], tt),
+      )) ∷ []) ∵ enter ! (𝓣 .C) (𝓣 .Λ) function (vint w64 p ∷ sv ∷ []) _ $
+      alloc1 ! (λ l₀. alloc1 ! (λ l₁. alloc1 ! (λ l₂. alloc1 ! (λ l₃. alloc1 ! (λ l₄. alloc1 ! (λ l₅. alloc1 !
+      (λ l₆. alloc1 ! (λ l₇. alloc1 ! (λ l₈. alloc1 ! (λ l₉. alloc1 ! (λ l₁₀. alloc1 ! (λ l₁₁. alloc1 !
+      (λ l₁₂. alloc1 ! (λ l₁₃. alloc1 ! (λ l₁₄. alloc0 ! $ params1 ! $
+      pass1 ! (init ! 26 refl (tt, record { fits = gp })) $
+      pass1 ! (init ! 24 refl (tt, (tt, (record { fits = g .0 }, tt)))) $ pass0 ! $
+      sets ! (agg ! (and-then ! (lit ! tt) (and-then ! (lit ! tt) (and-then ! (lit ! tt) (and-then ! (lit ! tt)
+      (and-then ! (lit ! tt) (no-more !))))))) 14 refl (typed 𝓤 H A W blank bv is-blank) $
       sets ! (rep ! 64 (held ! 14 refl)) 22 refl (typed-all 𝓤 H A W blanks av is-blanks) $
-      sets ! (of-opd ! (load ! (from ! (fld ! refl (stop !))) (look-in ! 24 (sub ! 1 refl (whole !))))) 20 refl (tt, record { fits = g .0 }) $
+      sets ! (of-opd ! (load ! (from ! (fld ! refl (stop !))) (look-in ! 24 (sub ! 1 refl (whole !))))) 20 refl
+      (tt, record { fits = g .0 }) $
       sets ! (of-opd ! (held ! 20 refl)) 18 refl (tt, record { fits = g .0 }) $
       sets ! (bin ! (lit ! tt) (held ! 18 refl) tt) 12 refl (tt, tt) $
       -- as many records are copied as there are, at most 64
       first ! $ branches ! (held ! 12 refl)
-      (λ long. assigns-last ! (of-opd ! (lit ! tt)) (from ! (stop !)) (store ! 18 refl (tt, record { fits = lit< tt })) $
-      by ! (starts 𝓣 known g gp 64 (omega arith) (omega (arith, ltb→lt 64 (length ys) long)) (loads-long p ys (ltb→lt 64 (length ys) long)) l₀ l₁ l₂ l₃ l₄ l₅ l₆ l₇ l₈ l₉ l₁₀ l₁₁ l₁₂ l₁₃ l₁₄ (ltb 64 (length ys))))
-      (λ not-long. skips ! $ by ! (starts 𝓣 known g gp (length ys) (nltb→le 64 (length ys) not-long) (omega arith) (loads-short p ys (nltb→le 64 (length ys) not-long)) l₀ l₁ l₂ l₃ l₄ l₅ l₆ l₇ l₈ l₉ l₁₀ l₁₁ l₁₂ l₁₃ l₁₄ (ltb 64 (length ys)))))))))))))))))))
+      (λ long. assigns-last ! (of-opd ! (lit ! tt)) (from ! (stop !)) (store ! 18 refl
+      (tt, record { fits = lit< tt })) $
+      by ! (starts 𝓣 known g gp 64 (omega arith) (omega (arith, ltb→lt 64 (length ys) long)) (loads-long p ys
+      (ltb→lt 64 (length ys) long)) l₀ l₁ l₂ l₃ l₄ l₅ l₆ l₇ l₈ l₉ l₁₀ l₁₁ l₁₂ l₁₃ l₁₄ (ltb 64 (length ys))))
+      (λ not-long. skips ! $ by ! (starts 𝓣 known g gp (length ys) (nltb→le 64 (length ys) not-long) (omega arith)
+      (loads-short p ys (nltb→le 64 (length ys) not-long)) l₀ l₁ l₂ l₃ l₄ l₅ l₆ l₇ l₈ l₉ l₁₀ l₁₁ l₁₂ l₁₃ l₁₄ (ltb 64
+      (length ys)))))))))))))))))))
 
-module _ {M : Type 1} (𝓤 : URA M) (H : Heap 𝓤) (A : Atoms 𝓤) (W : Given 𝓤 H A) (mem : Memory → SProp 𝓤) (run : Routine → Fun 𝓤) (𝓣 : Tables 𝓤 H) (known : Triple 𝓤 (𝓣 .C #record-at) (RecordAt 𝓤 H A mem run)) where
+module _ {M : Type 1} (𝓤 : URA M) (H : Heap 𝓤) (A : Atoms 𝓤) (W : Given 𝓤 H A) (mem : Memory
+    → SProp 𝓤) (run : Routine → Fun 𝓤) (𝓣 : Tables 𝓤 H) (known : Triple 𝓤 (𝓣 .C #record-at)
+    (RecordAt 𝓤 H A mem run)) where
   load-meets : Meets 𝓤 H A load′.signature (WpFn 𝓤 H (𝓣 .C) (𝓣 .Λ) code.function) (load′.spec 𝓤 H A mem run)
   load-meets = subst (λ (f : Fn). Meets 𝓤 H A load′.signature (WpFn 𝓤 H (𝓣 .C) (𝓣 .Λ) f) (load′.spec 𝓤 H A mem run))
       function-is (meets 𝓤 H A W load′.ended (load′.clauses 𝓤 H A mem run) (WpFn 𝓤 H (𝓣 .C) (𝓣 .Λ) function)
@@ -281,4 +329,5 @@ load-spec 𝓤 H 𝓜 𝓖 𝓡 =
     entered 𝓤 H (tripleOf 𝓤 H (𝓖 .A) load′.signature (load′.spec 𝓤 H (𝓖 .A) (𝓜 .mem) (𝓡 .run)))
     (tables 𝓤 H 𝓜 𝓡 code.env .C) (tables 𝓤 H 𝓜 𝓡 code.env .Λ) #records·load code.function (code.unfolded 𝓤 H 𝓜 𝓡)
     (load-meets 𝓤 H (𝓖 .A) (givenOf 𝓤 H 𝓜 𝓖) (𝓜 .mem) (𝓡 .run) (tablesOf 𝓤 H 𝓜 (tables 𝓤 H 𝓜 𝓡 code.env))
-    (cited 𝓤 H _ 𝓜 𝓡 code.env record-at.name record-at.routine code.calls-records·record-at (record-at-thm.met 𝓤 H 𝓜 𝓖 𝓡)))
+    (cited 𝓤 H _ 𝓜 𝓡 code.env record-at.name record-at.routine code.calls-records·record-at
+    (record-at-thm.met 𝓤 H 𝓜 𝓖 𝓡)))

@@ -56,7 +56,8 @@ function = record { lifetimes = 1; outlives = []; params = 2; locals = local St�
 function-is : function ≡ code.function
 function-is = refl
 
-module _ {M : Type 1} (𝓤 : URA M) (H : Heap 𝓤) (A : Atoms 𝓤) (W : Given 𝓤 H A) (mem : Memory → SProp 𝓤) (run : Routine → Fun 𝓤) (κ : Lft) (q : Share) (b o : ℕ) (γ : GName) (ys : List Step) (i : ℕ) where
+module _ {M : Type 1} (𝓤 : URA M) (H : Heap 𝓤) (A : Atoms 𝓤) (W : Given 𝓤 H A) (mem : Memory
+    → SProp 𝓤) (run : Routine → Fun 𝓤) (κ : Lft) (q : Share) (b o : ℕ) (γ : GName) (ys : List Step) (i : ℕ) where
   abbrev xs : RefT (List Step)
   xs = record { ptr = (b, o); name = γ; now = ys }
 
@@ -96,7 +97,8 @@ module _ {M : Type 1} (𝓤 : URA M) (H : Heap 𝓤) (A : Atoms 𝓤) (W : Given
       (tt, record { fits = lies in-list }) $
       sets ! (bin ! (load ! (from ! (fld ! refl (stop !))) (look-in ! 16 (sub ! 0 refl (whole !)))) (held ! 8 refl) tt)
       6 refl (tt, tt) $
-      rewrite ! 6 (λ (k : ℕ). ‵ (fat fullShare tyPtr (l .1 .1 .1 .1 .1 .1 .0) 0 (vptr b k))) (sym (place-is 32 o i)) refl $
+      rewrite ! 6 (λ (k : ℕ). ‵ (fat fullShare tyPtr (l .1 .1 .1 .1 .1 .1 .0) 0 (vptr b k))) (sym
+      (place-is 32 o i)) refl $
       fsplit ! $ drop ! $ fsplit ! $ drop ! $
       looks-slice ! tt S (Is S) (shows 𝓤 H A S) vals tells (LL.copy St.the-type St′.the-copy 𝓤 H A W) ys b o (λ q′.
       elem-out ! S (Is S) (shows 𝓤 H A S) vals tells q′ ys i blank b o (inside in-list) (λ is.
@@ -114,7 +116,8 @@ module _ {M : Type 1} (𝓤 : URA M) (H : Heap 𝓤) (A : Atoms 𝓤) (W : Given
       returns ! (look ! 18 refl) $ forget ! 10 refl $ forget ! 12 refl $ forget ! 14 refl $ forget ! 16 refl $
       forget ! 18 refl $
       move ! (18 ∷ 19 ∷ 16 ∷ 17 ∷ 14 ∷ 15 ∷ 12 ∷ 13 ∷ 10 ∷ 11 ∷ 8 ∷ 9 ∷ 6 ∷ 7 ∷ 4 ∷ 5 ∷ []) $ all-rooms ! _ $
-      keep ! (1 ∷ []) $ by ! (exits blank bv is-blank (sym (List·getD-eq-default ys blank (nltb→le i (length ys) beyond))))))
+      keep ! (1 ∷ []) $ by ! (exits blank bv is-blank (sym (List·getD-eq-default ys blank (nltb→le i
+      (length ys) beyond))))))
     where
       inside : T (ltb i (length ys)) → i < length ys
       inside held = ltb→lt i (length ys) held
@@ -122,8 +125,10 @@ module _ {M : Type 1} (𝓤 : URA M) (H : Heap 𝓤) (A : Atoms 𝓤) (W : Given
       lies : T (ltb i (length ys)) → i * 32 < 2 ^ 64
       lies held = offset-fits i (length ys) (inside held) (g .1)
 
-module _ {M : Type 1} (𝓤 : URA M) (H : Heap 𝓤) (A : Atoms 𝓤) (W : Given 𝓤 H A) (mem : Memory → SProp 𝓤) (run : Routine → Fun 𝓤) (𝓣 : Tables 𝓤 H) where
-  record-at-meets : Meets 𝓤 H A record-at′.signature (WpFn 𝓤 H (𝓣 .C) (𝓣 .Λ) code.function) (record-at′.spec 𝓤 H A mem run)
+module _ {M : Type 1} (𝓤 : URA M) (H : Heap 𝓤) (A : Atoms 𝓤) (W : Given 𝓤 H A) (mem : Memory
+    → SProp 𝓤) (run : Routine → Fun 𝓤) (𝓣 : Tables 𝓤 H) where
+  record-at-meets : Meets 𝓤 H A record-at′.signature (WpFn 𝓤 H (𝓣 .C) (𝓣 .Λ) code.function)
+      (record-at′.spec 𝓤 H A mem run)
   record-at-meets = subst (λ (f : Fn). Meets 𝓤 H A record-at′.signature (WpFn 𝓤 H (𝓣 .C) (𝓣 .Λ) f)
       (record-at′.spec 𝓤 H A mem run)) function-is
       (meets 𝓤 H A W record-at′.ended (record-at′.clauses 𝓤 H A mem run) (WpFn 𝓤 H (𝓣 .C) (𝓣 .Λ) function)

@@ -86,7 +86,18 @@ abbrev namesTy : Lifetime → Ty
 namesTy ℓ = sliceTy (tyRef ℓ mut (tyInt w32))
 
 abbrev function : Fn
-function = record { lifetimes = 4; outlives = []; params = 4; locals = value Ct′.mir ∷ value sheetTy ∷ value (listTy (named 1)) ∷ value (listTy (named 2)) ∷ value (namesTy (named 3)) ∷ value Sh′.mir ∷ value Ct′.mir ∷ value word ∷ value word ∷ value word ∷ value tyUnit ∷ value (tyRef erased mut (pointee (St.the-row .written))) ∷ value (listTy erased) ∷ value (tyRef erased mut (pointee (St.the-row .written))) ∷ value (listTy erased) ∷ value (tyRef erased mut (tyInt w32)) ∷ value (namesTy erased) ∷ []; body = body.t-1 }
+function = record {
+  lifetimes = 4;
+  outlives = [];
+  params = 4;
+  locals = value Ct′.mir ∷ value sheetTy ∷ value (listTy
+      (named 1)) ∷ value (listTy (named 2)) ∷ value (namesTy
+      (named 3)) ∷ value Sh′.mir ∷ value Ct′.mir ∷ value word ∷ value word ∷ value word ∷ value tyUnit ∷ value
+      (tyRef erased mut (pointee (St.the-row .written))) ∷ value (listTy erased) ∷ value (tyRef erased mut (pointee
+      (St.the-row .written))) ∷ value (listTy erased) ∷ value (tyRef erased mut (tyInt w32)) ∷ value
+      (namesTy erased) ∷ [];
+  body = body.t-1;
+}
 
 function-is : function ≡ code.function
 function-is = refl
@@ -101,8 +112,10 @@ module _ {M : Type 1} (𝓤 : URA M) (H : Heap 𝓤) (A : Atoms 𝓤) (mem : Mem
   abbrev Count : Contract 𝓤
   Count = Known 𝓤 H A count.ended (count.clauses 𝓤 H A mem run)
 
-module _ {M : Type 1} (𝓤 : URA M) (H : Heap 𝓤) (A : Atoms 𝓤) (W : Given 𝓤 H A) (mem : Memory → SProp 𝓤) (run : Routine → Fun 𝓤) (κ₀ κ₁ κ₂ κ₃ : Lft) (q₀ q₁ q₂ q₃ : Share)
-    (x₀ : RefT (List ℕ)) (x₁ x₂ : RefT (List Step)) (x₃ : RefT (List ℕ)) (room₀ : length (x₀ .now) < 2 ^ 64) (room₁ : length (x₁ .now) < 2 ^ 64) (room₂ : length (x₂ .now) < 2 ^ 64) (room₃ : length (x₃ .now) < 2 ^ 64) where
+module _ {M : Type 1} (𝓤 : URA M) (H : Heap 𝓤) (A : Atoms 𝓤) (W : Given 𝓤 H A) (mem : Memory
+    → SProp 𝓤) (run : Routine → Fun 𝓤) (κ₀ κ₁ κ₂ κ₃ : Lft) (q₀ q₁ q₂ q₃ : Share)
+    (x₀ : RefT (List ℕ)) (x₁ x₂ : RefT (List Step)) (x₃ : RefT (List ℕ)) (room₀ : length (x₀ .now) < 2 ^ 64)
+    (room₁ : length (x₁ .now) < 2 ^ 64) (room₂ : length (x₂ .now) < 2 ^ 64) (room₃ : length (x₃ .now) < 2 ^ 64) where
   abbrev sv : Val
   sv = sliceVal (x₀ .ptr) (length (x₀ .now))
 
@@ -114,10 +127,23 @@ module _ {M : Type 1} (𝓤 : URA M) (H : Heap 𝓤) (A : Atoms 𝓤) (W : Given
   c = counted s (length (x₁ .now)) (length (x₂ .now)) (length (x₃ .now))
 
   fits : Fits c (length (x₁ .now)) (length (x₂ .now)) (length (x₃ .now))
-  fits = counted-fits s (length (x₁ .now)) (length (x₂ .now)) (length (x₃ .now)) (read-few scope (now x₀)) (read-dones scope (now x₀))
+  fits = counted-fits s (length (x₁ .now)) (length (x₂ .now)) (length (x₃ .now)) (read-few scope (now x₀))
+      (read-dones scope (now x₀))
 
   abbrev bound : Known 𝓤 H A read.ended (read.clauses 𝓤 H A mem run) .Ghost
-  bound = (((κ₀, (κ₁, (κ₂, (κ₃, tt)))), (q₀, (q₁, (q₂, (q₃, tt)))), tt, (x₀, (x₁, (x₂, (x₃, tt)))), (sv ∷ [], (listVal St.the-row x₁ ∷ [], (listVal St.the-row x₂ ∷ [], (listVal u32 x₃ ∷ [], tt))))), tt)
+  bound = (
+    (
+      (κ₀, (κ₁, (κ₂, (κ₃, tt)))),
+      (q₀, (q₁, (q₂, (q₃, tt)))),
+      tt,
+      (x₀, (x₁, (x₂, (x₃, tt)))),
+      (
+        sv ∷ [],
+        (listVal St.the-row x₁ ∷ [], (listVal St.the-row x₂ ∷ [], (listVal u32 x₃ ∷ [], tt))),
+      ),
+    ),
+    tt,
+  )
 
   abbrev End : Val → SProp 𝓤
   End = Known 𝓤 H A read.ended (read.clauses 𝓤 H A mem run) .post bound
@@ -130,23 +156,51 @@ module _ {M : Type 1} (𝓤 : URA M) (H : Heap 𝓤) (A : Atoms 𝓤) (W : Given
   to-read = (((κ₀, tt), (q₀, tt), tt, (x₀, tt), (sv ∷ [], tt)), tt)
 
   asks-read : ent 𝓤 (⋆ 𝓤 H A (‵ (flft κ₀ q₀) ∷ ‵ OwnSheet ∷ [])) (Read 𝓤 H A mem run .pre to-read)
-  asks-read = qed W (‵ (flft κ₀ q₀) ∷ ‵ OwnSheet ∷ []) ∵ nothing ! $ move ! (2 ∷ 0 ∷ []) $ fjoin ! $ nothing ! $ move ! (2 ∷ 0 ∷ []) $ join ! $ join ! $ frame ! $ done !
+  asks-read = qed W (‵ (flft κ₀ q₀) ∷ ‵ OwnSheet ∷ []) ∵ nothing ! $ move ! (2 ∷ 0 ∷ []) $ fjoin ! $ nothing ! $
+      move ! (2 ∷ 0 ∷ []) $ join ! $ join ! $ frame ! $ done !
 
   told-read : {K : Type 0} → K → {Γ : List (Item 𝓤)} {G : Goal 𝓤 H} → Soaks G → (v : Val)
-      → (Is Sh.the-row s (v ∷ []) → Seq K W (‵ (flft κ₀ q₀) ∷ Γ) G) → Seq K W (raw (Read 𝓤 H A mem run .post to-read v) ∷ Γ) G
+      → (Is Sh.the-row s (v ∷ []) → Seq K W (‵ (flft κ₀ q₀) ∷ Γ) G)
+      → Seq K W (raw (Read 𝓤 H A mem run .post to-read v) ∷ Γ) G
   told-read t z v cont =
       told 𝓤 H A W read-sheet.ended (read-sheet.clauses 𝓤 H A mem run) to-read v t z (λ r ws. r ≡ s) (λ r ws. id⊢ 𝓤 _)
-      (λ r ws e is. drop t $ use1 W (‵ (flft κ₀ q₀) ⊛ ‵ ftrue) (id⊢ 𝓤 _) $ split t $ move t (1 ∷ 2 ∷ []) $ drop t $ drop t $
+      (λ r ws e is. drop t $ use1 W (‵ (flft κ₀ q₀) ⊛ ‵ ftrue) (id⊢ 𝓤 _) $ split t $ move t (1 ∷ 2 ∷ []) $ drop t $
+      drop t $
       cont (subst (λ (x : Sheet). Is Sh.the-row x (v ∷ [])) e is))
 
   -- counting
   abbrev to-count : Count 𝓤 H A mem run .Ghost
-  to-count = ((tt, tt, tt, (s, (length (x₁ .now), (length (x₂ .now), (length (x₃ .now), tt)))), (Sh′.lowered s ∷ [], (vint w64 (length (x₁ .now)) ∷ [], (vint w64 (length (x₂ .now)) ∷ [], (vint w64 (length (x₃ .now)) ∷ [], tt))))), tt)
+  to-count = (
+    (
+      tt,
+      tt,
+      tt,
+      (s, (length (x₁ .now), (length (x₂ .now), (length (x₃ .now), tt)))),
+      (
+        Sh′.lowered s ∷ [],
+        (
+          vint w64 (length (x₁ .now)) ∷ [],
+          (
+            vint w64 (length (x₂ .now)) ∷ [],
+            (
+              vint w64 (length
+                  (x₃ .now)) ∷ [],
+              tt,
+            ),
+          ),
+        ),
+      ),
+    ),
+    tt,
+  )
 
   asks-count : Is Sh.the-row s (Sh′.lowered s ∷ []) → ent 𝓤 (emp 𝓤) (Count 𝓤 H A mem run .pre to-count)
   asks-count is =
-      qed W [] ∵ nothing ! $ owned ! usize (Is usize) (uint-makes 𝓤 H A W w64) (length (x₃ .now)) _ (refl, room₃) $ fjoin ! $ owned ! usize (Is usize) (uint-makes 𝓤 H A W w64) (length (x₂ .now)) _ (refl, room₂) $ fjoin ! $
-      owned ! usize (Is usize) (uint-makes 𝓤 H A W w64) (length (x₁ .now)) _ (refl, room₁) $ fjoin ! $ owned ! Sh.the-row (Is Sh.the-row) (LL.makes Sh.the-type Sh′.the-plain 𝓤 H A) s _ is $ fjoin ! $ nothing ! $ join ! $ frame ! $ done !
+      qed W [] ∵ nothing ! $ owned ! usize (Is usize) (uint-makes 𝓤 H A W w64) (length (x₃ .now)) _ (refl, room₃) $
+      fjoin ! $ owned ! usize (Is usize) (uint-makes 𝓤 H A W w64) (length (x₂ .now)) _ (refl, room₂) $ fjoin ! $
+      owned ! usize (Is usize) (uint-makes 𝓤 H A W w64) (length (x₁ .now)) _ (refl, room₁) $ fjoin ! $
+      owned ! Sh.the-row (Is Sh.the-row) (LL.makes Sh.the-type Sh′.the-plain 𝓤 H A) s _ is $ fjoin ! $ nothing ! $
+      join ! $ frame ! $ done !
 
   told-count : {K : Type 0} → K → {Γ : List (Item 𝓤)} {G : Goal 𝓤 H} → Soaks G → (v : Val)
       → (Is Ct.the-row c (v ∷ []) → Seq K W Γ G) → Seq K W (raw (Count 𝓤 H A mem run .post to-count v) ∷ Γ) G
@@ -162,61 +216,106 @@ module _ {M : Type 1} (𝓤 : URA M) (H : Heap 𝓤) (A : Atoms 𝓤) (W : Given
       ((z₂ ≡ laid (c .«new_len») (s .new .steps) (now x₂)) × (z₃ ≡ laid (c .«done_len») (s .done) (now x₃))))
       → Is Ct.the-row c (Ct′.lowered c ∷ []) → ent 𝓤 (⋆ 𝓤 H A (Exit z₁ z₂ z₃)) (End (Ct′.lowered c))
   exits z₁ z₂ z₃ e is =
-      qed W (Exit z₁ z₂ z₃) ∵ suffices ! _ (tells 𝓤 H A W read.ended (read.clauses 𝓤 H A mem run) bound (Ct′.lowered c) c
+      qed W (Exit z₁ z₂ z₃) ∵ suffices ! _ (tells 𝓤 H A W read.ended (read.clauses 𝓤 H A mem run) bound
+      (Ct′.lowered c) c
       (tt, (z₁, (z₂, (z₃, tt))))) $ nothing ! $ move ! (1 ∷ 2 ∷ 3 ∷ 4 ∷ 0 ∷ []) $ group ! 5 $ frame ! $
       owned ! Ct.the-row (Is Ct.the-row) (LL.makes Ct.the-type Ct′.the-plain 𝓤 H A) c _ is $ frame ! $
       nothing ! $ move ! (3 ∷ 0 ∷ []) $ fjoin ! $ move ! (2 ∷ 0 ∷ []) $ fjoin ! $ move ! (1 ∷ 0 ∷ []) $ fjoin ! $
       nothing ! $ fjoin ! $ says ! e $ done !
 
-  module _ (C : Calls 𝓤 H) (Λ : Loops 𝓤 H) (fm : FmC 𝓤 H (W .laws) C) (known-read : Triple 𝓤 (C read-def.name) (Read 𝓤 H A mem run)) (known-count : Triple 𝓤 (C count-def.name) (Count 𝓤 H A mem run))
+  module _ (C : Calls 𝓤 H) (Λ : Loops 𝓤 H) (fm : FmC 𝓤 H (W .laws) C) (known-read : Triple 𝓤 (C read-def.name)
+      (Read 𝓤 H A mem run)) (known-count : Triple 𝓤 (C count-def.name) (Count 𝓤 H A mem run))
       (known-fill : Triple 𝓤 (C #fill) (Lay St.the-row 𝓤 H A)) (known-put : Triple 𝓤 (C #put) (Lay u32 𝓤 H A)) where
     abbrev Entered : List (Item 𝓤)
-    Entered = ‵ (flft κ₀ q₀) ∷ ‵ OwnSheet ∷ ‵ (flft κ₁ q₁) ∷ ‵ (ownList St.the-row κ₁ x₁) ∷ ‵ (flft κ₂ q₂) ∷ ‵ (ownList St.the-row κ₂ x₂) ∷ ‵ (flft κ₃ q₃) ∷ ‵ (ownList u32 κ₃ x₃) ∷ []
+    Entered = ‵ (flft κ₀ q₀) ∷ ‵ OwnSheet ∷ ‵ (flft κ₁ q₁) ∷ ‵ (ownList St.the-row κ₁ x₁) ∷ ‵ (flft κ₂ q₂) ∷ ‵
+        (ownList St.the-row κ₂ x₂) ∷ ‵ (flft κ₃ q₃) ∷ ‵ (ownList u32 κ₃ x₃) ∷ []
 
-    steps : ent 𝓤 (⋆ 𝓤 H A Entered) (WpFn 𝓤 H C Λ function (sv ∷ listVal St.the-row x₁ ∷ listVal St.the-row x₂ ∷ listVal u32 x₃ ∷ []) End)
+    steps : ent 𝓤 (⋆ 𝓤 H A Entered) (WpFn 𝓤 H C Λ function
+        (sv ∷ listVal St.the-row x₁ ∷ listVal St.the-row x₂ ∷ listVal u32 x₃ ∷ []) End)
     steps =
-        qed W Entered ∵ enter ! C Λ function (sv ∷ listVal St.the-row x₁ ∷ listVal St.the-row x₂ ∷ listVal u32 x₃ ∷ []) _ $
+        qed W Entered ∵ enter ! C Λ function
+        (sv ∷ listVal St.the-row x₁ ∷ listVal St.the-row x₂ ∷ listVal u32 x₃ ∷ []) _ $
         all-locals ! _ (λ l. params1 ! $
-        pass1 ! (init ! 30 refl (tt, (tt, (record { fits = room₀ }, tt)))) $ pass1 ! (init ! 28 refl (tt, (tt, (record { fits = room₁ }, tt)))) $ pass1 ! (init ! 26 refl (tt, (tt, (record { fits = room₂ }, tt)))) $ pass1 ! (init ! 24 refl (tt, (tt, (record { fits = room₃ }, tt)))) $ pass0 ! $
+        pass1 ! (init ! 30 refl (tt, (tt, (record { fits = room₀ }, tt)))) $
+        pass1 ! (init ! 28 refl (tt, (tt, (record { fits = room₁ }, tt)))) $
+        pass1 ! (init ! 26 refl (tt, (tt, (record { fits = room₂ }, tt)))) $
+        pass1 ! (init ! 24 refl (tt, (tt, (record { fits = room₃ }, tt)))) $ pass0 ! $
         move ! (34 ∷ 35 ∷ []) $ use2 W (raw (Read 𝓤 H A mem run .pre to-read)) asks-read $
-        calls-at ! fm (Read 𝓤 H A mem run) known-read to-read (and-then ! (held ! 31 refl) (no-more !)) (λ v. told-read ! tt v (λ is.
-        land ! (from ! (stop !)) (init ! 23 refl (LL.lawful Sh.the-type Sh′.the-laws 𝓤 H A W .typed s _ is .0)) $ rewrite ! 23 (λ (u : Val). ‵ (fat fullShare Sh′.mir (l .1 .1 .1 .1 .1 .0) 0 u)) (ap only (Sh′.lowers .val-is s _ is)) refl $
-        sets ! (of-opd ! (load ! (from ! (fld ! refl (stop !))) (look-in ! 29 (sub ! 1 refl (whole !))))) 19 refl (tt, record { fits = room₁ }) $
-        sets ! (of-opd ! (load ! (from ! (fld ! refl (stop !))) (look-in ! 27 (sub ! 1 refl (whole !))))) 17 refl (tt, record { fits = room₂ }) $
-        sets ! (of-opd ! (load ! (from ! (fld ! refl (stop !))) (look-in ! 25 (sub ! 1 refl (whole !))))) 15 refl (tt, record { fits = room₃ }) $
-        use0 W (raw (Count 𝓤 H A mem run .pre to-count)) (asks-count (subst (Is Sh.the-row s) (Sh′.lowers .val-is s _ is) is)) $
-        calls-at ! fm (Count 𝓤 H A mem run) known-count to-count (and-then ! (held ! 24 refl) (and-then ! (held ! 20 refl) (and-then ! (held ! 18 refl) (and-then ! (held ! 16 refl) (no-more !))))) (λ v′. told-count ! tt v′ (λ is′.
-        land ! (from ! (stop !)) (init ! 21 refl (LL.lawful Ct.the-type Ct′.the-laws 𝓤 H A W .typed c _ is′ .0)) $ rewrite ! 21 (λ (u : Val). ‵ (fat fullShare Ct′.mir (l .1 .1 .1 .1 .1 .1 .0) 0 u)) (ap only (Ct′.lowers .val-is c _ is′)) refl $
-        sets ! (addr ! (from ! (fld ! refl (hop ! (look-in ! 29 (sub ! 0 refl (whole !))) (stop !))))) 11 refl (tt, tt) $
-        sets ! (agg ! (and-then ! (held ! 11 refl) (and-then ! (load ! (from ! (fld ! refl (stop !))) (look-in ! 29 (sub ! 1 refl (whole !)))) (no-more !)))) 9 refl (tt, (tt, (record { fits = room₁ }, tt))) $
-        move ! (35 ∷ 36 ∷ []) $ lays St.the-row 𝓤 H A W (LL.makes St.the-type St′.the-plain 𝓤 H A) C Λ fm #fill known-fill κ₁ q₁ x₁ (c .«old_len») (s .old .steps) _ (old-steps s _ is) (fits .old) (below (c .«old_len») (fits .old .0)) ! (and-then ! (held ! 10 refl) (and-then ! (load ! (from ! (fld ! refl (stop !))) (look-in ! 22 (sub ! 3 refl (whole !)))) (and-then ! (load ! (from ! (fld ! refl (fld ! refl (stop !)))) (look-in ! 24 (sub ! 2 refl (sub ! 2 refl (whole !))))) (no-more !)))) (λ w₁ typed₁ z₁ e₁.
+        calls-at ! fm (Read 𝓤 H A mem run) known-read to-read (and-then ! (held ! 31 refl) (no-more !))
+        (λ v. told-read ! tt v (λ is.
+        land ! (from ! (stop !)) (init ! 23 refl (LL.lawful Sh.the-type Sh′.the-laws 𝓤 H A W .typed s _ is .0)) $
+        rewrite ! 23 (λ (u : Val). ‵ (fat fullShare Sh′.mir (l .1 .1 .1 .1 .1 .0) 0 u)) (ap only
+        (Sh′.lowers .val-is s _ is)) refl $
+        sets ! (of-opd ! (load ! (from ! (fld ! refl (stop !))) (look-in ! 29 (sub ! 1 refl (whole !))))) 19 refl
+        (tt, record { fits = room₁ }) $
+        sets ! (of-opd ! (load ! (from ! (fld ! refl (stop !))) (look-in ! 27 (sub ! 1 refl (whole !))))) 17 refl
+        (tt, record { fits = room₂ }) $
+        sets ! (of-opd ! (load ! (from ! (fld ! refl (stop !))) (look-in ! 25 (sub ! 1 refl (whole !))))) 15 refl
+        (tt, record { fits = room₃ }) $
+        use0 W (raw (Count 𝓤 H A mem run .pre to-count)) (asks-count (subst (Is Sh.the-row s)
+        (Sh′.lowers .val-is s _ is) is)) $
+        calls-at ! fm (Count 𝓤 H A mem run) known-count to-count (and-then ! (held ! 24 refl) (and-then !
+        (held ! 20 refl) (and-then ! (held ! 18 refl) (and-then ! (held ! 16 refl) (no-more !)))))
+        (λ v′. told-count ! tt v′ (λ is′.
+        land ! (from ! (stop !)) (init ! 21 refl (LL.lawful Ct.the-type Ct′.the-laws 𝓤 H A W .typed c _ is′ .0)) $
+        rewrite ! 21 (λ (u : Val). ‵ (fat fullShare Ct′.mir (l .1 .1 .1 .1 .1 .1 .0) 0 u)) (ap only
+        (Ct′.lowers .val-is c _ is′)) refl $
+        sets ! (addr ! (from ! (fld ! refl (hop ! (look-in ! 29 (sub ! 0 refl (whole !))) (stop !))))) 11 refl
+        (tt, tt) $
+        sets ! (agg ! (and-then ! (held ! 11 refl) (and-then ! (load ! (from ! (fld ! refl (stop !))) (look-in ! 29
+        (sub ! 1 refl (whole !)))) (no-more !)))) 9 refl (tt, (tt, (record { fits = room₁ }, tt))) $
+        move ! (35 ∷ 36 ∷ []) $ lays St.the-row 𝓤 H A W
+        (LL.makes St.the-type St′.the-plain 𝓤 H A) C Λ fm #fill known-fill κ₁ q₁ x₁ (c .«old_len») (s .old .steps) _
+        (old-steps s _ is) (fits .old) (below (c .«old_len») (fits .old .0)) ! (and-then ! (held ! 10 refl)
+        (and-then ! (load ! (from ! (fld ! refl (stop !))) (look-in ! 22 (sub ! 3 refl (whole !)))) (and-then !
+        (load ! (from ! (fld ! refl (fld ! refl (stop !)))) (look-in ! 24 (sub ! 2 refl (sub ! 2 refl (whole !)))))
+        (no-more !)))) (λ w₁ typed₁ z₁ e₁.
         land ! (from ! (stop !)) (init ! 15 refl typed₁) $
         sets ! (addr ! (from ! (fld ! refl (hop ! (look-in ! 29 (sub ! 0 refl (whole !))) (stop !))))) 9 refl (tt, tt) $
-        sets ! (agg ! (and-then ! (held ! 9 refl) (and-then ! (load ! (from ! (fld ! refl (stop !))) (look-in ! 29 (sub ! 1 refl (whole !)))) (no-more !)))) 7 refl (tt, (tt, (record { fits = room₂ }, tt))) $
-        move ! (37 ∷ 38 ∷ []) $ lays St.the-row 𝓤 H A W (LL.makes St.the-type St′.the-plain 𝓤 H A) C Λ fm #fill known-fill κ₂ q₂ x₂ (c .«new_len») (s .new .steps) _ (new-steps s _ is) (fits .new) (below (c .«new_len») (fits .new .0)) ! (and-then ! (held ! 8 refl) (and-then ! (load ! (from ! (fld ! refl (stop !))) (look-in ! 24 (sub ! 5 refl (whole !)))) (and-then ! (load ! (from ! (fld ! refl (fld ! refl (stop !)))) (look-in ! 26 (sub ! 2 refl (sub ! 3 refl (whole !))))) (no-more !)))) (λ w₂ typed₂ z₂ e₂.
+        sets ! (agg ! (and-then ! (held ! 9 refl) (and-then ! (load ! (from ! (fld ! refl (stop !))) (look-in ! 29
+        (sub ! 1 refl (whole !)))) (no-more !)))) 7 refl (tt, (tt, (record { fits = room₂ }, tt))) $
+        move ! (37 ∷ 38 ∷ []) $ lays St.the-row 𝓤 H A W
+        (LL.makes St.the-type St′.the-plain 𝓤 H A) C Λ fm #fill known-fill κ₂ q₂ x₂ (c .«new_len») (s .new .steps) _
+        (new-steps s _ is) (fits .new) (below (c .«new_len») (fits .new .0)) ! (and-then ! (held ! 8 refl) (and-then !
+        (load ! (from ! (fld ! refl (stop !))) (look-in ! 24 (sub ! 5 refl (whole !)))) (and-then ! (load ! (from !
+        (fld ! refl (fld ! refl (stop !)))) (look-in ! 26 (sub ! 2 refl (sub ! 3 refl (whole !))))) (no-more !))))
+        (λ w₂ typed₂ z₂ e₂.
         land ! (from ! (stop !)) (store ! 17 refl typed₂) $
         sets ! (addr ! (from ! (fld ! refl (hop ! (look-in ! 29 (sub ! 0 refl (whole !))) (stop !))))) 7 refl (tt, tt) $
-        sets ! (agg ! (and-then ! (held ! 7 refl) (and-then ! (load ! (from ! (fld ! refl (stop !))) (look-in ! 29 (sub ! 1 refl (whole !)))) (no-more !)))) 5 refl (tt, (tt, (record { fits = room₃ }, tt))) $
-        move ! (39 ∷ 40 ∷ []) $ lays u32 𝓤 H A W (uint-makes 𝓤 H A W w32) C Λ fm #put known-put κ₃ q₃ x₃ (c .«done_len») (s .done) _ (done-names s _ is) (fits .done) (below (c .«done_len») (fits .done .0)) ! (and-then ! (held ! 6 refl) (and-then ! (load ! (from ! (fld ! refl (stop !))) (look-in ! 26 (sub ! 6 refl (whole !)))) (and-then ! (load ! (from ! (fld ! refl (stop !))) (look-in ! 28 (sub ! 5 refl (whole !)))) (no-more !)))) (λ w₃ typed₃ z₃ e₃.
+        sets ! (agg ! (and-then ! (held ! 7 refl) (and-then ! (load ! (from ! (fld ! refl (stop !))) (look-in ! 29
+        (sub ! 1 refl (whole !)))) (no-more !)))) 5 refl (tt, (tt, (record { fits = room₃ }, tt))) $
+        move ! (39 ∷ 40 ∷ []) $ lays u32 𝓤 H A W (uint-makes 𝓤 H A W w32) C Λ fm #put known-put κ₃ q₃ x₃
+        (c .«done_len») (s .done) _ (done-names s _ is) (fits .done) (below (c .«done_len») (fits .done .0)) !
+        (and-then ! (held ! 6 refl) (and-then ! (load ! (from ! (fld ! refl (stop !))) (look-in ! 26 (sub ! 6 refl
+        (whole !)))) (and-then ! (load ! (from ! (fld ! refl (stop !))) (look-in ! 28 (sub ! 5 refl (whole !))))
+        (no-more !)))) (λ w₃ typed₃ z₃ e₃.
         land ! (from ! (stop !)) (store ! 19 refl typed₃) $
-        sets ! (of-opd ! (held ! 27 refl)) 39 refl (LL.lawful Ct.the-type Ct′.the-laws 𝓤 H A W .typed c _ (subst (Is Ct.the-row c) (Ct′.lowers .val-is c _ is′) is′) .0) $
+        sets ! (of-opd ! (held ! 27 refl)) 39 refl (LL.lawful Ct.the-type Ct′.the-laws 𝓤 H A W .typed c _ (subst
+        (Is Ct.the-row c) (Ct′.lowers .val-is c _ is′) is′) .0) $
         returns ! (look ! 39 refl) $
         move ! (39 ∷ 40 ∷ 37 ∷ 38 ∷ 35 ∷ 36 ∷ 33 ∷ 34 ∷ 31 ∷ 32 ∷ 29 ∷ 30 ∷ 27 ∷ 28 ∷ 25 ∷ 26 ∷ 23 ∷ 24 ∷ 21 ∷ 22 ∷ 19 ∷ 20 ∷ 17 ∷ 18 ∷ 15 ∷ 16 ∷ 13 ∷ 14 ∷ 11 ∷ 12 ∷ 9 ∷ 10 ∷ 7 ∷ 8 ∷ []) $ all-freed ! _ _ $ keep ! (6 ∷ 5 ∷ 3 ∷ 1 ∷ 4 ∷ 2 ∷ 0 ∷ []) $
         by ! (exits z₁ z₂ z₃ (refl, (e₁, (e₂, e₃))) (subst (Is Ct.the-row c) (Ct′.lowers .val-is c _ is′) is′))))))))))
 
-    walk : ent 𝓤 (onEntry 𝓤 H A read.signature (bound .0 .0) (bound .0 .1) (bound .0 .3) (bound .0 .4)) (WpFn 𝓤 H C Λ function (sv ∷ listVal St.the-row x₁ ∷ listVal St.the-row x₂ ∷ listVal u32 x₃ ∷ []) End)
+    walk : ent 𝓤 (onEntry 𝓤 H A read.signature (bound .0 .0) (bound .0 .1) (bound .0 .3) (bound .0 .4))
+        (WpFn 𝓤 H C Λ function (sv ∷ listVal St.the-row x₁ ∷ listVal St.the-row x₂ ∷ listVal u32 x₃ ∷ []) End)
     walk =
-        qed W ((‵ (flft κ₀ q₀) ⊛ (‵ (flft κ₁ q₁) ⊛ (‵ (flft κ₂ q₂) ⊛ (‵ (flft κ₃ q₃) ⊛ ‵ ftrue)))) ∷ ‵ (owns (ShrSlice (named 0) κ₀ u8 ∷ MutSlice (named 1) κ₁ St.the-row ∷ MutSlice (named 2) κ₂ St.the-row ∷ MutSlice (named 3) κ₃ u32 ∷ []) (bound .0 .3) (bound .0 .4)) ∷ []) ∵
+        qed W ((‵ (flft κ₀ q₀) ⊛ (‵ (flft κ₁ q₁) ⊛ (‵ (flft κ₂ q₂) ⊛ (‵ (flft κ₃ q₃) ⊛ ‵ ftrue)))) ∷ ‵ (owns (ShrSlice
+        (named 0) κ₀ u8 ∷ MutSlice (named 1) κ₁ St.the-row ∷ MutSlice (named 2) κ₂ St.the-row ∷ MutSlice
+        (named 3) κ₃ u32 ∷ []) (bound .0 .3) (bound .0 .4)) ∷ []) ∵
         split ! $ move ! (1 ∷ []) $ split ! $ move ! (1 ∷ []) $ split ! $ move ! (1 ∷ []) $ split ! $
         -- [the last token; true; the third; the second; the first; what the parameters own]
-        move ! (5 ∷ []) $ fsplit ! $ move ! (1 ∷ []) $ fsplit ! $ move ! (1 ∷ []) $ fsplit ! $ move ! (1 ∷ []) $ fsplit ! $
+        move ! (5 ∷ []) $ fsplit ! $ move ! (1 ∷ []) $ fsplit ! $ move ! (1 ∷ []) $ fsplit ! $ move ! (1 ∷ []) $
+        fsplit ! $
         -- [done; true; new; old; the sheet; the last token; true; the third; the second; the first]
         keep ! (9 ∷ 4 ∷ 8 ∷ 3 ∷ 7 ∷ 2 ∷ 5 ∷ 0 ∷ []) $ by ! steps
 
-module _ {M : Type 1} (𝓤 : URA M) (H : Heap 𝓤) (A : Atoms 𝓤) (W : Given 𝓤 H A) (mem : Memory → SProp 𝓤) (run : Routine → Fun 𝓤) (𝓣 : Tables 𝓤 H) (known-read : Triple 𝓤 (𝓣 .C read-def.name) (Read 𝓤 H A mem run)) (known-count : Triple 𝓤 (𝓣 .C count-def.name) (Count 𝓤 H A mem run))
+module _ {M : Type 1} (𝓤 : URA M) (H : Heap 𝓤) (A : Atoms 𝓤) (W : Given 𝓤 H A) (mem : Memory
+    → SProp 𝓤) (run : Routine → Fun 𝓤) (𝓣 : Tables 𝓤 H) (known-read : Triple 𝓤 (𝓣 .C read-def.name)
+    (Read 𝓤 H A mem run)) (known-count : Triple 𝓤 (𝓣 .C count-def.name) (Count 𝓤 H A mem run))
     (known-fill : Triple 𝓤 (𝓣 .C #fill) (Lay St.the-row 𝓤 H A)) (known-put : Triple 𝓤 (𝓣 .C #put) (Lay u32 𝓤 H A)) where
   read-meets : Meets 𝓤 H A read.signature (WpFn 𝓤 H (𝓣 .C) (𝓣 .Λ) code.function) (read.spec 𝓤 H A mem run)
-  read-meets = subst (λ (f : Fn). Meets 𝓤 H A read.signature (WpFn 𝓤 H (𝓣 .C) (𝓣 .Λ) f) (read.spec 𝓤 H A mem run)) function-is
+  read-meets = subst (λ (f : Fn). Meets 𝓤 H A read.signature (WpFn 𝓤 H (𝓣 .C) (𝓣 .Λ) f)
+      (read.spec 𝓤 H A mem run)) function-is
       (meets 𝓤 H A W read.ended (read.clauses 𝓤 H A mem run) (WpFn 𝓤 H (𝓣 .C) (𝓣 .Λ) function)
       (λ κs. (slice-vals, (slice-vals, (slice-vals, (slice-vals, tt)))))
       (λ κs. (
