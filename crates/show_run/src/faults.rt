@@ -50,7 +50,7 @@ pub fn show_steps() {
     say_old(b"3 before 5", two(3, a, step(7, 2, 0, 0, 0)));
 }
 
-// A route with two starts, and one with none.
+// A route with a place that belongs to no step, and one with no start.
 pub fn show_starts() {
     let mut loose = letters::a_old();
     loose.places = 5;
