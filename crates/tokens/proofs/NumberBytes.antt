@@ -5,7 +5,6 @@ use mathlib.Core.Bool.{Bool, true, false, not, cond, _&&_}
 use mathlib.Core.List.{List, [], _∷_}
 use Prim.Native.Nat.{ℕ, suc, _+_, _-_, _*_, _^_, _≤_, _<_}
 use native.Mathlib.Omega.{arith}
-use native.Mathlib.Numerals.{add-one}
 use native.Mathlib.Nat.{pow-suc}
 use lib.Dec.{ltb, leb}
 use lib.ListN.{length, drop, getD, drop-of-length-le}
@@ -21,7 +20,7 @@ use Rattle.layout.specs.declared.Word.{Word}
 use Rattle.layout.specs.declared.Part.{Part}
 use Rattle.layout.specs.declared.Point.{Point}
 use Rattle.layout.specs.declared.Point.the-variants.{Digit, Digits, Stuck}
-use Rattle.tokens.specs.Tokens.{Reading, Broken, Reached, NumberOn}
+use Rattle.tokens.specs.Tokens.{Reading, Broken, Reached, noNumber, numberTo, NumberOn}
 use Rattle.tokens.specs.declared.Numeral.{Numeral}
 use Rattle.tokens.proofs.Bytes.{apart, byte-on, byte-stuck, bytes-over, break-on}
 
@@ -95,107 +94,131 @@ module _ (v : Version) (s : List ℕ) (w : Word) (q : Part) (c : Line) (t : Line
           let none : drop i s ≡ [] = drop-of-length-le s (ltb-false i (length s) e) in
           ap (run v (Digits w q k) (withNum n c) t) none ∙ sym (ap (run v (Digits w q 0) (withNum n c) t) none)
 
--- ---- how large it is
+-- ---- the loop, and its ends: reading stands at i, past digits that make n, and so many may follow. A test's answer x is `digit` of the byte
 
-wider : (k n b m : ℕ) → n < 10 ^ k → digit b ≡ true → m ≡ n * 10 + (b - 48) → m < 10 ^ (k + 1)
-wider k n b m h d v =
-    let up : 10 ^ (k + 1) ≡ 10 ^ k * 10 = ap (λ (x : ℕ). 10 ^ x) (add-one k) ∙ pow-suc 10 k in
-    let low = digit-range b d in
-    omega (arith, up, v, h, low)
-
--- ---- the loop, and its ends; a test's answer x is `digit` of the byte
-
-pub record Counts (v : Version) (s : List ℕ) (from n i : ℕ) : Type 0 where
+pub record Counts (v : Version) (s : List ℕ) (from n i left : ℕ) : Type 0 where
   pub limits : Limits v
   pub past : from < i
   pub within : i ≤ length s
-  pub few : i - from ≤ v .digits
-  pub below : n < 10 ^ (i - from)
-  pub goes : (w : Word) (q : Part) (c : Line) (t : Lines) → Reached v s from true (Digit w q) c t → Reading v s i (Digits w q (v .digits - (i - from))) (withNum n c) t
+  pub few : left < v .digits
+  pub below : n < 10 ^ (v .digits - left)
+  pub goes : (w : Word) (q : Part) (c : Line) (t : Lines) → Reached v s from true (Digit w q) c t → Reading v s i (Digits w q left) (withNum n c) t
 
-pub counts-init : (v : Version) → Limits v → (s : List ℕ) (from n : ℕ) (x : Bool) → from < length s → x ≡ digit (getD s from 0) → not x ≡ false → (getD s from 0 ≡ 48 → ⊥) → n ≡ getD s from 0 - 48 → Counts v s from n (from + 1)
+-- whatever the version, where so many digits may follow the first
+pub record Counting (s : List ℕ) (from most n i left : ℕ) : Type 0 where
+  pub within : i ≤ length s
+  pub in-version : (v : Version) → Limits v → most ≡ v .digits - 1 → Counts v s from n i left
+
+counts-init : (v : Version) → Limits v → (s : List ℕ) (from n : ℕ) (x : Bool) → from < length s → x ≡ digit (getD s from 0) → not x ≡ false → (getD s from 0 ≡ 48 → ⊥) → n ≡ getD s from 0 - 48 → (left : ℕ) → left ≡ v .digits - 1 → Counts v s from n (from + 1) left
 unfolding Reached
-counts-init v limits s from n x room is e far val =
+counts-init v limits s from n x room is e far val left all =
     let d = sym is ∙ not-false x e in
     let low = digit-range (getD s from 0) d in
-    let one : 1 ≡ from + 1 - from = omega arith in
+    let one : 1 ≡ v .digits - left = omega (arith, limits .two, all) in
     record {
       limits = limits;
       past = omega arith;
       within = omega (arith, room);
-      few = omega (arith, limits .two);
+      few = omega (arith, limits .two, all);
       below = subst (λ (k : ℕ). n < 10 ^ k) one (omega (arith, val, low));
-      goes = λ w q c t h. subst (λ (m : ℕ). Reading v s (from + 1) (Digits w q (v .digits - m)) (withNum n c) t) one
+      goes = λ w q c t h. subst (λ (m : ℕ). Reading v s (from + 1) (Digits w q m) (withNum n c) t) (sym all)
           (subst (λ (m : ℕ). Reading v s (from + 1) (Digits w q (v .digits - 1)) (withNum m c) t) (sym val) (first-digit v s from room w q c t h d far));
     }
 
-pub counts-step : (v : Version) (s : List ℕ) (from n i val : ℕ) (x : Bool) → Counts v s from n i → i < length s → x ≡ digit (getD s i 0) → not x ≡ false → i - from < v .digits → val ≡ getD s i 0 - 48 → Counts v s from (n * 10 + val) (i + 1)
-counts-step v s from n i val x h room is e few q =
-    let d = sym is ∙ not-false x e in
-    let one : (i - from) + 1 ≡ i + 1 - from = omega (arith, h .past) in
-    let left : v .digits - (i - from) - 1 ≡ v .digits - (i + 1 - from) = omega (arith, h .past) in
+pub counting-init : (s : List ℕ) (from n : ℕ) (x : Bool) (most : ℕ) → from < length s → x ≡ digit (getD s from 0) → not x ≡ false → (getD s from 0 ≡ 48 → ⊥) → n ≡ getD s from 0 - 48 → Counting s from most n (from + 1) most
+counting-init s from n x most room is e far val = record { within = omega (arith, room); in-version = λ v limits all. counts-init v limits s from n x room is e far val most all }
+
+module _ (v : Version) (limits : Limits v) (s : List ℕ) (from n i left : ℕ) (h : Counts v s from n i left) (more : left ≡ 0 → ⊥) where
+  -- a number that may grow has at most nine digits: one more fits 64 bits
+  counts-low : n < 10 ^ 9
+  counts-low = omega (arith, h .below, tens-mono (v .digits - left) 9 (omega (arith, h .few, h .limits .ten)))
+
+  counts-mul : n * 10 < 2 ^ 64
+  counts-mul = omega (arith, counts-low)
+
+  module _ (b d : ℕ) (x : Bool) (is : x ≡ digit b) (e : not x ≡ false) (val : d ≡ b - 48) where
+    counts-add : n * 10 + d < 2 ^ 64
+    counts-add = omega (arith, counts-low, digit-range b (sym is ∙ not-false x e), val)
+
+    wider : n * 10 + d < 10 ^ (v .digits - (left - 1))
+    wider =
+        let one : v .digits - (left - 1) ≡ suc (v .digits - left) = omega (arith, h .few) in
+        let up : 10 ^ (v .digits - (left - 1)) ≡ 10 ^ (v .digits - left) * 10 = ap (λ (k : ℕ). 10 ^ k) one ∙ pow-suc 10 (v .digits - left) in
+        omega (arith, up, val, h .below, digit-range b (sym is ∙ not-false x e))
+
+counts-step : (v : Version) (s : List ℕ) (from n i left d : ℕ) (x : Bool) → Counts v s from n i left → i < length s → x ≡ digit (getD s i 0) → not x ≡ false → (left ≡ 0 → ⊥) → d ≡ getD s i 0 - 48 → Counts v s from (n * 10 + d) (i + 1) (left - 1)
+counts-step v s from n i left d x h room is e more val =
     record {
       limits = h .limits;
       past = omega (arith, h .past);
       within = omega (arith, room);
-      few = omega (arith, few, h .past);
-      below = subst (λ (k : ℕ). n * 10 + val < 10 ^ k) one (wider (i - from) n (getD s i 0) (n * 10 + val) (h .below) d (ap (λ (y : ℕ). n * 10 + y) q));
-      goes = λ w p c t r. subst (λ (m : ℕ). Reading v s (i + 1) (Digits w p m) (withNum (n * 10 + val) c) t) left
-          (subst (λ (m : ℕ). Reading v s (i + 1) (Digits w p (v .digits - (i - from) - 1)) (withNum (n * 10 + m) c) t) (sym q)
-          (grows v s w p c t (v .digits - (i - from)) n i (h .goes w p c t r) room d (omega (arith, few))));
+      few = omega (arith, h .few);
+      below = wider v (h .limits) s from n i left h more (getD s i 0) d x is e val;
+      goes = λ w p c t r. subst (λ (m : ℕ). Reading v s (i + 1) (Digits w p (left - 1)) (withNum (n * 10 + m) c) t) (sym val)
+          (grows v s w p c t left n i (h .goes w p c t r) room (sym is ∙ not-false x e) (omega arith));
     }
 
--- a number that may grow has at most nine digits
-pub counts-low : (v : Version) (s : List ℕ) (from n i : ℕ) → Counts v s from n i → i - from < v .digits → n < 10 ^ 9
-counts-low v s from n i h few = omega (arith, h .below, tens-mono (i - from) 9 (omega (arith, few, h .limits .ten)))
+module _ (s : List ℕ) (from most n i left : ℕ) (g : Counting s from most n i left) (more : left ≡ 0 → ⊥) where
+  pub counting-mul : (v : Version) → Limits v → most ≡ v .digits - 1 → n * 10 < 2 ^ 64
+  counting-mul v limits all = counts-mul v limits s from n i left (g .in-version v limits all) more
 
-pub value-low : (b : ℕ) (x : Bool) → x ≡ digit b → not x ≡ false → b - 48 < 10
-value-low b x is h = let low = digit-range b (sym is ∙ not-false x h) in omega (arith, low)
+  pub counting-add : (v : Version) → Limits v → most ≡ v .digits - 1 → (b d : ℕ) (x : Bool) → x ≡ digit b → not x ≡ false → d ≡ b - 48 → n * 10 + d < 2 ^ 64
+  counting-add v limits all b d x is e val = counts-add v limits s from n i left (g .in-version v limits all) more b d x is e val
 
-counts-done : (v : Version) (s : List ℕ) (from n i : ℕ) → Counts v s from n i → (i < length s → digit (getD s i 0) ≡ true → v .digits - (i - from) ≡ 0) → NumberOn v s from true (record { at = i; ok = true; value = n })
+  pub counting-step : (d : ℕ) (x : Bool) → i < length s → x ≡ digit (getD s i 0) → not x ≡ false → d ≡ getD s i 0 - 48 → Counting s from most (n * 10 + d) (i + 1) (left - 1)
+  counting-step d x room is e val =
+      record { within = omega (arith, room); in-version = λ v limits all. counts-step v s from n i left d x (g .in-version v limits all) room is e more val }
+
+counts-done : (v : Version) (s : List ℕ) (from n i left : ℕ) → Counts v s from n i left → (i < length s → digit (getD s i 0) ≡ true → left ≡ 0) → NumberOn v s from true (numberTo i n)
 unfolding Reached
-counts-done v s from n i h stop =
+counts-done v s from n i left h stop =
     record {
       later = omega (arith, h .past);
       within = h .within;
-      small = omega (arith, h .below, tens-mono (i - from) 10 (omega (arith, h .few, h .limits .ten)));
-      goes = λ w q c t r. full v s w q c t (v .digits - (i - from)) n i (h .goes w q c t r) stop;
+      small = omega (arith, h .below, tens-mono (v .digits - left) 10 (omega (arith, h .limits .ten)));
+      goes = λ w q c t r. full v s w q c t left n i (h .goes w q c t r) stop;
     }
 
-pub counts-other : (v : Version) (s : List ℕ) (from n i : ℕ) (x : Bool) → Counts v s from n i → x ≡ digit (getD s i 0) → not x ≡ true → NumberOn v s from true (record { at = i; ok = true; value = n })
-counts-other v s from n i x h is e = counts-done v s from n i h (λ r d. absurd (apart (sym d ∙ sym is ∙ not-true x e)))
+module _ (v : Version) (limits : Limits v) (s : List ℕ) (from most n i left : ℕ) (all : most ≡ v .digits - 1) (g : Counting s from most n i left) (r : Numeral) (is : r ≡ numberTo i n) where
+  h : Counts v s from n i left
+  h = g .in-version v limits all
 
-pub counts-full : (v : Version) (s : List ℕ) (from n i : ℕ) → Counts v s from n i → v .digits ≤ i - from → NumberOn v s from true (record { at = i; ok = true; value = n })
-counts-full v s from n i h full = counts-done v s from n i h (λ r d. omega (arith, full))
+  pub counting-other : (x : Bool) → x ≡ digit (getD s i 0) → not x ≡ true → NumberOn v s from true r
+  counting-other x d e = subst (NumberOn v s from true) (sym is) (counts-done v s from n i left h (λ r f. absurd (apart (sym f ∙ sym d ∙ not-true x e))))
 
-pub counts-over : (v : Version) (s : List ℕ) (from n i : ℕ) → Counts v s from n i → length s ≤ i → NumberOn v s from true (record { at = i; ok = true; value = n })
-counts-over v s from n i h over = counts-done v s from n i h (λ r d. absurd (omega (arith, over, r)))
+  pub counting-full : left ≡ 0 → NumberOn v s from true r
+  counting-full none = subst (NumberOn v s from true) (sym is) (counts-done v s from n i left h (λ r d. none))
 
-pub number-zero : (v : Version) (s : List ℕ) (from n : ℕ) → from < length s → getD s from 0 ≡ 48 → n ≡ getD s from 0 - 48 → NumberOn v s from true (record { at = from + 1; ok = true; value = n })
+  pub counting-over : length s ≤ i → NumberOn v s from true r
+  counting-over over = subst (NumberOn v s from true) (sym is) (counts-done v s from n i left h (λ r d. absurd (omega (arith, over, r))))
+
+pub number-zero : (v : Version) (s : List ℕ) (from n : ℕ) (r : Numeral) → from < length s → getD s from 0 ≡ 48 → n ≡ getD s from 0 - 48 → r ≡ numberTo (from + 1) n → NumberOn v s from true r
 unfolding Reached
-number-zero v s from n room e val =
-    record {
+number-zero v s from n r room e val is =
+    subst (NumberOn v s from true) (sym is)
+    (record {
       later = omega arith;
       within = omega (arith, room);
       small = omega (arith, e, val);
       goes = λ w q c t h. subst (λ (m : ℕ). Reading v s (from + 1) (Digits w q 0) (withNum m c) t) (sym val) (zero-digit v s from room w q c t h e);
-    }
+    })
 
-number-none : (v : Version) (s : List ℕ) (from : ℕ) → from ≤ length s → ((w : Word) (q : Part) (c : Line) (t : Lines) → Reading v s from (Digit w q) c t → Broken v s from) → NumberOn v s from true (record { at = from; ok = false; value = 0 })
-unfolding Reached
-number-none v s from within h = record { later = omega arith; within = within; small = omega arith; goes = h }
+-- ---- no number: none begins there, or a break is passed on
 
-pub number-over : (v : Version) (s : List ℕ) (from : ℕ) → from ≤ length s → length s ≤ from → NumberOn v s from true (record { at = from; ok = false; value = 0 })
-unfolding atEnd
-number-over v s from within over = number-none v s from within (λ w q c t h. bytes-over v s from (Digit w q) c t h over refl)
+module _ (v : Version) (s : List ℕ) (from : ℕ) (r : Numeral) (is : r ≡ noNumber from) where
+  number-none : from ≤ length s → ((w : Word) (q : Part) (c : Line) (t : Lines) → Reading v s from (Digit w q) c t → Broken v s from) → NumberOn v s from true r
+  unfolding Reached
+  number-none within h = subst (NumberOn v s from true) (sym is) (record { later = omega arith; within = within; small = omega arith; goes = h })
 
-pub number-other : (v : Version) (s : List ℕ) (from : ℕ) (x : Bool) → from < length s → x ≡ digit (getD s from 0) → not x ≡ true → NumberOn v s from true (record { at = from; ok = false; value = 0 })
-number-other v s from x room is h = number-none v s from (omega (arith, room)) (λ w q c t r. no-digit v s from room w q c t r (sym is ∙ not-true x h))
+  pub number-over : from ≤ length s → length s ≤ from → NumberOn v s from true r
+  unfolding atEnd
+  number-over within over = number-none within (λ w q c t h. bytes-over v s from (Digit w q) c t h over refl)
 
--- ---- a break is passed on
+  pub number-other : (x : Bool) → from < length s → x ≡ digit (getD s from 0) → not x ≡ true → NumberOn v s from true r
+  number-other x room d h = number-none (omega (arith, room)) (λ w q c t r. no-digit v s from room w q c t r (sym d ∙ not-true x h))
 
-pub number-passes : (v : Version) (s : List ℕ) (from : ℕ) (ok : Bool) → from ≤ length s → not ok ≡ true → NumberOn v s from ok (record { at = from; ok = false; value = 0 })
-number-passes v s from ok h e = record { later = omega arith; within = h; small = omega arith; goes = λ w q c t r. break-on v s from ok _ _ _ _ _ _ e r }
+  pub number-passes : (ok : Bool) → from ≤ length s → not ok ≡ true → NumberOn v s from ok r
+  number-passes ok h e = subst (NumberOn v s from ok) (sym is) (record { later = omega arith; within = h; small = omega arith; goes = λ w q c t r. break-on v s from ok _ _ _ _ _ _ e r })
 
 pub number-on : (v : Version) (s : List ℕ) (from : ℕ) (ok : Bool) (r : Numeral) → not ok ≡ false → NumberOn v s from true r → NumberOn v s from ok r
 number-on v s from ok r e h = subst (λ (x : Bool). NumberOn v s from x r) (sym (not-false ok e)) h

@@ -67,6 +67,12 @@ four s at = getD s at 0 + getD s (at + 1) 0 * 256 + getD s (at + 2) 0 * 65536 + 
 
 -- ---- a number: past it, whatever its word, as where no digit may follow
 
+abbrev pub noNumber : ℕ → Numeral
+noNumber at = record { at = at; ok = false; value = 0 }
+
+abbrev pub numberTo : ℕ → ℕ → Numeral
+numberTo at n = record { at = at; ok = true; value = n }
+
 pub record NumberOn (v : Version) (s : List ℕ) (from : ℕ) (ok : Bool) (r : Numeral) : Type 0 where
   pub later : from ≤ r .at
   pub within : r .at ≤ length s

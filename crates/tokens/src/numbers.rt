@@ -7,7 +7,7 @@ ghost use Prim.Native.Nat.{_-_, _≤_};
 ghost use lib.ListN.{length};
 ghost use Rattle.version.specs.Limits.{Limits};
 ghost use Rattle.layout.specs.Points.{digit};
-ghost use Rattle.tokens.specs.Tokens.{NumberOn};
+ghost use Rattle.tokens.specs.Tokens.{noNumber, numberTo, NumberOn};
 
 // 0 to 9
 fn digit(b: u8) -> bool
@@ -23,52 +23,58 @@ fn value(b: u8) -> u64
     if b'0' <= b { b as u64 - 48 } else { 0 }
 }
 
+fn none(at: usize) -> Numeral
+    ensures { λ r. ⌜ r ≡ noNumber at ⌝ }
+{
+    Numeral {
+        at,
+        ok: false,
+        value: 0,
+    }
+}
+
+fn ended(at: usize, value: u64) -> Numeral
+    ensures { λ r. ⌜ r ≡ numberTo at value ⌝ }
+{
+    Numeral {
+        at,
+        ok: true,
+        value,
+    }
+}
+
 pub fn digits(v: Version, s: &[u8], from: usize) -> Numeral
     requires { ⌜ Limits v ⌝ }
     requires { ⌜ from ≤ length (now s) ⌝ }
     ensures { λ r. ⌜ NumberOn v (now (s .entry)) from true r ⌝ }
 {
     if s.len() <= from {
-        return Numeral {
-            at: from,
-            ok: false,
-            value: 0,
-        };
+        return none(from);
     }
     let b = s[from];
     if !digit(b) {
-        return Numeral {
-            at: from,
-            ok: false,
-            value: 0,
-        };
+        return none(from);
     }
     let mut n = value(b);
     let mut i = from + 1;
     if b == b'0' {
-        return Numeral {
-            at: i,
-            ok: true,
-            value: n,
-        };
+        return ended(i, n);
     }
-    while i < s.len() && i - from < v.digits {
+    // how many digits may follow
+    let mut left = v.digits - 1;
+    while i < s.len() {
         let c = s[i];
         if !digit(c) {
-            return Numeral {
-                at: i,
-                ok: true,
-                value: n,
-            };
+            return ended(i, n);
         }
+        if left == 0 {
+            return ended(i, n);
+        }
+        left -= 1;
         n = n * 10 + value(c);
         i += 1;
     }
-    Numeral {
-        at: i,
-        ok: true,
-        value: n,
-    }
+    ended(i, n)
 }
 
 pub fn number(v: Version, s: &[u8], from: usize, ok: bool) -> Numeral
@@ -77,11 +83,7 @@ pub fn number(v: Version, s: &[u8], from: usize, ok: bool) -> Numeral
     ensures { λ r. ⌜ NumberOn v (now (s .entry)) from ok r ⌝ }
 {
     if !ok {
-        return Numeral {
-            at: from,
-            ok: false,
-            value: 0,
-        };
+        return none(from);
     }
     digits(v, s, from)
 }

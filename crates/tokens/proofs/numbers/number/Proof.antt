@@ -4,6 +4,9 @@ use borrow.Author.Needs.{needs}
 use Rattle.tokens.proofs.numbers.number.Statement.{statement}
 use Rattle.tokens.proofs.numbers.number.Tie as tie
 
+none-requires : tie.Need-none-requires
+none-requires c κs = search needs
+
 returns : tie.Need-returns
 returns c = search (needs, number-passes)
 
@@ -14,4 +17,4 @@ returns-2 : tie.Need-returns-2
 returns-2 c = search (needs, number-on)
 
 pub number-spec : {M : Type 1} → statement M
-number-spec = tie.close (tie.spec returns digits-requires returns-2)
+number-spec = tie.close (tie.spec none-requires returns digits-requires returns-2)
