@@ -34,11 +34,13 @@ rows-init rows kept h = record { room = refl; narrow = h; filled = λ v. refl }
 module _ (rows : List ℕ) (kept : ℕ) (after : List ℕ) (left : ℕ) (inv : Rows rows kept after left) where
   pub rows-step :
       (left ≡ 0 → ⊥)
-      → Rows rows kept (set after (trailingZeros 64 left) (keptRow rows kept (trailingZeros 64 left))) (bitAnd left (left - 1))
+      → Rows rows kept (set after (trailingZeros 64 left) (keptRow rows kept (trailingZeros 64 left)))
+      (bitAnd left (left - 1))
   rows-step some = record {
     room = length-set after (trailingZeros 64 left) _ ∙ inv .room;
     narrow = omega (arith, rest-less 64 left some (inv .narrow), inv .narrow);
-    filled = λ v. set-lowest (keptRow rows kept) 64 left after some (inv .narrow) (omega (arith, inv .room)) v ∙ inv .filled v;
+    filled = λ v. set-lowest (keptRow rows kept) 64 left after some (inv .narrow) (omega (arith, inv .room)) v
+        ∙ inv .filled v;
   }
 
   pub rows-done : left ≡ 0 → (l : List Step) → rows ≡ table l → after ≡ map (afterOf l kept) (inTurn 0 64)
@@ -47,4 +49,5 @@ module _ (rows : List ℕ) (kept : ℕ) (after : List ℕ) (left : ℕ) (inv : R
       set-none (keptRow rows kept) left after i e
       ∙ inv .filled i
       ∙ ap (λ (x : ℕ). cond (has kept i) (keptRow rows kept i) x) (zeros-at 64 i)
-      ∙ ap (λ (r : ℕ). cond (has kept i) (bitAnd r kept) 0) (ap (λ (a : List ℕ). getD a i 0) is ∙ getD-map-inTurn (row l) 0 64 i h ∙ ap (row l) (omega arith)))
+      ∙ ap (λ (r : ℕ). cond (has kept i) (bitAnd r kept) 0)
+      (ap (λ (a : List ℕ). getD a i 0) is ∙ getD-map-inTurn (row l) 0 64 i h ∙ ap (row l) (omega arith)))

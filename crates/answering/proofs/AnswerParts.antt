@@ -16,7 +16,17 @@ pub answer-is :
     → list ≡ placedOn from new l o
     → after ≡ map (afterOf l kept) (inTurn 0 64)
     → writers ≡ map (writerOf new l) (inTurn 0 32)
-    → record { number = 0; second = 0; kept = kept; dropped = d; len = list .len; order = list .order; marking = list .marking; after = after; writers = writers }
+    → record {
+      number = 0;
+      second = 0;
+      kept = kept;
+      dropped = d;
+      len = list .len;
+      order = list .order;
+      marking = list .marking;
+      after = after;
+      writers = writers;
+    }
     ≡ answer from new l kept o
 unfolding answer
 answer-is from new l kept o d list after writers p q t u =

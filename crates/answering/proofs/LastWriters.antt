@@ -1,4 +1,5 @@
--- The last writers by one pass from the last occurrence to the first: a variable that is written gets the number, and isn't looked at again.
+-- The last writers by one pass from the last occurrence to the first: a variable that is written gets the number, and
+-- isn't looked at again.
 use mathlib.Core.Path.{_≡_, refl, sym, ap, ap₂, _∙_, subst}
 use mathlib.Core.Bool.{Bool, true, false, not, cond, _&&_, and-true}
 use mathlib.Core.List.{List, [], map}
@@ -39,7 +40,8 @@ module _ (hit number : ℕ) (old writers : List ℕ) (left : ℕ) (inv : Marking
   marking-step some = record {
     room = length-set writers (trailingZeros 32 left) number ∙ inv .room;
     narrow = omega (arith, rest-less 32 left some (inv .narrow), inv .narrow);
-    marked = λ v. set-lowest (λ u. number) 32 left writers some (inv .narrow) (omega (arith, inv .room)) v ∙ inv .marked v;
+    marked = λ v. set-lowest (λ u. number) 32 left writers some (inv .narrow) (omega (arith, inv .room)) v
+        ∙ inv .marked v;
   }
 
   pub marking-done : left ≡ 0 → (v : ℕ) → getD writers v 0 ≡ cond (has hit v) number (getD old v 0)
@@ -59,8 +61,10 @@ unfolding lastWriter
 wrote-init vars l i h = record {
   room = refl;
   within = omega arith;
-  number = λ v b. zeros-at 32 v ∙ same (has vars v) ∙ ap (λ (r : List Step). cond (has vars v) (lastWriter v i r) 0) (sym empty);
-  unwritten = λ v. sym (and-true (has vars v)) ∙ ap (λ (r : List Step). has vars v && eqb (lastWriter v i r) 0) (sym empty);
+  number = λ v b. zeros-at 32 v ∙ same (has vars v)
+      ∙ ap (λ (r : List Step). cond (has vars v) (lastWriter v i r) 0) (sym empty);
+  unwritten = λ v. sym (and-true (has vars v)) ∙ ap (λ (r : List Step). has vars v && eqb (lastWriter v i r) 0)
+      (sym empty);
 }
   where
     empty : drop i l ≡ []

@@ -23,7 +23,8 @@ pub padded-is : (n : ℕ) (x a : List ℕ) → length a ≡ n → ((k : ℕ) →
 unfolding padded
 padded-is n x a long e =
     ext-getD 0 a (take n (x ++ replicate n 0))
-    (long ∙ sym (length-take-le n (x ++ replicate n 0) (omega (arith, length-append x (replicate n 0), length-replicate {A = ℕ} n 0))))
+    (long ∙ sym (length-take-le n (x ++ replicate n 0)
+    (omega (arith, length-append x (replicate n 0), length-replicate {A = ℕ} n 0))))
     (λ k h. e k ∙ sym (getD-take n (x ++ replicate n 0) k 0 (omega arith) ∙ zeros-behind x n k))
 
 pub map-at : (f : ℕ → ℕ) (o : List ℕ) (k : ℕ) → k < length o → getD (map f o) k 0 ≡ f (getD o k 0)
@@ -43,4 +44,5 @@ pub turn-number : (n k : ℕ) → getD (map suc (inTurn 0 n)) k 0 ≡ cond (ltb 
 turn-number n k =
     split (λ (t : Bool). getD (map suc (inTurn 0 n)) k 0 ≡ cond t (k + 1) 0) (ltb k n)
     (λ e. getD-map-inTurn suc 0 n k (ltb-true k n e) ∙ omega arith)
-    (λ e. List·getD-eq-default (map suc (inTurn 0 n)) 0 (omega (arith, length-map (inTurn 0 n) suc, length-inTurn 0 n, ltb-false k n e)))
+    (λ e. List·getD-eq-default (map suc (inTurn 0 n)) 0
+    (omega (arith, length-map (inTurn 0 n) suc, length-inTurn 0 n, ltb-false k n e)))

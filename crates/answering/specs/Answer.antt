@@ -21,7 +21,8 @@ padded n l = take n (l ++ replicate n 0)
 -- the occurrence number of the last writer of v from position i on, and 0 where there is none
 unfoldable pub lastWriter : ℕ → ℕ → List Step → ℕ
 lastWriter v i [] = 0
-lastWriter v i (s ∷ l) = cond (eqb (lastWriter v (suc i) l) 0) (cond (has (s .writes) v) (suc i) 0) (lastWriter v (suc i) l)
+lastWriter v i (s ∷ l) = cond (eqb (lastWriter v (suc i) l) 0) (cond (has (s .writes) v) (suc i) 0)
+    (lastWriter v (suc i) l)
 
 -- "An `after` line gives a kept occurrence and all kept ones that it comes after"
 unfoldable pub afterOf : List Step → ℕ → ℕ → ℕ
@@ -32,7 +33,17 @@ unfoldable pub writerOf : List Step → List Step → ℕ → ℕ
 writerOf new l v = cond (has (variables new) v) (lastWriter v 0 l) 0
 
 abbrev pub judgeStopped : ℕ → ℕ → Judged
-judgeStopped n k = record { number = n; second = k; kept = 0; dropped = 0; len = 0; order = replicate 64 0; marking = record { tokens = 0 }; after = replicate 64 0; writers = replicate 32 0 }
+judgeStopped n k = record {
+  number = n;
+  second = k;
+  kept = 0;
+  dropped = 0;
+  len = 0;
+  order = replicate 64 0;
+  marking = record { tokens = 0 };
+  after = replicate 64 0;
+  writers = replicate 32 0;
+}
 
 -- a list of positions, and what is kept with it
 unfoldable pub answer : ℕ → List Step → List Step → ℕ → List ℕ → Judged

@@ -14,7 +14,8 @@ use base.Logic.{ent, sep}
 use base.Fml.{Lft, GName, Fml, ftrue, fat, flft, flent}
 use prog.Wp.{Heap}
 use ghost.Atoms.{Atoms, sem}
-use types.Kit.{Given, Goal, Soaks, Item, Seq, ‵, _⊛_, some, later, _$_, _∵_, !, qed, move, drop, use1, use2, use3, split, pick, fsplit, fjoin, feqI, await, frame, done}
+use types.Kit.{Given, Goal, Soaks, Item, Seq, ‵, _⊛_, some, later, _$_, _∵_, !, qed, move, drop, use1, use2, use3}
+use types.Kit.{split, pick, fsplit, fjoin, feqI, await, frame, done}
 use types.SemTy.{cells, Arr}
 use types.Share.{arr-parts}
 use types.Tokens.{lft-end, lent-back}

@@ -1,5 +1,5 @@
--- An operation over the first records of two arrays and other slices meets its contract where the operation over lent lists meets its own. One
--- law for every kind of the other slices.
+-- An operation over the first records of two arrays and other slices meets its contract where the operation over lent
+-- lists meets its own. One law for every kind of the other slices.
 use mathlib.Core.Path.{_≡_, refl, subst}
 use Prim.Native.Nat.{ℕ, suc, _<_, _≤_, _^_}
 use mathlib.Core.List.{List, [], _∷_}
@@ -16,7 +16,8 @@ use ghost.Atoms.{Atoms}
 use contract.Monad.{fact, fact-mono}
 use contract.Lifetimes.{Lfts, toks}
 use sound.WpLaws.{fmOf}
-use types.Kit.{Given, Item, ‵, raw, _⊛_, mean, _$_, _∵_, !, qed, by, move, drop, use1, split, join, fsplit, fjoin, check, suffices, updating, now as at-once, frame, done as ends-here}
+use types.Kit.{Given, Item, ‵, raw, _⊛_, mean, _$_, _∵_, !, qed, by, move, drop, use1, split, join, fsplit, fjoin}
+use types.Kit.{check, suffices, updating, now as at-once, frame, done as ends-here}
 use denote.Array.{Array, array-vals, array-tells}
 use denote.Builtin.{u64, usize, ArrayOf}
 use denote.Exit.{yes}
@@ -36,10 +37,12 @@ use denote.Triple.Walked.{says, needs}
 use Rattle.route.specs.declared.Step.{Step}
 use Rattle.records.proofs.Called.{Known, told, tells, meets}
 use Rattle.records.proofs.Record.{S, vals, tells as tells-S}
-use Rattle.lent.proofs.Slices.{Slice, many, spells, tell, on, on-vals, flat-on, back, owns-on, lasts-back, same, past, alone, behind, alone-kept, behind-kept, Alone, Behind, AloneOut, alone-vals}
+use Rattle.lent.proofs.Slices.{Slice, many, spells, tell, on, on-vals, flat-on, back, owns-on, lasts-back, same, past}
+use Rattle.lent.proofs.Slices.{alone, behind, alone-kept, behind-kept, Alone, Behind, AloneOut, alone-vals}
 use Rattle.lent.proofs.OverLists.{lent, lent-says, Fact, Lists, done, order, bytes, done-fact, order-fact, bytes-fact}
 use Rattle.arrays.proofs.First.{lentFirst}
-use Rattle.arrays.proofs.Walks.{val, firstVal, Lending, Passed, Returned, Walk, body-one, body-two, body-mut, calls-one, calls-two, calls-mut}
+use Rattle.arrays.proofs.Walks.{val, firstVal, Lending, Passed, Returned, Walk, body-one, body-two, body-mut}
+use Rattle.arrays.proofs.Walks.{calls-one, calls-two, calls-mut}
 
 module _ (R : RattleType) (l : List Slice) where
   abbrev places : Slot (many l)

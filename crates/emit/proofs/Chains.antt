@@ -49,11 +49,13 @@ unfoldable pub parts : List (List ℕ) → List ℕ
 parts [] = []
 parts (t ∷ l) = t ++ parts l
 
-parts-next : {a : List ℕ} (l : List (List ℕ)) {o p : List ℕ} {n m : ℕ} → Room (parts (a ∷ l)) o n → Emits a o n p m → Room (parts l) p m
+parts-next : {a : List ℕ} (l : List (List ℕ)) {o p : List ℕ} {n m : ℕ} → Room (parts (a ∷ l)) o n → Emits a o n p m
+    → Room (parts l) p m
 unfolding parts
 parts-next l r w = room-next w r
 
--- the room for a text t is room for its first part, and after the calls for the parts before it for each other; all together are t
+-- the room for a text t is room for its first part, and after the calls for the parts before it for each other; all
+-- together are t
 abbrev pub First : List ℕ → List ℕ → Type 0
 First t a = (o : List ℕ) (n : ℕ) → Room t o n → Room a o n
 
@@ -64,7 +66,8 @@ abbrev pub Third : List ℕ → List ℕ → List ℕ → List ℕ → Type 0
 Third t a b c = (o p q : List ℕ) (n m k : ℕ) → Room t o n → Emits a o n p m → Emits b p m q k → Room c q k
 
 abbrev pub Fourth : List ℕ → List ℕ → List ℕ → List ℕ → List ℕ → Type 0
-Fourth t a b c d = (o p q s : List ℕ) (n m k j : ℕ) → Room t o n → Emits a o n p m → Emits b p m q k → Emits c q k s j → Room d s j
+Fourth t a b c d = (o p q s : List ℕ) (n m k j : ℕ) → Room t o n → Emits a o n p m → Emits b p m q k → Emits c q k s j
+    → Room d s j
 
 pub first-room : (t a : List ℕ) (l : List (List ℕ)) → t ≡ parts (a ∷ l) → First t a
 unfolding parts
@@ -74,7 +77,8 @@ pub second-room : (t a b : List ℕ) (l : List (List ℕ)) → t ≡ parts (a �
 second-room t a b l e o p n m r w = first-room (parts (b ∷ l)) b l refl p m (parts-next (b ∷ l) (room-as r e) w)
 
 pub third-room : (t a b c : List ℕ) (l : List (List ℕ)) → t ≡ parts (a ∷ b ∷ c ∷ l) → Third t a b c
-third-room t a b c l e o p q n m k r w x = second-room (parts (b ∷ c ∷ l)) b c l refl p q m k (parts-next (b ∷ c ∷ l) (room-as r e) w) x
+third-room t a b c l e o p q n m k r w x = second-room (parts (b ∷ c ∷ l)) b c l refl p q m k
+    (parts-next (b ∷ c ∷ l) (room-as r e) w) x
 
 pub fourth-room : (t a b c d : List ℕ) (l : List (List ℕ)) → t ≡ parts (a ∷ b ∷ c ∷ d ∷ l) → Fourth t a b c d
 fourth-room t a b c d l e o p q s n m k j r w x y =
@@ -87,7 +91,8 @@ abbrev pub Three : List ℕ → List ℕ → List ℕ → List ℕ → Type 0
 Three t a b c = (o p q s : List ℕ) (n m k j : ℕ) → Emits a o n p m → Emits b p m q k → Emits c q k s j → Emits t o n s j
 
 abbrev pub Four : List ℕ → List ℕ → List ℕ → List ℕ → List ℕ → Type 0
-Four t a b c d = (o p q s u : List ℕ) (n m k j i : ℕ) → Emits a o n p m → Emits b p m q k → Emits c q k s j → Emits d s j u i → Emits t o n u i
+Four t a b c d = (o p q s u : List ℕ) (n m k j i : ℕ) → Emits a o n p m → Emits b p m q k → Emits c q k s j
+    → Emits d s j u i → Emits t o n u i
 
 pub two-emits : (t a b : List ℕ) → t ≡ parts (a ∷ b ∷ []) → Two t a b
 unfolding parts

@@ -12,7 +12,8 @@ use borrow.Author.Tests.{lt-ltb, le-ltb, ltb-false}
 use Rattle.mask.proofs.Truth.{split}
 use Rattle.emit.specs.Emit.{Room, Emits}
 use Rattle.emit.specs.Numbers.{digits, decimal, pairText, entry}
-use Rattle.emit.proofs.Chains.{parts, First, Second, Two, first-room, second-room, two-emits, emits-then, emits-as, room-first, room-next, room-as}
+use Rattle.emit.proofs.Chains.{parts, First, Second, Two, first-room, second-room, two-emits, emits-then}
+use Rattle.emit.proofs.Chains.{emits-as, room-first, room-next, room-as}
 
 tenth : (k n : ℕ) → n < 10 ^ suc k → n / 10 < 10 ^ k
 tenth k n h = go (10 ^ k) (10 ^ suc k) (pow-suc 10 k) h
@@ -35,11 +36,13 @@ decimal-one n h = rw (lt-ltb n 10 h)
 
 decimal-last : (n : ℕ) → 10 ≤ n → n < 2 ^ 64 → decimal n ≡ decimal (n / 10) ++ ((48 + n % 10) ∷ [])
 unfolding decimal digits
-decimal-last n h b = rw (le-ltb n 10 h) (ap (λ (l : List ℕ). l ++ ((48 + n % 10) ∷ [])) (sym (digits-enough 19 18 (n / 10) (omega arith) (omega arith))))
+decimal-last n h b = rw (le-ltb n 10 h) (ap (λ (l : List ℕ). l ++ ((48 + n % 10) ∷ []))
+    (sym (digits-enough 19 18 (n / 10) (omega arith) (omega arith))))
 
 pub decimal-pair : (n : ℕ) → 10 ≤ n → n < 100 → decimal n ≡ pairText n
 decimal-pair n low high =
-    decimal-last n low (omega arith) ∙ ap (λ (l : List ℕ). l ++ ((48 + n % 10) ∷ [])) (decimal-one (n / 10) (omega arith))
+    decimal-last n low (omega arith) ∙ ap (λ (l : List ℕ). l ++ ((48 + n % 10) ∷ []))
+    (decimal-one (n / 10) (omega arith))
 
 pub decimal-more : (n : ℕ) → 100 ≤ n → n < 2 ^ 64 → decimal n ≡ decimal (n / 100) ++ pairText (n % 100)
 decimal-more n h b =
@@ -66,9 +69,14 @@ digits-length (suc d) k n h =
     (λ e. omega arith)
     (λ e. long k h (ltb-false n 10 e) (λ j. digits-length d j (n / 10)))
   where
-    long : (k : ℕ) → n < 10 ^ suc k → 10 ≤ n → ((j : ℕ) → n / 10 < 10 ^ suc j → length (digits d (n / 10)) ≤ suc j) → length (digits d (n / 10) ++ ((48 + n % 10) ∷ [])) ≤ suc k
+    long : (k : ℕ) → n < 10 ^ suc k → 10 ≤ n → ((j : ℕ) → n / 10 < 10 ^ suc j → length (digits d (n / 10)) ≤ suc j)
+        → length (digits d (n / 10) ++ ((48 + n % 10) ∷ [])) ≤ suc k
     long zero b low ih = absurd (omega arith)
-    long (suc j) b low ih = omega (arith, length-append (digits d (n / 10)) ((48 + n % 10) ∷ []), ih j (tenth (suc j) n b))
+    long (suc j) b low ih = omega (
+      arith,
+      length-append (digits d (n / 10)) ((48 + n % 10) ∷ []),
+      ih j (tenth (suc j) n b),
+    )
 
 pub entry-length : (k n : ℕ) → n < 10 ^ suc k → length (entry n) ≤ suc (suc k)
 unfolding entry decimal
@@ -105,10 +113,12 @@ module _ (n : ℕ) {o : List ℕ} {at : ℕ} where
   pub more-room : 100 ≤ n → n < 2 ^ 64 → Room (decimal n) o at → Room (decimal (n / 100)) o at
   more-room h b r = room-first _ (pairText (n % 100)) (room-as r (decimal-more n h b))
 
-  pub last-room : {p : List ℕ} {m : ℕ} → 100 ≤ n → n < 2 ^ 64 → Emits (decimal (n / 100)) o at p m → Room (decimal n) o at → Room (pairText (n % 100)) p m
+  pub last-room : {p : List ℕ} {m : ℕ} → 100 ≤ n → n < 2 ^ 64 → Emits (decimal (n / 100)) o at p m
+      → Room (decimal n) o at → Room (pairText (n % 100)) p m
   last-room h b w r = room-next w (room-as r (decimal-more n h b))
 
-  pub more-emits : {p q : List ℕ} {m k : ℕ} → 100 ≤ n → n < 2 ^ 64 → Emits (decimal (n / 100)) o at p m → Emits (pairText (n % 100)) p m q k → Emits (decimal n) o at q k
+  pub more-emits : {p q : List ℕ} {m k : ℕ} → 100 ≤ n → n < 2 ^ 64 → Emits (decimal (n / 100)) o at p m
+      → Emits (pairText (n % 100)) p m q k → Emits (decimal n) o at q k
   more-emits h b w x = emits-as (decimal-more n h b) (emits-then w x)
 
 -- ---- a pair, and an entry, in parts

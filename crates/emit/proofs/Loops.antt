@@ -55,13 +55,15 @@ module _ (f : ℕ → List ℕ) where
   -- a list by its index
   module _ (l : List ℕ) (i : ℕ) where
     list-next : i < length l → over f (drop i l) ≡ f (getD l i 0) ++ over f (drop (i + 1) l)
-    list-next h = over-cons (getD l i 0) (drop (i + 1) l) (drop i l) (drop-cons l i 0 h ∙ ap (λ (k : ℕ). getD l i 0 ∷ drop k l) (sym (add-one i)))
+    list-next h = over-cons (getD l i 0) (drop (i + 1) l) (drop i l)
+        (drop-cons l i 0 h ∙ ap (λ (k : ℕ). getD l i 0 ∷ drop k l) (sym (add-one i)))
 
     module _ {o u o₀ : List ℕ} {n n₀ : ℕ} (left : Left (over f (drop i l)) o n u o₀ n₀) where
       pub list-room : i < length l → Room (f (getD l i 0)) o n
       list-room h = left-room _ _ (left-as (list-next h) left)
 
-      pub list-turn : {p : List ℕ} {m : ℕ} → i < length l → Emits (f (getD l i 0)) o n p m → Left (over f (drop (i + 1) l)) p m u o₀ n₀
+      pub list-turn : {p : List ℕ} {m : ℕ} → i < length l → Emits (f (getD l i 0)) o n p m
+          → Left (over f (drop (i + 1) l)) p m u o₀ n₀
       list-turn h w = left-turn (left-as (list-next h) left) w
 
       pub list-end : length l ≤ i → Emits u o₀ n₀ o n
@@ -69,14 +71,17 @@ module _ (f : ℕ → List ℕ) where
 
   -- a mask by what is left of it
   module _ (m : ℕ) where
-    mask-next : m < 2 ^ 64 → (m ≡ 0 → ⊥) → over f (members 64 m) ≡ f (trailingZeros 64 m) ++ over f (members 64 (bitAnd m (m - 1)))
-    mask-next h some = over-cons (trailingZeros 64 m) (members 64 (bitAnd m (m - 1))) (members 64 m) (members-lowest 64 m some h)
+    mask-next : m < 2 ^ 64 → (m ≡ 0 → ⊥) → over f (members 64 m)
+        ≡ f (trailingZeros 64 m) ++ over f (members 64 (bitAnd m (m - 1)))
+    mask-next h some = over-cons (trailingZeros 64 m) (members 64 (bitAnd m (m - 1))) (members 64 m)
+        (members-lowest 64 m some h)
 
     module _ {o u o₀ : List ℕ} {n n₀ : ℕ} (left : Left (over f (members 64 m)) o n u o₀ n₀) where
       pub mask-room : m < 2 ^ 64 → (m ≡ 0 → ⊥) → Room (f (trailingZeros 64 m)) o n
       mask-room h some = left-room _ _ (left-as (mask-next h some) left)
 
-      pub mask-turn : {p : List ℕ} {k : ℕ} → m < 2 ^ 64 → (m ≡ 0 → ⊥) → Emits (f (trailingZeros 64 m)) o n p k → Left (over f (members 64 (bitAnd m (m - 1)))) p k u o₀ n₀
+      pub mask-turn : {p : List ℕ} {k : ℕ} → m < 2 ^ 64 → (m ≡ 0 → ⊥) → Emits (f (trailingZeros 64 m)) o n p k
+          → Left (over f (members 64 (bitAnd m (m - 1)))) p k u o₀ n₀
       mask-turn h some w = left-turn (left-as (mask-next h some) left) w
 
       pub mask-end : m ≡ 0 → Emits u o₀ n₀ o n
@@ -92,11 +97,13 @@ over-bytes (b ∷ l) = ap (λ (t : List ℕ). b ∷ t) (over-bytes l)
 pub bytes-start : (l : List ℕ) {o : List ℕ} {n : ℕ} → Room l o n → Left (over (λ (b : ℕ). b ∷ []) l) o n l o n
 bytes-start l r = left-as (sym (over-bytes l)) (left-start r)
 
-module _ (l : List ℕ) (i : ℕ) {o u o₀ : List ℕ} {n n₀ : ℕ} (left : Left (over (λ (b : ℕ). b ∷ []) (drop i l)) o n u o₀ n₀) where
+module _ (l : List ℕ) (i : ℕ) {o u o₀ : List ℕ} {n n₀ : ℕ}
+    (left : Left (over (λ (b : ℕ). b ∷ []) (drop i l)) o n u o₀ n₀) where
   pub bytes-room : i < length l → Room (getD l i 0 ∷ []) o n
   bytes-room = list-room (λ (b : ℕ). b ∷ []) l i left
 
-  pub bytes-turn : {p : List ℕ} {m : ℕ} → i < length l → Emits (getD l i 0 ∷ []) o n p m → Left (over (λ (b : ℕ). b ∷ []) (drop (i + 1) l)) p m u o₀ n₀
+  pub bytes-turn : {p : List ℕ} {m : ℕ} → i < length l → Emits (getD l i 0 ∷ []) o n p m
+      → Left (over (λ (b : ℕ). b ∷ []) (drop (i + 1) l)) p m u o₀ n₀
   bytes-turn = list-turn (λ (b : ℕ). b ∷ []) l i left
 
   pub bytes-end : length l ≤ i → Emits u o₀ n₀ o n

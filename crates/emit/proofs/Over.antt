@@ -22,5 +22,6 @@ from-zero l = over-same (λ (v : ℕ). entry (0 + v)) entry (λ x. let same : 0 
 
 pub from-one : (l : List ℕ) → over (λ (v : ℕ). entry (1 + v)) l ≡ over entry (map suc l)
 from-one l =
-    over-same (λ (v : ℕ). entry (1 + v)) (λ (v : ℕ). entry (suc v)) (λ x. let same : 1 + x ≡ suc x = omega arith in ap entry same) l
+    over-same (λ (v : ℕ). entry (1 + v)) (λ (v : ℕ). entry (suc v))
+    (λ x. let same : 1 + x ≡ suc x = omega arith in ap entry same) l
     ∙ sym (over-map entry suc l)

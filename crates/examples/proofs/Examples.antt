@@ -6,7 +6,8 @@ use Rattle.route.specs.Firing.{canFire, fire, ifFires, start}
 use Rattle.refusal.specs.Rows.{unless, first}
 use Rattle.route.specs.Net.{netRow}
 use Rattle.version.specs.Limits.{nameFits}
-use Rattle.job.specs.Lines.{placesFit, stepFits, variableList, placeList, listsFit, among, stepRow, stepRows, routeRows, doneRow, doneRows, lineRows, checked}
+use Rattle.job.specs.Lines.{placesFit, stepFits, variableList, placeList, listsFit, among, stepRow, stepRows, routeRows}
+use Rattle.job.specs.Lines.{doneRow, doneRows, lineRows, checked}
 use Rattle.job.specs.Run.{runFrom, ran, performed}
 use Rattle.slice.specs.Order.{inTurn}
 use Rattle.slice.specs.Precedence.{clash, comesAfter, row}
@@ -20,12 +21,15 @@ use Rattle.answering.specs.Answer.{padded, lastWriter, afterOf, writerOf, answe
 use Rattle.candidates.specs.FirstFit.{firstOf, firstFit}
 use Rattle.judging.specs.Judge.{judgeFound, judgeRows, judged}
 use Rattle.layout.specs.Words.{spelling}
-use Rattle.layout.specs.Points.{digit, alive, expect, chosen, spelt, inList, pastWord, first as firstDigit, ended, more as moreDigits, closed, next}
+use Rattle.layout.specs.Points.{digit, alive, expect, chosen, spelt, inList, pastWord, first as firstDigit, ended}
+use Rattle.layout.specs.Points.{more as moreDigits, closed, next}
 use Rattle.layout.specs.Parse.{stored, took, putStep, putLine, keep, atEnd, run, parse}
 use Rattle.facts.specs.Forms.{allBelow, rising, formFits, listFits, formLists, formRow, masked, recordOf}
-use Rattle.facts.specs.Facts.{failed, settled, headed, stepped, oldHead, newHead, jobHead, doneIn, stepIn, more, moreSteps, moreDones, factsOf, answered, readBy}
+use Rattle.facts.specs.Facts.{failed, settled, headed, stepped, oldHead, newHead, jobHead, doneIn, stepIn, more}
+use Rattle.facts.specs.Facts.{moreSteps, moreDones, factsOf, answered, readBy}
 use Rattle.emit.specs.Numbers.{digits, decimal, entry, over}
-use Rattle.listing.specs.Listing.{line, movedLine, afterLine, afterLines, orderLine, markingLine, valueLine, valueLines, refusedLine, movedText, listing}
+use Rattle.listing.specs.Listing.{line, movedLine, afterLine, afterLines, orderLine, markingLine, valueLine, valueLines}
+use Rattle.listing.specs.Listing.{refusedLine, movedText, listing}
 use Rattle.ops.specs.Print.{sheetAnswer, listingOf}
 use Rattle.examples.specs.Table.{codes, bytes, AllPrint, table}
 
@@ -40,15 +44,18 @@ unfolding stepsOf union names lookup canFire fire ifFires start unless first net
 the-routes = tt
 
 unfoldable the-layout : Unit {0}
-unfolding spelling digit alive expect chosen spelt inList pastWord firstDigit ended moreDigits closed next stored took putStep putLine keep atEnd run parse
+unfolding spelling digit alive expect chosen spelt inList pastWord firstDigit ended moreDigits closed next stored took
+    putStep putLine keep atEnd run parse
 the-layout = tt
 
 unfoldable the-facts : Unit {0}
-unfolding allBelow rising formFits listFits formLists formRow masked recordOf failed settled headed stepped oldHead newHead jobHead doneIn stepIn more moreSteps moreDones factsOf answered readBy
+unfolding allBelow rising formFits listFits formLists formRow masked recordOf failed settled headed stepped oldHead
+    newHead jobHead doneIn stepIn more moreSteps moreDones factsOf answered readBy
 the-facts = tt
 
 unfoldable the-run : Unit {0}
-unfolding nameFits placesFit stepFits variableList placeList listsFit among stepRow stepRows routeRows doneRow doneRows lineRows checked runFrom ran
+unfolding nameFits placesFit stepFits variableList placeList listsFit among stepRow stepRows routeRows doneRow doneRows
+    lineRows checked runFrom ran
 the-run = tt
 
 unfoldable the-slice : Unit {0}
@@ -56,11 +63,13 @@ unfolding inTurn clash comesAfter row performed variables sweepStep sweep keptMa
 the-slice = tt
 
 unfoldable the-judge : Unit {0}
-unfolding isSome sameData sameStep allOf fireAll stepsOn runsStraight keptRow keptLines keptRows orElse onwards tryEach search before placeNext padded lastWriter afterOf writerOf answer firstOf firstFit judgeFound judgeRows judged
+unfolding isSome sameData sameStep allOf fireAll stepsOn runsStraight keptRow keptLines keptRows orElse onwards tryEach
+    search before placeNext padded lastWriter afterOf writerOf answer firstOf firstFit judgeFound judgeRows judged
 the-judge = tt
 
 unfoldable the-listing : Unit {0}
-unfolding digits decimal entry over line movedLine afterLine afterLines orderLine markingLine valueLine valueLines refusedLine movedText listing sheetAnswer listingOf
+unfolding digits decimal entry over line movedLine afterLine afterLines orderLine markingLine valueLine valueLines
+    refusedLine movedText listing sheetAnswer listingOf
 the-listing = tt
 
 pub examples : AllPrint table

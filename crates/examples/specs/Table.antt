@@ -1,5 +1,5 @@
--- 01's examples A to L as a table: the lines of each sheet, and the lines of the listing that print gives of it. The same texts are files
--- in examples/letters.
+-- 01's examples A to L as a table: the lines of each sheet, and the lines of the listing that print gives of it. The
+-- same texts are files in examples/letters.
 use mathlib.Core.Path.{_≡_}
 use mathlib.Core.List.{List, [], _∷_, _++_}
 use Prim.Native.Nat.{ℕ}
@@ -38,8 +38,8 @@ abbrev pub AllPrint : List Example → Type 0
 AllPrint [] = Unit
 AllPrint (e ∷ l) = Prints e × AllPrint l
 
--- ---- A to I: "a list not spoken of is as in A". `set l k s` is l with s for its line k, counted from 0: a route's head is line 0, its
--- first step line 1
+-- ---- A to I: "a list not spoken of is as in A". `set l k s` is l with s for its line k, counted from 0: a route's
+-- head is line 0, its first step line 1
 
 abbrev pub oldA : List String
 oldA =
@@ -80,7 +80,13 @@ A =
 
 -- "B, no done lines: order empty, marking 0."
 abbrev pub B : Example
-B = record { old = oldA; new = newA; done = []; listing = "(moved (kept 0) (dropped 0))" ∷ "(order)" ∷ "(marking 0)" ∷ [] }
+B = record {
+  old = oldA;
+  new = newA;
+  done = [];
+  listing = "(moved (kept 0) (dropped 0))" ∷ "(order)" ∷ "(marking 0)"
+      ∷ [];
+}
 
 -- "C, only 10 done: `(refused 13 9)`."
 abbrev pub C : Example
@@ -142,9 +148,15 @@ abbrev pub stepsJ : List String
 stepsJ = "(step 10 (in 0) (out 2) (read) (write))" ∷ "(step 20 (in 1) (out 2) (read) (write))" ∷ []
 
 abbrev pub J : Example
-J = record { old = "(old 3)" ∷ stepsJ; new = "(new 3)" ∷ stepsJ; done = "(done 10)" ∷ "(done 20)" ∷ []; listing = "(refused 9 9)" ∷ [] }
+J = record {
+  old = "(old 3)" ∷ stepsJ;
+  new = "(new 3)" ∷ stepsJ;
+  done = "(done 10)" ∷ "(done 20)" ∷ [];
+  listing = "(refused 9 9)" ∷ [];
+}
 
--- "K, both routes 2 places, 10 from 0 to 1, 20 from 1 to 1 writing 0; done 10 20 20: after 3 2, order 1 2 3, marking 1, value 0 3."
+-- "K, both routes 2 places, 10 from 0 to 1, 20 from 1 to 1 writing 0; done 10 20 20: after 3 2, order 1 2 3, marking 1,
+-- value 0 3."
 abbrev pub stepsK : List String
 stepsK = "(step 10 (in 0) (out 1) (read) (write))" ∷ "(step 20 (in 1) (out 1) (read) (write 0))" ∷ []
 

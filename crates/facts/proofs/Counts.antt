@@ -16,7 +16,8 @@ use Rattle.layout.specs.Text.{Form, Lines}
 use Rattle.layout.specs.Parse.{Parsed, parse}
 use Rattle.layout.specs.declared.Part.{Part}
 use Rattle.layout.specs.declared.Part.the-variants.{OldRoute, NewRoute, JobPart}
-use Rattle.facts.specs.Facts.{State, failed, settled, headed, stepped, oldHead, newHead, jobHead, doneIn, stepIn, more, moreSteps, moreDones, nothing, factsOf, answered, readBy}
+use Rattle.facts.specs.Facts.{State, failed, settled, headed, stepped, oldHead, newHead, jobHead, doneIn, stepIn}
+use Rattle.facts.specs.Facts.{more, moreSteps, moreDones, nothing, factsOf, answered, readBy}
 use Rattle.facts.specs.declared.Sheet.{Sheet}
 
 pub record Few (s : Sheet) : Type 0 where
@@ -39,7 +40,8 @@ stepped-few : (r : Route) (s : Step) → r .len ≤ 64 → stepped r s .len ≤ 
 unfolding stepped
 stepped-few r s h = go (ltb (r .len) 64) refl
   where
-    go : (x : Bool) → ltb (r .len) 64 ≡ x → cond x (record { places = r .places; len = r .len + 1; steps = set (r .steps) (r .len) s }) r .len ≤ 64
+    go : (x : Bool) → ltb (r .len) 64 ≡ x → cond x
+        (record { places = r .places; len = r .len + 1; steps = set (r .steps) (r .len) s }) r .len ≤ 64
     go true e = omega (arith, ltb-true (r .len) 64 e)
     go false e = h
 
@@ -49,7 +51,8 @@ step-few v OldRoute n f s h = settled-few _ _ (record { old = stepped-few (s .ol
 step-few v NewRoute n f s h = settled-few _ _ (record { old = h .old; new = stepped-few (s .new) _ (h .new) })
 step-few v JobPart n f s h = h
 
-more-few : (line : ℕ → Sheet → Sheet) (k : State) → ((n : ℕ) (s : Sheet) → Few s → Few (line n s)) → Few (k .sheet) → Few (more line k .sheet)
+more-few : (line : ℕ → Sheet → Sheet) (k : State) → ((n : ℕ) (s : Sheet) → Few s → Few (line n s)) → Few (k .sheet)
+    → Few (more line k .sheet)
 unfolding more
 more-few line k keeps h = go (eqb (k .sheet .number) 0)
   where
@@ -60,12 +63,14 @@ more-few line k keeps h = go (eqb (k .sheet .number) 0)
 steps-few : (v : Version) (p : Part) (l : List Form) (k : State) → Few (k .sheet) → Few (moreSteps v p l k .sheet)
 unfolding moreSteps
 steps-few v p [] k h = h
-steps-few v p (f ∷ l) k h = steps-few v p l (more (λ n s. stepIn v p n f s) k) (more-few _ k (λ n s. step-few v p n f s) h)
+steps-few v p (f ∷ l) k h = steps-few v p l (more (λ n s. stepIn v p n f s) k)
+    (more-few _ k (λ n s. step-few v p n f s) h)
 
 dones-few : (v : Version) (l : List ℕ) (k : State) → Few (k .sheet) → Few (moreDones v l k .sheet)
 unfolding moreDones doneIn
 dones-few v [] k h = h
-dones-few v (n ∷ l) k h = dones-few v l (more (λ i s. doneIn v i n s) k) (more-few _ k (λ i s g. settled-few _ _ (record { old = g .old; new = g .new })) h)
+dones-few v (n ∷ l) k h = dones-few v l (more (λ i s. doneIn v i n s) k)
+    (more-few _ k (λ i s g. settled-few _ _ (record { old = g .old; new = g .new })) h)
 
 facts-few : (v : Version) (x : Lines) → Few (factsOf v x)
 unfolding factsOf oldHead newHead jobHead headed

@@ -26,7 +26,11 @@ unfolding factsRecord
 facts-dones v x = go (facts-stand v x)
   where
     go : Stand (factsOf v x) (sheetRows v x) (factsRecord x) (length (x .done) ≤ 64) → Dones (factsOf v x)
-    go (stands e q h) = subst Dones (sym q) (record { few = h; room = length-append (x .done) (replicate (64 - length (x .done)) 0) ∙ omega (arith, length-replicate {A = ℕ} (64 - length (x .done)) 0, h) })
+    go (stands e q h) = subst Dones (sym q) (record {
+      few = h;
+      room = length-append (x .done) (replicate (64 - length (x .done)) 0)
+          ∙ omega (arith, length-replicate {A = ℕ} (64 - length (x .done)) 0, h);
+    })
     go (fails e q) = subst Dones (sym q) (no-dones _ _)
 
 pub read-dones : (v : Version) (s : List ℕ) → Dones (readBy v s)

@@ -1,5 +1,5 @@
--- What rows that pass say of the lines: every form fits its range and its lists, no count is over 64, and every number is short.
--- Assumes nothing.
+-- What rows that pass say of the lines: every form fits its range and its lists, no count is over 64, and every number
+-- is short. Assumes nothing.
 use mathlib.Core.Path.{_≡_, refl}
 use mathlib.Core.Bool.{true, _&&_}
 use mathlib.Core.List.{List, [], _∷_, _++_}
@@ -33,7 +33,8 @@ abbrev pub AllFine : (v : Version) → ℕ → List Form → Type 0
 AllFine v places [] = Unit {0}
 AllFine v places (f ∷ l) = Fine v places f × AllFine v places l
 
-forms-fine : (v : Version) (l : List Form) (line places : ℕ) (earlier : List ℕ) → length earlier ≤ 64 → Passes (formRows v line places earlier l) → AllFine v places l × (length earlier + length l ≤ 64)
+forms-fine : (v : Version) (l : List Form) (line places : ℕ) (earlier : List ℕ) → length earlier ≤ 64
+    → Passes (formRows v line places earlier l) → AllFine v places l × (length earlier + length l ≤ 64)
 unfolding formRows formRow
 forms-fine v [] line places earlier few h = (tt, omega arith)
 forms-fine v (f ∷ l) line places earlier few h =
@@ -41,15 +42,26 @@ forms-fine v (f ∷ l) line places earlier few h =
     let four = head-passed _ _ (row .0) in
     let two = head-passed _ _ (four .1) in
     let three = head-passed _ _ (two .1) in
-    let room : length earlier < 64 = ltb-true (length earlier) 64 (unless-elim (ltb (length earlier) 64) 4 line refl (four .0)) in
-    let rest = forms-fine v l (line + 1) places (earlier ++ (f .name ∷ [])) (omega (arith, length-append earlier (f .name ∷ []))) (row .1) in
-    ((record { fits = unless-elim (formFits v places f) 2 line refl (two .0); lists = unless-elim (formLists f) 3 line refl (three .0) }, rest .0), omega (arith, rest .1, length-append earlier (f .name ∷ [])))
+    let room : length earlier < 64 = ltb-true (length earlier) 64
+    (unless-elim (ltb (length earlier) 64) 4 line refl (four .0)) in
+    let rest = forms-fine v l (line + 1) places (earlier ++ (f .name ∷ []))
+    (omega (arith, length-append earlier (f .name ∷ []))) (row .1) in (
+      (
+        record {
+          fits = unless-elim (formFits v places f) 2 line refl (two .0);
+          lists = unless-elim (formLists f) 3 line refl (three .0);
+        },
+        rest .0,
+      ),
+      omega (arith, rest .1, length-append earlier (f .name ∷ [])),
+    )
 
 abbrev AllNamed : Version → List ℕ → Type 0
 AllNamed v [] = Unit {0}
 AllNamed v (n ∷ l) = (nameFits v n ≡ true) × AllNamed v l
 
-dones-fine : (v : Version) (l : List ℕ) (line above : ℕ) → above ≤ 64 → Passes (doneRows v line above l) → AllNamed v l × (above + length l ≤ 64)
+dones-fine : (v : Version) (l : List ℕ) (line above : ℕ) → above ≤ 64 → Passes (doneRows v line above l)
+    → AllNamed v l × (above + length l ≤ 64)
 unfolding doneRows doneRow
 dones-fine v [] line above few h = (tt, omega arith)
 dones-fine v (n ∷ l) line above few h =
@@ -72,12 +84,18 @@ pub record AllLines (v : Version) (x : Lines) : Type 0 where
   pub done : AllNamed v (x .done)
   pub doneFew : length (x .done) ≤ 64
 
-route-fine : (v : Version) (line places : ℕ) (l : List Form) → Passes (routeFormRows v line places l) → (places ≤ 64) × AllFine v places l × (length l ≤ 64)
+route-fine : (v : Version) (line places : ℕ) (l : List Form) → Passes (routeFormRows v line places l)
+    → (places ≤ 64) × AllFine v places l × (length l ≤ 64)
 unfolding routeFormRows placesFit
 route-fine v line places l h =
     let head = head-passed _ _ h in
-    let steps = forms-fine v l (line + 1) places [] (omega arith) (rows-passed (formRows v (line + 1) places [] l) _ (head .1) .0) in
-    (leb-true places 64 (both (leb 1 places) (leb places 64) (unless-elim (leb 1 places && leb places 64) 2 line refl (head .0)) .1), steps .0, omega (arith, steps .1))
+    let steps = forms-fine v l (line + 1) places [] (omega arith)
+    (rows-passed (formRows v (line + 1) places [] l) _ (head .1) .0) in (
+      leb-true places 64 (both (leb 1 places) (leb places 64)
+          (unless-elim (leb 1 places && leb places 64) 2 line refl (head .0)) .1),
+      steps .0,
+      omega (arith, steps .1),
+    )
 
 pub lines-fine : (v : Version) (x : Lines) → Passes (sheetRows v x) → AllLines v x
 unfolding sheetRows
@@ -87,7 +105,16 @@ lines-fine v x h =
     let old = route-fine v 1 (x .oldPlaces) (x .old) (a .0) in
     let new = route-fine v (afterForms 1 (x .old)) (x .newPlaces) (x .new) (b .0) in
     let done = dones-fine v (x .done) _ 0 (omega arith) (b .1) in
-    record { oldPlaces = old .0; old = old .1; oldFew = old .2; newPlaces = new .0; new = new .1; newFew = new .2; done = done .0; doneFew = omega (arith, done .1) }
+    record {
+      oldPlaces = old .0;
+      old = old .1;
+      oldFew = old .2;
+      newPlaces = new .0;
+      new = new .1;
+      newFew = new .2;
+      done = done .0;
+      doneFew = omega (arith, done .1);
+    }
 
 -- ---- every number is short
 
@@ -105,15 +132,36 @@ form-short v limits places f h fine =
     let b = both _ _ (a .1) in
     let c = both _ _ (b .1) in
     let d = both _ _ (c .1) in
-    record { name = name-short v limits (f .name) (a .0); ins = below-short v limits (f .ins) places h (b .0); outs = below-short v limits (f .outs) places h (c .0); reads = below-short v limits (f .reads) 32 (omega arith) (d .0); writes = below-short v limits (f .writes) 32 (omega arith) (d .1) }
+    record {
+      name = name-short v limits (f .name) (a .0);
+      ins = below-short v limits (f .ins) places h (b .0);
+      outs = below-short v limits (f .outs) places h (c .0);
+      reads =
+          below-short v limits (f .reads) 32 (omega arith) (d .0);
+      writes =
+          below-short v limits (f .writes) 32 (omega arith) (d .1);
+    }
 
-forms-short : (v : Version) (limits : Limits v) (l : List Form) (places : ℕ) → places ≤ 64 → AllFine v places l → ShortForms v l
+forms-short : (v : Version) (limits : Limits v) (l : List Form) (places : ℕ) → places ≤ 64 → AllFine v places l
+    → ShortForms v l
 forms-short v limits [] places h fine = tt
-forms-short v limits (f ∷ l) places h fine = (form-short v limits places f h (fine .0), forms-short v limits l places h (fine .1))
+forms-short v limits (f ∷ l) places h fine = (
+  form-short v limits places f h (fine .0),
+  forms-short v limits l places h (fine .1),
+)
 
 names-short : (v : Version) (limits : Limits v) (l : List ℕ) → AllNamed v l → Shorts v l
 names-short v limits [] h = tt
 names-short v limits (n ∷ l) h = (name-short v limits n (h .0), names-short v limits l (h .1))
 
 pub lines-short : (v : Version) (limits : Limits v) (x : Lines) → AllLines v x → ShortLines v x
-lines-short v limits x h = record { oldPlaces = low-short v limits (x .oldPlaces) (omega (arith, h .oldPlaces)); old = forms-short v limits (x .old) (x .oldPlaces) (h .oldPlaces) (h .old); newPlaces = low-short v limits (x .newPlaces) (omega (arith, h .newPlaces)); new = forms-short v limits (x .new) (x .newPlaces) (h .newPlaces) (h .new); done = names-short v limits (x .done) (h .done) }
+lines-short v limits x h = record {
+  oldPlaces = low-short v limits (x .oldPlaces) (omega (arith, h .oldPlaces));
+  old = forms-short v limits (x .old) (x .oldPlaces) (h .oldPlaces) (h .old);
+  newPlaces =
+      low-short v limits (x .newPlaces) (omega (arith, h .newPlaces));
+  new =
+      forms-short v limits (x .new) (x .newPlaces) (h .newPlaces) (h .new);
+  done =
+      names-short v limits (x .done) (h .done);
+}

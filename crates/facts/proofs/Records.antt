@@ -33,11 +33,19 @@ use Rattle.facts.proofs.Ties.{tie}
 
 pub record-form : (s : Step) → Wide s → recordOf (formOf s) ≡ s
 unfolding recordOf formOf
-record-form s h = λ i. record { name = s .name; ins = mask-members 64 (s .ins) (h .ins) i; outs = mask-members 64 (s .outs) (h .outs) i; reads = mask-members 32 (s .reads) (h .reads) i; writes = mask-members 32 (s .writes) (h .writes) i }
+record-form s h = λ i. record {
+  name = s .name;
+  ins = mask-members 64 (s .ins) (h .ins) i;
+  outs = mask-members 64 (s .outs) (h .outs) i;
+  reads = mask-members 32 (s .reads) (h .reads) i;
+  writes =
+      mask-members 32 (s .writes) (h .writes) i;
+}
 
 pub records-forms : (l : List Step) → AllWide l → map recordOf (map formOf l) ≡ l
 records-forms [] h = refl
-records-forms (s ∷ l) h = ap₂ {C = List Step} (λ (x : Step) (k : List Step). x ∷ k) (record-form s (h .0)) (records-forms l (h .1))
+records-forms (s ∷ l) h = ap₂ {C = List Step} (λ (x : Step) (k : List Step). x ∷ k) (record-form s (h .0))
+    (records-forms l (h .1))
 
 wider : (l : List ℕ) (n m : ℕ) → n ≤ m → allBelow n l ≡ true → allBelow m l ≡ true
 unfolding allBelow
@@ -67,9 +75,11 @@ form-record v places f h fine =
     let writes = members-mask 32 (f .writes) (risen (f .writes) (s .1)) (d .1) in
     λ i. record { name = f .name; ins = ins i; outs = outs i; reads = reads i; writes = writes i }
 
-forms-records : (v : Version) (l : List Form) (places : ℕ) → places ≤ 64 → AllFine v places l → map formOf (map recordOf l) ≡ l
+forms-records : (v : Version) (l : List Form) (places : ℕ) → places ≤ 64 → AllFine v places l
+    → map formOf (map recordOf l) ≡ l
 forms-records v [] places h fine = refl
-forms-records v (f ∷ l) places h fine = ap₂ {C = List Form} (λ (x : Form) (k : List Form). x ∷ k) (form-record v places f h (fine .0)) (forms-records v l places h (fine .1))
+forms-records v (f ∷ l) places h fine = ap₂ {C = List Form} (λ (x : Form) (k : List Form). x ∷ k)
+    (form-record v places f h (fine .0)) (forms-records v l places h (fine .1))
 
 -- ---- the whole
 
@@ -79,9 +89,13 @@ unfolding linesOf factsRecord filled
 lines-back v x h =
     λ i. record {
       oldPlaces = x .oldPlaces;
-      old = (ap (map formOf) (filled-steps (x .oldPlaces) (map recordOf (x .old)) (omega (arith, length-map (x .old) recordOf, h .oldFew))) ∙ forms-records v (x .old) (x .oldPlaces) (h .oldPlaces) (h .old)) i;
+      old = (ap (map formOf) (filled-steps (x .oldPlaces) (map recordOf (x .old))
+          (omega (arith, length-map (x .old) recordOf, h .oldFew)))
+          ∙ forms-records v (x .old) (x .oldPlaces) (h .oldPlaces) (h .old)) i;
       newPlaces = x .newPlaces;
-      new = (ap (map formOf) (filled-steps (x .newPlaces) (map recordOf (x .new)) (omega (arith, length-map (x .new) recordOf, h .newFew))) ∙ forms-records v (x .new) (x .newPlaces) (h .newPlaces) (h .new)) i;
+      new = (ap (map formOf) (filled-steps (x .newPlaces) (map recordOf (x .new))
+          (omega (arith, length-map (x .new) recordOf, h .newFew)))
+          ∙ forms-records v (x .new) (x .newPlaces) (h .newPlaces) (h .new)) i;
       done = take-append-seam (x .done) (replicate (64 - length (x .done)) 0) i;
     }
 
@@ -94,23 +108,35 @@ read-is v s x e = ap (answered v (length s)) e
 wide-records : (l : List Form) → AllWide (map recordOf l)
 unfolding recordOf
 wide-records [] = tt
-wide-records (f ∷ l) = (record { ins = masked-below 64 0 (f .ins) (omega arith); outs = masked-below 64 0 (f .outs) (omega arith); reads = masked-below 32 0 (f .reads) (omega arith); writes = masked-below 32 0 (f .writes) (omega arith) }, wide-records l)
+wide-records (f ∷ l) = (
+  record {
+    ins = masked-below 64 0 (f .ins) (omega arith);
+    outs = masked-below 64 0 (f .outs) (omega arith);
+    reads = masked-below 32 0 (f .reads) (omega arith);
+    writes =
+        masked-below 32 0 (f .writes) (omega arith);
+  },
+  wide-records l,
+)
 
 wide-filled : (n : ℕ) (l : List Form) → length l ≤ 64 → AllWide (stepsOf (filled n (map recordOf l)))
-wide-filled n l h = subst AllWide (sym (filled-steps n (map recordOf l) (omega (arith, length-map l recordOf)))) (wide-records l)
+wide-filled n l h = subst AllWide (sym (filled-steps n (map recordOf l) (omega (arith, length-map l recordOf))))
+    (wide-records l)
 
 records-pass : (x : Lines) → Passes (sheetRows scope x) → Passes (lineRows (jobRead (factsRecord x)))
 unfolding factsRecord
 records-pass x h =
     let fine = lines-fine scope x h in
     ap (λ (rows : List Outcome). eqb (first rows .number) 0)
-    (sym (tie (jobRead (factsRecord x)) (wide-filled (x .oldPlaces) (x .old) (fine .oldFew)) (wide-filled (x .newPlaces) (x .new) (fine .newFew)))
+    (sym (tie (jobRead (factsRecord x)) (wide-filled (x .oldPlaces) (x .old) (fine .oldFew))
+    (wide-filled (x .newPlaces) (x .new) (fine .newFew)))
     ∙ ap (sheetRows scope) (lines-back scope x fine))
     ∙ h
 
 pub not-broken : (v : Version) (s r : List ℕ) → readBy v s .number ≡ 0 → parse v s ≡ Parsed.broken r → ⊥
 unfolding readBy answered failed
-not-broken v s r z e = let one : _≡_ {A = ℕ} 1 0 = sym (ap (λ (p : Parsed). answered v (length s) p .number) e) ∙ z in omega arith
+not-broken v s r z e = let one : _≡_ {A = ℕ} 1 0 =
+    sym (ap (λ (p : Parsed). answered v (length s) p .number) e) ∙ z in omega arith
 
 -- a sheet that reads: its lines, which no row refuses, and its facts
 pub record ReadAs (v : Version) (s : List ℕ) : Type 0 where
@@ -130,4 +156,5 @@ reads-as v s z = go (parse v s) refl
 
 -- a sheet that reads passes the rows of its lines
 pub read-lines : (s : List ℕ) → readOf s .number ≡ 0 → LinesPass (jobRead (readOf s))
-read-lines s z = let r = reads-as scope s z in ap (λ (y : Sheet). first (lineRows (jobRead y)) .number) (r .facts) ∙ eqb-true _ 0 (records-pass (r .lines) (r .passes))
+read-lines s z = let r = reads-as scope s z in ap (λ (y : Sheet). first (lineRows (jobRead y)) .number) (r .facts)
+    ∙ eqb-true _ 0 (records-pass (r .lines) (r .passes))

@@ -1,5 +1,5 @@
--- Row 1: reading answers 1 exactly where the bytes are no sheet, since the rows of lines have other numbers. Its second number is the
--- first byte where no sheet begins so, and the bytes of a sheet answer what the rows of its lines say.
+-- Row 1: reading answers 1 exactly where the bytes are no sheet, since the rows of lines have other numbers. Its second
+-- number is the first byte where no sheet begins so, and the bytes of a sheet answer what the rows of its lines say.
 use mathlib.Core.Path.{_≡_, refl, sym, ap, _∙_, subst}
 use mathlib.Core.Logic.{_↔_}
 use mathlib.Core.List.{List, [], _∷_, _++_}
@@ -36,7 +36,8 @@ none-not : NotOne (first [] .number)
 unfolding first
 none-not e = omega arith
 
-form-not : (v : Version) (line places above : ℕ) (earlier : List ℕ) (f : Form) → NotOne (formRow v line places above earlier f .number)
+form-not : (v : Version) (line places above : ℕ) (earlier : List ℕ) (f : Form)
+    → NotOne (formRow v line places above earlier f .number)
 unfolding formRow
 form-not v line places above earlier f =
     first-number NotOne _ _ (unless-number NotOne _ 4 line zero-not (λ e. omega arith))
@@ -49,7 +50,8 @@ forms-not : (v : Version) (l : List Form) (line places : ℕ) (earlier : List �
 unfolding formRows
 forms-not v [] line places earlier = none-not
 forms-not v (f ∷ l) line places earlier =
-    first-number NotOne _ _ (form-not v line places (length earlier) earlier f) (forms-not v l (line + 1) places (earlier ++ (f .name ∷ [])))
+    first-number NotOne _ _ (form-not v line places (length earlier) earlier f)
+    (forms-not v l (line + 1) places (earlier ++ (f .name ∷ [])))
 
 dones-not : (v : Version) (l : List ℕ) (line above : ℕ) → NotOne (first (doneRows v line above l) .number)
 unfolding doneRows doneRow
@@ -71,7 +73,8 @@ facts-not : (v : Version) (x : Lines) → NotOne (factsOf v x .number)
 unfolding sheetRows
 facts-not v x e =
     append-number NotOne (routeFormRows v 1 (x .oldPlaces) (x .old)) _ (route-not v 1 (x .oldPlaces) (x .old))
-    (append-number NotOne (routeFormRows v (afterForms 1 (x .old)) (x .newPlaces) (x .new)) _ (route-not v _ (x .newPlaces) (x .new))
+    (append-number NotOne (routeFormRows v (afterForms 1 (x .old)) (x .newPlaces) (x .new)) _
+    (route-not v _ (x .newPlaces) (x .new))
     (dones-not v (x .done) _ 0))
     (sym (rows-answer v x .0) ∙ e)
 
@@ -91,22 +94,26 @@ unfolding failed
 read-sheet {v} limits s h = go (parse v s) refl
   where
     go : (p : Parsed) → parse v s ≡ p → IsSheet v s
-    go (Parsed.read x) e = let made = sound v limits s x e in record { lines = x; short = made .short; same = made .same }
+    go (Parsed.read x) e = let made = sound v limits s x e in record
+        { lines = x; short = made .short; same = made .same }
     go (Parsed.broken r) e = absurd (h (ap (λ (y : Sheet). y .number) (broken-is v s r e)))
 
 -- what reading answers with 1 it answers with the first broken offset
-pub row-1-offset : {v : Version} (limits : Limits v) (s : List ℕ) → readBy v s .number ≡ 1 → FirstBroken v s (readBy v s .second)
+pub row-1-offset : {v : Version} (limits : Limits v) (s : List ℕ) → readBy v s .number ≡ 1
+    → FirstBroken v s (readBy v s .second)
 unfolding failed
 row-1-offset {v} limits s h = go (parse v s) refl
   where
     go : (p : Parsed) → parse v s ≡ p → FirstBroken v s (readBy v s .second)
     go (Parsed.read x) e = absurd (facts-not v x (sym (ap (λ (y : Sheet). y .number) (read-is v s x e)) ∙ h))
-    go (Parsed.broken r) e = subst (FirstBroken v s) (sym (ap (λ (y : Sheet). y .second) (broken-is v s r e))) (first-broken v limits s r e)
+    go (Parsed.broken r) e = subst (FirstBroken v s) (sym (ap (λ (y : Sheet). y .second) (broken-is v s r e)))
+        (first-broken v limits s r e)
 
 pub row-1-iff : {v : Version} (limits : Limits v) (s : List ℕ) → (readBy v s .number ≡ 1) ↔ (IsSheet v s → ⊥)
 unfolding failed
 row-1-iff {v} limits s = (λ h. row-1-offset limits s h .no-sheet, λ n. go (parse v s) refl n)
   where
     go : (p : Parsed) → parse v s ≡ p → (IsSheet v s → ⊥) → readBy v s .number ≡ 1
-    go (Parsed.read x) e n = absurd (let made = sound v limits s x e in n (record { lines = x; short = made .short; same = made .same }))
+    go (Parsed.read x) e n = absurd (let made = sound v limits s x e in n
+        (record { lines = x; short = made .short; same = made .same }))
     go (Parsed.broken r) e n = ap (λ (y : Sheet). y .number) (broken-is v s r e)

@@ -11,7 +11,8 @@ use Rattle.facts.specs.declared.Sheet.{Sheet}
 
 pub settle-no : (o : Outcome) (n k : ℕ) (s : Sheet) → o ≡ refuse n k → eqb n 0 ≡ false → settled o s ≡ failed n k
 unfolding settled
-settle-no o n k s e z = ap (λ (x : Outcome). cond (eqb (x .number) 0) s (failed (x .number) (x .second))) e ∙ ap (λ (t : Bool). cond t s (failed n k)) z
+settle-no o n k s e z = ap (λ (x : Outcome). cond (eqb (x .number) 0) s (failed (x .number) (x .second))) e
+    ∙ ap (λ (t : Bool). cond t s (failed n k)) z
 
 pub settle-yes : (o : Outcome) (s : Sheet) → o ≡ pass → settled o s ≡ s
 unfolding settled

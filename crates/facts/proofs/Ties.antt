@@ -15,7 +15,8 @@ use Rattle.route.specs.declared.Step.{Step}
 use Rattle.refusal.specs.declared.Outcome.{Outcome}
 use Rattle.job.specs.Job.{Job, newLine, jobLine}
 use Rattle.version.specs.Limits.{scope, nameFits}
-use Rattle.job.specs.Lines.{placesFit, stepFits, variableList, placeList, listsFit, among, stepRow, stepRows, routeRows, doneRows, lineRows}
+use Rattle.job.specs.Lines.{placesFit, stepFits, variableList, placeList, listsFit, among, stepRow, stepRows, routeRows}
+use Rattle.job.specs.Lines.{doneRows, lineRows}
 use Rattle.facts.specs.Forms.{formFits, formLists, formRow}
 use Rattle.facts.specs.SheetRows.{formRows, routeFormRows, sheetRows}
 use Rattle.facts.specs.Back.{formOf, linesOf, Wide, AllWide}
@@ -24,8 +25,12 @@ use Rattle.facts.proofs.Members.{bool-ext, all-below-width, below-is, n
 pub within-or : (a b c : ℕ) → within (bitOr a b) c ≡ (within a c && within b c)
 within-or a b c =
     bool-ext (within (bitOr a b) c) (within a c && within b c)
-    (λ e. ap₂ (λ (x y : Bool). x && y) (all-within a c (λ v h. within-all (bitOr a b) c e v (has-or a b v ∙ left (has a v) (has b v) h))) (all-within b c (λ v h. within-all (bitOr a b) c e v (has-or a b v ∙ right (has a v) (has b v) h))))
-    (λ e. all-within (bitOr a b) c (λ v h. pick (has a v) (has b v) (has c v) (sym (has-or a b v) ∙ h) (within-all a c (both (within a c) (within b c) e .0) v) (within-all b c (both (within a c) (within b c) e .1) v)))
+    (λ e. ap₂ (λ (x y : Bool). x && y) (all-within a c
+    (λ v h. within-all (bitOr a b) c e v (has-or a b v ∙ left (has a v) (has b v) h)))
+    (all-within b c (λ v h. within-all (bitOr a b) c e v (has-or a b v ∙ right (has a v) (has b v) h))))
+    (λ e. all-within (bitOr a b) c (λ v h. pick (has a v) (has b v) (has c v) (sym (has-or a b v) ∙ h)
+    (within-all a c (both (within a c) (within b c) e .0) v)
+    (within-all b c (both (within a c) (within b c) e .1) v)))
   where
     left : (x y : Bool) → x ≡ true → (x || y) ≡ true
     left true y e = refl
@@ -61,7 +66,8 @@ lists-same s h =
     (ap₂ (λ (x y : Bool). x && y) (fits-is 64 (s .ins))
     (ap₂ (λ (x y : Bool). x && y) (fits-is 64 (s .outs))
     (ap₂ (λ (x y : Bool). x && y) (fits-is 32 (s .reads)) (fits-is 32 (s .writes))))))
-    ∙ turn (not (eqb (s .ins) 0)) (not (eqb (s .outs) 0)) (leb (count 64 (s .ins)) 8) (leb (count 64 (s .outs)) 8) (leb (count 32 (s .reads)) 8 && leb (count 32 (s .writes)) 8)
+    ∙ turn (not (eqb (s .ins) 0)) (not (eqb (s .outs) 0)) (leb (count 64 (s .ins)) 8) (leb (count 64 (s .outs)) 8)
+    (leb (count 32 (s .reads)) 8 && leb (count 32 (s .writes)) 8)
   where
     turn : (a b c d e : Bool) → (a && (b && (c && (d && e)))) ≡ ((a && c) && ((b && d) && e))
     turn true true true d e = refl
@@ -70,26 +76,35 @@ lists-same s h =
     turn true false false d e = refl
     turn false b c d e = refl
 
-row-same : (line places : ℕ) (earlier : List ℕ) (s : Step) → Wide s → formRow scope line places (length earlier) earlier (formOf s) ≡ stepRow line places earlier s
+row-same : (line places : ℕ) (earlier : List ℕ) (s : Step) → Wide s
+    → formRow scope line places (length earlier) earlier (formOf s) ≡ stepRow line places earlier s
 unfolding formRow stepRow
 row-same line places earlier s h =
-    ap₂ (λ (x y : Bool). first (unless (ltb (length earlier) 64) 4 line ∷ unless x 2 line ∷ unless y 3 line ∷ unless (not (among (formOf s .name) earlier)) 5 line ∷ [])) (fits-same places s h) (lists-same s h)
+    ap₂ (λ (x y : Bool). first (unless (ltb (length earlier) 64) 4 line ∷ unless x 2 line ∷ unless y 3 line
+    ∷ unless (not (among (formOf s .name) earlier)) 5 line ∷ [])) (fits-same places s h) (lists-same s h)
     ∙ (unfold formOf in refl)
 
-rows-same : (l : List Step) (line places : ℕ) (earlier : List ℕ) → AllWide l → formRows scope line places earlier (map formOf l) ≡ stepRows line places earlier l
+rows-same : (l : List Step) (line places : ℕ) (earlier : List ℕ) → AllWide l
+    → formRows scope line places earlier (map formOf l) ≡ stepRows line places earlier l
 unfolding formRows stepRows formOf
 rows-same [] line places earlier h = refl
-rows-same (s ∷ l) line places earlier h = ap₂ {C = List Outcome} (λ (o : Outcome) (k : List Outcome). o ∷ k) (row-same line places earlier s (h .0)) (rows-same l (line + 1) places (earlier ++ (s .name ∷ [])) (h .1))
+rows-same (s ∷ l) line places earlier h = ap₂ {C = List Outcome} (λ (o : Outcome) (k : List Outcome). o ∷ k)
+    (row-same line places earlier s (h .0)) (rows-same l (line + 1) places (earlier ++ (s .name ∷ [])) (h .1))
 
-route-same : (line places : ℕ) (l : List Step) → AllWide l → routeFormRows scope line places (map formOf l) ≡ routeRows line places l
+route-same : (line places : ℕ) (l : List Step) → AllWide l
+    → routeFormRows scope line places (map formOf l) ≡ routeRows line places l
 unfolding routeFormRows routeRows
 route-same line places l h =
-    ap₂ {C = List Outcome} (λ (k : List Outcome) (n : ℕ). unless (placesFit places) 2 line ∷ (k ++ (unless (not (eqb n 0)) 4 (line + 1 + n) ∷ []))) (rows-same l (line + 1) places [] h) (length-map l formOf)
+    ap₂ {C = List Outcome} (λ (k : List Outcome) (n : ℕ). unless (placesFit places) 2 line
+    ∷ (k ++ (unless (not (eqb n 0)) 4 (line + 1 + n) ∷ []))) (rows-same l (line + 1) places [] h)
+    (length-map l formOf)
 
 -- the rows of a job's records are those of the lines that writing it gives
 pub tie : (j : Job) → AllWide (j .old) → AllWide (j .new) → sheetRows scope (linesOf j) ≡ lineRows j
 unfolding sheetRows lineRows linesOf
 tie j old new =
     (λ i. routeFormRows scope 1 (j .oldPlaces) (map formOf (j .old))
-    ++ (routeFormRows scope (1 + 1 + length-map (j .old) formOf i) (j .newPlaces) (map formOf (j .new)) ++ doneRows scope (1 + 1 + length-map (j .old) formOf i + 1 + length-map (j .new) formOf i + 1) 0 (j .done)))
-    ∙ ap₂ (λ (x y : List Outcome). x ++ (y ++ doneRows scope (jobLine j + 1) 0 (j .done))) (route-same 1 (j .oldPlaces) (j .old) old) (route-same (newLine j) (j .newPlaces) (j .new) new)
+    ++ (routeFormRows scope (1 + 1 + length-map (j .old) formOf i) (j .newPlaces) (map formOf (j .new))
+    ++ doneRows scope (1 + 1 + length-map (j .old) formOf i + 1 + length-map (j .new) formOf i + 1) 0 (j .done)))
+    ∙ ap₂ (λ (x y : List Outcome). x ++ (y ++ doneRows scope (jobLine j + 1) 0 (j .done)))
+    (route-same 1 (j .oldPlaces) (j .old) old) (route-same (newLine j) (j .newPlaces) (j .new) new)

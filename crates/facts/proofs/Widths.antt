@@ -1,5 +1,5 @@
--- Rows that pass bound the places of a record, and neither the rows nor the lines see a variable past 32: a step's own record has the
--- masks' widths, the same rows and the same lines.
+-- Rows that pass bound the places of a record, and neither the rows nor the lines see a variable past 32: a step's own
+-- record has the masks' widths, the same rows and the same lines.
 use mathlib.Core.Path.{_≡_, refl, sym, ap₂, _∙_}
 use mathlib.Core.Bool.{true, not, _&&_}
 use mathlib.Core.List.{List, [], _∷_, _++_, map}
@@ -17,7 +17,8 @@ use Rattle.refusal.proofs.Rows.{head-passed, unless-elim, rows-passed}
 use Rattle.route.specs.declared.Step.{Step}
 use Rattle.job.specs.Job.{Job, newLine, jobLine}
 use Rattle.version.specs.Limits.{scope, nameFits}
-use Rattle.job.specs.Lines.{placesFit, stepFits, variableList, placeList, listsFit, among, stepRow, stepRows, routeRows, doneRows, lineRows}
+use Rattle.job.specs.Lines.{placesFit, stepFits, variableList, placeList, listsFit, among, stepRow, stepRows, routeRows}
+use Rattle.job.specs.Lines.{doneRows, lineRows}
 use Rattle.job.proofs.Rows.{route-fits}
 use Rattle.layout.specs.Text.{Form}
 use Rattle.facts.specs.Back.{formOf, linesOf, Wide, AllWide, asRecord, asRecords}
@@ -28,7 +29,13 @@ use Rattle.facts.proofs.Ties.{within-or}
 
 form-same : (s : Step) → formOf (asRecord s) ≡ formOf s
 unfolding formOf asRecord
-form-same s = λ i. record { name = s .name; ins = members 64 (s .ins); outs = members 64 (s .outs); reads = members-cut 32 (s .reads) i; writes = members-cut 32 (s .writes) i }
+form-same s = λ i. record {
+  name = s .name;
+  ins = members 64 (s .ins);
+  outs = members 64 (s .outs);
+  reads = members-cut 32 (s .reads) i;
+  writes = members-cut 32 (s .writes) i;
+}
 
 forms-same : (l : List Step) → map formOf (map asRecord l) ≡ map formOf l
 forms-same [] = refl
@@ -36,7 +43,13 @@ forms-same (s ∷ l) = ap₂ {C = List Form} (λ (f : Form) (k : List Form). f �
 
 pub lines-same : (j : Job) → linesOf (asRecords j) ≡ linesOf j
 unfolding linesOf asRecords
-lines-same j = λ i. record { oldPlaces = j .oldPlaces; old = forms-same (j .old) i; newPlaces = j .newPlaces; new = forms-same (j .new) i; done = j .done }
+lines-same j = λ i. record {
+  oldPlaces = j .oldPlaces;
+  old = forms-same (j .old) i;
+  newPlaces = j .newPlaces;
+  new = forms-same (j .new) i;
+  done = j .done;
+}
 
 row-same : (line places : ℕ) (earlier : List ℕ) (s : Step)
     → stepRow line places earlier (asRecord s) ≡ stepRow line places earlier s
@@ -56,13 +69,15 @@ rows-same : (l : List Step) (line places : ℕ) (earlier : List ℕ)
     → stepRows line places earlier (map asRecord l) ≡ stepRows line places earlier l
 unfolding stepRows asRecord
 rows-same [] line places earlier = refl
-rows-same (s ∷ l) line places earlier = ap₂ {C = List Outcome} (λ (o : Outcome) (k : List Outcome). o ∷ k) (row-same line places earlier s) (rows-same l (line + 1) places (earlier ++ (s .name ∷ [])))
+rows-same (s ∷ l) line places earlier = ap₂ {C = List Outcome} (λ (o : Outcome) (k : List Outcome). o ∷ k)
+    (row-same line places earlier s) (rows-same l (line + 1) places (earlier ++ (s .name ∷ [])))
 
 route-same : (line places : ℕ) (l : List Step) → routeRows line places (map asRecord l) ≡ routeRows line places l
 unfolding routeRows
 route-same line places l =
     ap₂ {C = List Outcome}
-    (λ (k : List Outcome) (n : ℕ). unless (placesFit places) 2 line ∷ (k ++ (unless (not (eqb n 0)) 4 (line + 1 + n) ∷ [])))
+    (λ (k : List Outcome) (n : ℕ). unless (placesFit places) 2 line
+    ∷ (k ++ (unless (not (eqb n 0)) 4 (line + 1 + n) ∷ [])))
     (rows-same l (line + 1) places [])
     (length-map l asRecord)
 
@@ -70,8 +85,11 @@ pub rows-as-records : (j : Job) → lineRows (asRecords j) ≡ lineRows j
 unfolding lineRows asRecords
 rows-as-records j =
     (λ i. routeRows 1 (j .oldPlaces) (map asRecord (j .old))
-    ++ (routeRows (1 + 1 + length-map (j .old) asRecord i) (j .newPlaces) (map asRecord (j .new)) ++ doneRows scope (1 + 1 + length-map (j .old) asRecord i + 1 + length-map (j .new) asRecord i + 1) 0 (j .done)))
-    ∙ ap₂ (λ (x y : List Outcome). x ++ (y ++ doneRows scope (jobLine j + 1) 0 (j .done))) (route-same 1 (j .oldPlaces) (j .old)) (route-same (newLine j) (j .newPlaces) (j .new))
+    ++ (routeRows (1 + 1 + length-map (j .old) asRecord i) (j .newPlaces) (map asRecord (j .new))
+    ++ doneRows scope (1 + 1 + length-map (j .old) asRecord i + 1 + length-map (j .new) asRecord i + 1) 0
+    (j .done)))
+    ∙ ap₂ (λ (x y : List Outcome). x ++ (y ++ doneRows scope (jobLine j + 1) 0 (j .done)))
+    (route-same 1 (j .oldPlaces) (j .old)) (route-same (newLine j) (j .newPlaces) (j .new))
 
 -- ---- where the rows pass, it has the masks' widths
 
@@ -81,8 +99,14 @@ unfolding stepRow stepFits asRecord
 step-wide line places earlier s few h =
     let fits = unless-elim (stepFits places s) 2 line refl (head-passed _ _ (head-passed _ _ h .1) .0) in
     let places-in = both (nameFits scope (s .name)) _ fits .1 in
-    let (ins, outs) = both (within (s .ins) (below places)) (within (s .outs) (below places)) (sym (within-or (s .ins) (s .outs) (below places)) ∙ places-in) in
-    record { ins = wide (s .ins) ins; outs = wide (s .outs) outs; reads = cut-below (s .reads) 32; writes = cut-below (s .writes) 32 }
+    let (ins, outs) = both (within (s .ins) (below places)) (within (s .outs) (below places))
+    (sym (within-or (s .ins) (s .outs) (below places)) ∙ places-in) in
+    record {
+      ins = wide (s .ins) ins;
+      outs = wide (s .outs) outs;
+      reads = cut-below (s .reads) 32;
+      writes = cut-below (s .writes) 32;
+    }
   where
     wide : (m : ℕ) → within m (below places) ≡ true → m < 2 ^ 64
     wide m e = lt-of-lt-of-le (within-below m places e) (pow-mono few)
@@ -112,8 +136,15 @@ rows-wide j h =
 
 step-own : (s : Step) → Wide s → asRecord s ≡ s
 unfolding asRecord
-step-own s w = λ i. record { name = s .name; ins = s .ins; outs = s .outs; reads = cut-same (s .reads) 32 (w .reads) i; writes = cut-same (s .writes) 32 (w .writes) i }
+step-own s w = λ i. record {
+  name = s .name;
+  ins = s .ins;
+  outs = s .outs;
+  reads = cut-same (s .reads) 32 (w .reads) i;
+  writes = cut-same (s .writes) 32 (w .writes) i;
+}
 
 pub records-own : (l : List Step) → AllWide l → map asRecord l ≡ l
 records-own [] h = refl
-records-own (s ∷ l) h = ap₂ {C = List Step} (λ (x : Step) (k : List Step). x ∷ k) (step-own s (h .0)) (records-own l (h .1))
+records-own (s ∷ l) h = ap₂ {C = List Step} (λ (x : Step) (k : List Step). x ∷ k) (step-own s (h .0))
+    (records-own l (h .1))

@@ -1,4 +1,5 @@
--- The facts of a sheet: its lines top down, each by the rows 4, 2, 3, 5 in this order. The first refusal stands, with all else 0.
+-- The facts of a sheet: its lines top down, each by the rows 4, 2, 3, 5 in this order. The first refusal stands, with
+-- all else 0.
 use mathlib.Core.Bool.{not, cond}
 use mathlib.Core.List.{List, [], _∷_}
 use Prim.Native.Nat.{ℕ, _+_, _-_}
@@ -33,16 +34,41 @@ unfoldable pub headed : ℕ → Route → Route
 headed n r = record { places = n; len = r .len; steps = r .steps }
 
 unfoldable pub stepped : Route → Step → Route
-stepped r s = cond (ltb (r .len) 64) (record { places = r .places; len = r .len + 1; steps = set (r .steps) (r .len) s }) r
+stepped r s = cond (ltb (r .len) 64) (record {
+  places = r .places;
+  len = r .len + 1;
+  steps = set (r .steps) (r .len) s;
+}) r
 
 abbrev pub withOld : Route → Sheet → Sheet
-withOld r s = record { number = s .number; second = s .second; old = r; new = s .new; «done_len» = s .«done_len»; done = s .done }
+withOld r s = record {
+  number = s .number;
+  second = s .second;
+  old = r;
+  new = s .new;
+  «done_len» = s .«done_len»;
+  done = s .done;
+}
 
 abbrev pub withNew : Route → Sheet → Sheet
-withNew r s = record { number = s .number; second = s .second; old = s .old; new = r; «done_len» = s .«done_len»; done = s .done }
+withNew r s = record {
+  number = s .number;
+  second = s .second;
+  old = s .old;
+  new = r;
+  «done_len» = s .«done_len»;
+  done = s .done;
+}
 
 abbrev pub withDone : ℕ → Sheet → Sheet
-withDone n s = record { number = s .number; second = s .second; old = s .old; new = s .new; «done_len» = s .«done_len» + 1; done = set (s .done) (s .«done_len») n }
+withDone n s = record {
+  number = s .number;
+  second = s .second;
+  old = s .old;
+  new = s .new;
+  «done_len» = s .«done_len» + 1;
+  done = set (s .done) (s .«done_len») n;
+}
 
 -- ---- each kind of line, where nothing has been refused above it
 
@@ -50,7 +76,8 @@ unfoldable pub oldHead : ℕ → ℕ → Sheet → Sheet
 oldHead line n s = settled (unless (placesFit n) 2 line) (withOld (headed n (s .old)) s)
 
 unfoldable pub newHead : ℕ → ℕ → Sheet → Sheet
-newHead line n s = settled (first (unless (not (eqb (s .old .len) 0)) 4 line ∷ unless (placesFit n) 2 line ∷ [])) (withNew (headed n (s .new)) s)
+newHead line n s = settled (first (unless (not (eqb (s .old .len) 0)) 4 line ∷ unless (placesFit n) 2 line ∷ []))
+    (withNew (headed n (s .new)) s)
 
 unfoldable pub jobHead : ℕ → Sheet → Sheet
 jobHead line s = settled (unless (not (eqb (s .new .len) 0)) 4 line) s
@@ -59,8 +86,10 @@ unfoldable pub doneIn : Version → ℕ → ℕ → Sheet → Sheet
 doneIn v line n s = settled (doneRow v line (s .«done_len») n) (withDone n s)
 
 unfoldable pub stepIn : Version → Part → ℕ → Form → Sheet → Sheet
-stepIn v OldRoute line f s = settled (formRow v line (s .old .places) (s .old .len) (names (stepsOf (s .old))) f) (withOld (stepped (s .old) (recordOf f)) s)
-stepIn v NewRoute line f s = settled (formRow v line (s .new .places) (s .new .len) (names (stepsOf (s .new))) f) (withNew (stepped (s .new) (recordOf f)) s)
+stepIn v OldRoute line f s = settled (formRow v line (s .old .places) (s .old .len) (names (stepsOf (s .old))) f)
+    (withOld (stepped (s .old) (recordOf f)) s)
+stepIn v NewRoute line f s = settled (formRow v line (s .new .places) (s .new .len) (names (stepsOf (s .new))) f)
+    (withNew (stepped (s .new) (recordOf f)) s)
 stepIn v JobPart line f s = s
 
 -- ---- the lines top down: how many have been read, and what they gave
@@ -71,7 +100,11 @@ pub record State : Type 0 where
 
 -- one more line, which counts only where nothing above it was refused
 unfoldable pub more : (ℕ → Sheet → Sheet) → State → State
-more line k = record { lines = k .lines + 1; sheet = cond (eqb (k .sheet .number) 0) (line (k .lines + 1) (k .sheet)) (k .sheet) }
+more line k = record {
+  lines = k .lines + 1;
+  sheet = cond (eqb (k .sheet .number) 0) (line (k .lines + 1) (k .sheet))
+      (k .sheet);
+}
 
 unfoldable pub moreSteps : Version → Part → List Form → State → State
 moreSteps v p [] k = k

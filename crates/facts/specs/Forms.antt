@@ -26,7 +26,8 @@ rising low (v ∷ l) = leb low v && rising (suc v) l
 
 -- 2: a number outside its range, or a place not below N
 unfoldable pub formFits : Version → ℕ → Form → Bool
-formFits v places f = nameFits v (f .name) && (allBelow places (f .ins) && (allBelow places (f .outs) && (allBelow 32 (f .reads) && allBelow 32 (f .writes))))
+formFits v places f = nameFits v (f .name) && (allBelow places (f .ins)
+    && (allBelow places (f .outs) && (allBelow 32 (f .reads) && allBelow 32 (f .writes))))
 
 -- 3: in or out empty, a list over 8, or an entry not above the one before
 unfoldable pub listFits : List ℕ → Bool
@@ -35,7 +36,8 @@ listFits l = leb (length l) 8 && rising 0 l
 unfoldable pub formLists : Form → Bool
 formLists f =
     not (eqb (length (f .ins)) 0)
-    && (not (eqb (length (f .outs)) 0) && (listFits (f .ins) && (listFits (f .outs) && (listFits (f .reads) && listFits (f .writes)))))
+    && (not (eqb (length (f .outs)) 0) && (listFits (f .ins)
+    && (listFits (f .outs) && (listFits (f .reads) && listFits (f .writes)))))
 
 -- the rows of one step's line, given how many steps stand above it and their names
 unfoldable pub formRow : Version → ℕ → ℕ → ℕ → List ℕ → Form → Outcome
@@ -54,4 +56,10 @@ masked w m (v ∷ l) = masked w (bitOr m (cond (ltb v w) (bit v) 0)) l
 
 -- "with the lists as bit masks, place p at bit p"
 unfoldable pub recordOf : Form → Step
-recordOf f = record { name = f .name; ins = masked 64 0 (f .ins); outs = masked 64 0 (f .outs); reads = masked 32 0 (f .reads); writes = masked 32 0 (f .writes) }
+recordOf f = record {
+  name = f .name;
+  ins = masked 64 0 (f .ins);
+  outs = masked 64 0 (f .outs);
+  reads = masked 32 0 (f .reads);
+  writes = masked 32 0 (f .writes);
+}

@@ -18,7 +18,8 @@ use Rattle.facts.specs.declared.Sheet.{Sheet}
 
 unfoldable pub formRows : Version → ℕ → ℕ → List ℕ → List Form → List Outcome
 formRows v line places earlier [] = []
-formRows v line places earlier (f ∷ l) = formRow v line places (length earlier) earlier f ∷ formRows v (line + 1) places (earlier ++ (f .name ∷ [])) l
+formRows v line places earlier (f ∷ l) = formRow v line places (length earlier) earlier f
+    ∷ formRows v (line + 1) places (earlier ++ (f .name ∷ [])) l
 
 -- the line of the head that follows a route's
 abbrev pub afterForms : ℕ → List Form → ℕ
@@ -33,7 +34,8 @@ routeFormRows v line places l =
 unfoldable pub sheetRows : Version → Lines → List Outcome
 sheetRows v x =
     routeFormRows v 1 (x .oldPlaces) (x .old)
-    ++ (routeFormRows v (afterForms 1 (x .old)) (x .newPlaces) (x .new) ++ doneRows v (afterForms (afterForms 1 (x .old)) (x .new) + 1) 0 (x .done))
+    ++ (routeFormRows v (afterForms 1 (x .old)) (x .newPlaces) (x .new)
+    ++ doneRows v (afterForms (afterForms 1 (x .old)) (x .new) + 1) 0 (x .done))
 
 -- a route by value of these steps, and a done list of these names
 unfoldable pub filled : ℕ → List Step → Route

@@ -26,7 +26,8 @@ module _ (steps : List Step) where
     pub first-fires : runFrom steps m line (n ∷ d) .number ≡ 0
         → Fires m (lookup n steps) (λ s m′. runFrom steps m′ (line + 1) d) (λ (r : Ran). r .number ≡ 0)
     unfolding runFrom
-    first-fires = ifFires-elim (λ (r : Ran). r .number ≡ 0) m (lookup n steps) _ _ _ (λ e. omega arith) (λ e. omega arith)
+    first-fires = ifFires-elim (λ (r : Ran). r .number ≡ 0) m (lookup n steps) _ _ _ (λ e. omega arith)
+        (λ e. omega arith)
 
   pub run-known : (m line : ℕ) (done : List ℕ) → runFrom steps m line done .number ≡ 0 → Known steps done
   run-known m line [] e i h = absurd (not-suc-le-zero h)

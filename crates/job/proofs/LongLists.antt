@@ -223,7 +223,8 @@ module _ (old new : Route) (done : List ℕ) (n : ℕ) (a : List ℕ) (m : ℕ) 
   abbrev pub laidJob : Job
   laidJob = flatJob (old .places) (take n a) (new .places) (take m b) done
 
-  pub same-laid : {X : Type 0} (f : Job → X) → ((j k : Job) → Refused j k → f j ≡ f k) → f laidJob ≡ f (jobOf old new done)
+  pub same-laid : {X : Type 0} (f : Job → X) → ((j k : Job) → Refused j k → f j ≡ f k)
+      → f laidJob ≡ f (jobOf old new done)
   same-laid f by = ap f (laid-short old new done n a m b p q) ∙ sym (same-short (jobOf old new done) f by)
 
   pub rows-laid : (o : Outcome) → o ≡ first (lineRows laidJob) → o ≡ first (lineRows (jobOf old new done))

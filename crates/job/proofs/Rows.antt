@@ -17,7 +17,8 @@ use Rattle.refusal.specs.Rows.{pass, refuse, unless, first}
 use Rattle.route.specs.Flat.{stepsIn}
 use Rattle.route.specs.declared.Step.{Step}
 use Rattle.refusal.specs.declared.Outcome.{Outcome}
-use Rattle.refusal.proofs.Rows.{head-refuses, head-passes, head-passed, row-refuses, row-passes, row-passed, rows-end, rows-pass, rows-refuse, rows-passed}
+use Rattle.refusal.proofs.Rows.{head-refuses, head-passes, head-passed, row-refuses, row-passes, row-passed, rows-end}
+use Rattle.refusal.proofs.Rows.{rows-pass, rows-refuse, rows-passed}
 use Rattle.version.specs.Limits.{scope, nameFits}
 use Rattle.job.specs.Lines.{stepRow, stepRows, routeRows, doneRow, doneRows, lineRows, placesFit, LinesPass}
 use Rattle.job.specs.Run.{AllNamed}
@@ -29,11 +30,13 @@ module _ (line i : ℕ) (done : List ℕ) (whole o : Outcome) where
   pub done-end : length done ≤ i → first (doneRows scope (line + i) i (drop i done)) ≡ whole → o ≡ pass → o ≡ whole
   unfolding doneRows
   done-end h inv is =
-      is ∙ sym rows-end ∙ ap (λ (x : List ℕ). first (doneRows scope (line + i) i x)) (sym (drop-of-length-le done {i = i} h))
+      is ∙ sym rows-end ∙ ap (λ (x : List ℕ). first (doneRows scope (line + i) i x))
+      (sym (drop-of-length-le done {i = i} h))
       ∙ inv
 
   module _ (more : i < length done) (inv : first (doneRows scope (line + i) i (drop i done)) ≡ whole) where
-    at-line : first (doneRow scope (line + i) i (getD done i 0) ∷ doneRows scope (line + i + 1) (i + 1) (drop (suc i) done)) ≡ whole
+    at-line : first (doneRow scope (line + i) i (getD done i 0)
+        ∷ doneRows scope (line + i + 1) (i + 1) (drop (suc i) done)) ≡ whole
     unfolding doneRows
     at-line = ap (λ (x : List ℕ). first (doneRows scope (line + i) i x)) (sym (drop-cons done i 0 more)) ∙ inv
 
@@ -41,7 +44,8 @@ module _ (line i : ℕ) (done : List ℕ) (whole o : Outcome) where
     pub done-over : o ≡ refuse 4 (line + 64) → i ≤ 64 → 64 ≤ i → o ≡ whole
     done-over is low high =
         is ∙ ap (λ (n : ℕ). refuse 4 (line + n)) at ∙ sym (head-refuses _ _ refl)
-        ∙ ap (λ (x : Outcome). first (x ∷ doneRows scope (line + i + 1) (i + 1) (drop (suc i) done))) (sym refused) ∙ at-line
+        ∙ ap (λ (x : Outcome). first (x ∷ doneRows scope (line + i + 1) (i + 1) (drop (suc i) done))) (sym refused)
+        ∙ at-line
       where
         at : 64 ≡ i
         at = omega arith
@@ -53,7 +57,8 @@ module _ (line i : ℕ) (done : List ℕ) (whole o : Outcome) where
         → o ≡ whole
     done-refused f low is fails to =
         to ∙ sym (head-refuses _ _ refl)
-        ∙ ap (λ (x : Outcome). first (x ∷ doneRows scope (line + i + 1) (i + 1) (drop (suc i) done))) (sym refused) ∙ at-line
+        ∙ ap (λ (x : Outcome). first (x ∷ doneRows scope (line + i + 1) (i + 1) (drop (suc i) done))) (sym refused)
+        ∙ at-line
       where
         refused : doneRow scope (line + i) i (getD done i 0) ≡ refuse 2 (line + i)
         refused =
@@ -222,7 +227,8 @@ module _ (j : Job) (a : Outcome) (is : a ≡ first (routeRows 1 (j .oldPlaces) (
     unfolding lineRows
     lines-new off = new-is ∙ sym (rows-refuse newRows _ (new-asked ∙ not-true u off)) ∙ past-old _
 
-    pub lines-done : not u ≡ false → (line : ℕ) → line ≡ jobLine j → (o : Outcome) → o ≡ first (doneRows scope (line + 1) 0 (j .done))
+    pub lines-done : not u ≡ false → (line : ℕ) → line ≡ jobLine j → (o : Outcome)
+        → o ≡ first (doneRows scope (line + 1) 0 (j .done))
         → o ≡ first (lineRows j)
     unfolding lineRows
     lines-done pass line line-is o last =
@@ -254,7 +260,8 @@ lines-fit j e =
 pub pass-fits : (j : Job) → LinesPass j → LinesFit j
 pass-fits j e = lines-fit j (eq-eqb (first (lineRows j) .number) 0 e)
 
-module _ (places : ℕ) (old : List ℕ) (places′ : ℕ) (new done : List ℕ) (e : LinesPass (flatJob places old places′ new done)) where
+module _ (places : ℕ) (old : List ℕ) (places′ : ℕ) (new done : List ℕ)
+    (e : LinesPass (flatJob places old places′ new done)) where
   abbrev fits : LinesFit (flatJob places old places′ new done)
   fits = pass-fits (flatJob places old places′ new done) e
 

@@ -19,7 +19,8 @@ use Rattle.job.specs.Job.{Job, afterSteps, newLine, jobLine}
 unfoldable pub placesFit : ℕ → Bool
 placesFit places = leb 1 places && leb places 64
 
--- a name is one of 01's, and each place that a step names is below the place count. (A variable is below 32 by its mask's width.)
+-- a name is one of 01's, and each place that a step names is below the place count. (A variable is below 32 by its
+-- mask's width.)
 unfoldable pub stepFits : ℕ → Step → Bool
 stepFits places s = nameFits scope (s .name) && within (bitOr (s .ins) (s .outs)) (below places)
 

@@ -32,7 +32,8 @@ AllNamed done = (i : ℕ) → i < length done → 1 ≤ getD done i 0
 -- 8: name not in the old route; 9: can't fire; else the next line from the next marking
 unfoldable pub runFrom : List Step → ℕ → ℕ → List ℕ → Ran
 runFrom steps m line [] = record { number = 0; second = 0; marking = record { tokens = m } }
-runFrom steps m line (n ∷ l) = ifFires m (lookup n steps) (stopped 8 line) (stopped 9 line) (λ s m′. runFrom steps m′ (line + 1) l)
+runFrom steps m line (n ∷ l) = ifFires m (lookup n steps) (stopped 8 line) (stopped 9 line)
+    (λ s m′. runFrom steps m′ (line + 1) l)
 
 -- the operation run: the rows to 7, then the done lines from the old route's start
 unfoldable pub ran : Job → Ran

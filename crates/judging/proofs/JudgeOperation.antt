@@ -1,4 +1,5 @@
--- The operation judge: row 14, the rows to 12 as the prepared job has them, and what follows; and the work slice after each.
+-- The operation judge: row 14, the rows to 12 as the prepared job has them, and what follows; and the work slice after
+-- each.
 use mathlib.Core.Path.{_≡_, refl, sym, ap, ap₂, _∙_}
 use mathlib.Core.Bool.{Bool, true, false, not, cond, _&&_, and-false}
 use mathlib.Core.List.{List}
@@ -19,7 +20,8 @@ use Rattle.matching.specs.KeptRows.{keptRows, rowsTo12}
 use Rattle.matching.specs.inner.Matched.{matched, straightEnd, Ready, PreparedOf}
 use Rattle.matching.specs.declared.Prepared.{Prepared}
 use Rattle.matching.proofs.Choice.{cond-yes, cond-no}
-use Rattle.matching.proofs.Preparation.{lines-refused, prepared-ran, prepared-ready, prepared-rows, numbers-done, numbers-matched, occurrences-few}
+use Rattle.matching.proofs.Preparation.{lines-refused, prepared-ran, prepared-ready, prepared-rows, numbers-done}
+use Rattle.matching.proofs.Preparation.{numbers-matched, occurrences-few}
 use Rattle.search.specs.Candidates.{cleared}
 use Rattle.search.proofs.Clear.{cleared-is}
 use Rattle.answering.specs.Answer.{judgeStopped}
@@ -59,7 +61,8 @@ module _ (j : Job) where
   unfolding searched
   work-short work short =
       unsearched work
-      (ap (λ (t : Bool). t && (eqb (ran j .number) 0 && (eqb (kept .number) 0 && not straight))) (lt-leb 8192 (length work) short))
+      (ap (λ (t : Bool). t && (eqb (ran j .number) 0 && (eqb (kept .number) 0 && not straight)))
+      (lt-leb 8192 (length work) short))
 
   -- ---- a row to 12 that refuses
 
@@ -67,7 +70,8 @@ module _ (j : Job) where
     refuses : o .number ≡ 0 → ⊥
     refuses = eqb-false (o .number) 0 (sym test ∙ not-true t off)
 
-    pub judged-refused : (room : ℕ) (r : Judged) → 8192 ≤ room → r ≡ judgeStopped (o .number) (o .second) → r ≡ judged j room
+    pub judged-refused : (room : ℕ) (r : Judged) → 8192 ≤ room → r ≡ judgeStopped (o .number) (o .second)
+        → r ≡ judged j room
     unfolding judged rowsTo12
     judged-refused room r long stops = stops ∙ go (eqb (ran j .number) 0) is ∙ cond-yes _ _ refl (le-leb 8192 room long)
       where
@@ -85,7 +89,8 @@ module _ (j : Job) where
     unfolding searched rowsTo12
     work-refused work =
         unsearched work
-        (ap (λ (t : Bool). leb 8192 (length work) && t) (go (eqb (ran j .number) 0) is) ∙ and-false (leb 8192 (length work)))
+        (ap (λ (t : Bool). leb 8192 (length work) && t) (go (eqb (ran j .number) 0) is)
+        ∙ and-false (leb 8192 (length work)))
       where
         go :
             (t : Bool)
@@ -97,11 +102,13 @@ module _ (j : Job) where
         go false e = refl
 
   -- a line that is refused
-  module _ (o : Outcome) (is : o ≡ first (lineRows j)) (t : Bool) (test : t ≡ eqb (o .number) 0) (off : not t ≡ true) where
+  module _ (o : Outcome) (is : o ≡ first (lineRows j)) (t : Bool) (test : t ≡ eqb (o .number) 0)
+      (off : not t ≡ true) where
     to-12 : o ≡ rowsTo12 j
     to-12 = lines-refused j o is (sym test ∙ not-true t off)
 
-    pub judged-line : (room : ℕ) (r : Judged) → 8192 ≤ room → r ≡ judgeStopped (o .number) (o .second) → r ≡ judged j room
+    pub judged-line : (room : ℕ) (r : Judged) → 8192 ≤ room → r ≡ judgeStopped (o .number) (o .second)
+        → r ≡ judged j room
     judged-line = judged-refused o to-12 t test off
 
     pub work-line : (work : List ℕ) → work ≡ workAfter j work
@@ -148,7 +155,8 @@ module _ (j : Job) where
     }
 
     pub prepared-passing :
-        (stop : ℕ) → stop ≡ 4 * length (j .done) → Passing p (stepsIn (take stop occurrences)) (stepsIn (take stop matches))
+        (stop : ℕ) → stop ≡ 4 * length (j .done) → Passing p (stepsIn (take stop occurrences))
+        (stepsIn (take stop matches))
     prepared-passing stop stops = rw stops passing
 
     pub judged-prepared : (room : ℕ) (r : Judged) → 8192 ≤ room → AnswersRows p lent lentMatches r → r ≡ judged j room
@@ -173,7 +181,8 @@ module _ (j : Job) where
     unfolding workAfter
     work-prepared work after long works =
         works passing
-        ∙ ap₂ (λ (m : ℕ) (x : List Step). cond (runsStraight m (j .new) x) work (cleared 8192 work)) (ready .start-is) lent-is
+        ∙ ap₂ (λ (m : ℕ) (x : List Step). cond (runsStraight m (j .new) x) work (cleared 8192 work)) (ready .start-is)
+        lent-is
         ∙ turned straight
         ∙ ap₂ (λ (t : Bool) (x : List ℕ). cond t x work) (sym (searched-is (length work) long)) (cleared-is 8192 work)
       where

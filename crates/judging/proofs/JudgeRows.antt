@@ -50,8 +50,10 @@ straight-list from new l len order marking p q r =
       len =
           p i;
       order = q i;
-      marking = record
-          { tokens = (r ∙ ap (λ (x : List Step). Option·getD (fireAll new from x) 0) (sym (map-getD-inTurn blank l))) i };
+      marking = record {
+        tokens = (r ∙ ap (λ (x : List Step). Option·getD (fireAll new from x) 0) (sym (map-getD-inTurn blank l)))
+            i;
+      };
     }
 
 -- ---- where the straight list ends
@@ -68,7 +70,8 @@ module _ (from : ℕ) (new l : List Step) (f : End) (is : f ≡ straightEnd from
           (t : Bool)
           → At m ≡ cond t (At (record { tokens = Option·getD (fireAll new from l) 0 })) Stuck
           → (t ≡ true) × (m .tokens ≡ Option·getD (fireAll new from l) 0)
-      go true h = let same : m ≡ record { tokens = Option·getD (fireAll new from l) 0 } = cc in (refl, ap (λ (x : Marking). x .tokens) same)
+      go true h = let same : m ≡ record { tokens = Option·getD (fireAll new from l) 0 } =
+          cc in (refl, ap (λ (x : Marking). x .tokens) same)
       go false h = (cc, cc)
 
   straight-stuck : f ≡ Stuck → runsStraight from new l ≡ false
@@ -102,7 +105,10 @@ module _ (line from : ℕ) (new l : List Step) where
     unfolding judgeRows
     rows-pass =
         ap
-        (λ (t : Bool). cond t (cond (runsStraight from new l) (answer from new l (below (length l)) (inTurn 0 (length l))) (judgeFound line from new l (firstFit from new l))) (judgeStopped (keptRows line from new l .number) (keptRows line from new l .second)))
+        (λ (t : Bool). cond t (cond (runsStraight from new l)
+        (answer from new l (below (length l)) (inTurn 0 (length l)))
+        (judgeFound line from new l (firstFit from new l)))
+        (judgeStopped (keptRows line from new l .number) (keptRows line from new l .second)))
         (sym (eq-eqb (keptRows line from new l .number) 0 passes))
 
     pub rows-straight :
@@ -110,7 +116,8 @@ module _ (line from : ℕ) (new l : List Step) where
         → answer from new l (below (length l)) (inTurn 0 (length l)) ≡ judgeRows line from new l
     rows-straight e =
         ap
-        (λ (t : Bool). cond t (answer from new l (below (length l)) (inTurn 0 (length l))) (judgeFound line from new l (firstFit from new l)))
+        (λ (t : Bool). cond t (answer from new l (below (length l)) (inTurn 0 (length l)))
+        (judgeFound line from new l (firstFit from new l)))
         (sym e)
         ∙ rows-pass
 
@@ -119,7 +126,8 @@ module _ (line from : ℕ) (new l : List Step) where
         → judgeFound line from new l (firstFit from new l) ≡ judgeRows line from new l
     rows-search e =
         ap
-        (λ (t : Bool). cond t (answer from new l (below (length l)) (inTurn 0 (length l))) (judgeFound line from new l (firstFit from new l)))
+        (λ (t : Bool). cond t (answer from new l (below (length l)) (inTurn 0 (length l)))
+        (judgeFound line from new l (firstFit from new l)))
         (sym e)
         ∙ rows-pass
 
@@ -129,7 +137,8 @@ module _ {p : Prepared} {l t : List Step} (k : Passing p l t) where
   pub passing-straight :
       (m : Marking)
       → p .straight ≡ At m
-      → (runsStraight (p .start .tokens) (k .new) l ≡ true) × (m .tokens ≡ Option·getD (fireAll (k .new) (p .start .tokens) l) 0)
+      → (runsStraight (p .start .tokens) (k .new) l ≡ true)
+      × (m .tokens ≡ Option·getD (fireAll (k .new) (p .start .tokens) l) 0)
   passing-straight = straight-at (p .start .tokens) (k .new) l (p .straight) (k .straight-is)
 
   pub passing-stuck : p .straight ≡ Stuck → runsStraight (p .start .tokens) (k .new) l ≡ false

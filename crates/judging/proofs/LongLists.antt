@@ -1,4 +1,5 @@
--- Where the lines are refused judge answers that refusal, whatever else the job holds; so steps past the 65th of a list change nothing.
+-- Where the lines are refused judge answers that refusal, whatever else the job holds; so steps past the 65th of a list
+-- change nothing.
 use mathlib.Core.Path.{_≡_, sym, ap, _∙_}
 use mathlib.Core.Bool.{false, cond, and-false}
 use mathlib.Core.List.{List}
@@ -45,11 +46,13 @@ module _ (j k : Job) (r : Refused j k) where
 module _ (old new : Route) (done : List ℕ) (n : ℕ) (a : List ℕ) (m : ℕ) (b : List ℕ)
     (p : Laid (stepsOf old) n a) (q : Laid (stepsOf new) m b) where
   pub judged-laid :
-      (room : ℕ) (r : Judged) → r ≡ judged (laidJob old new done n a m b p q) room → r ≡ judged (jobOf old new done) room
+      (room : ℕ) (r : Judged) → r ≡ judged (laidJob old new done n a m b p q) room
+      → r ≡ judged (jobOf old new done) room
   judged-laid room r e =
       e ∙ same-laid old new done n a m b p q (λ (j : Job). judged j room) (λ j k x. judged-alike j k x room)
 
   pub work-laid :
-      (work w : List ℕ) → w ≡ workAfter (laidJob old new done n a m b p q) work → w ≡ workAfter (jobOf old new done) work
+      (work w : List ℕ) → w ≡ workAfter (laidJob old new done n a m b p q) work
+      → w ≡ workAfter (jobOf old new done) work
   work-laid work w e =
       e ∙ same-laid old new done n a m b p q (λ (j : Job). workAfter j work) (λ j k x. work-alike j k x work)

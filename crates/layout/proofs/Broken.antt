@@ -15,7 +15,8 @@ use Rattle.layout.specs.Parse.{Line, Parsed, noLine, noLines, took, keep
 use Rattle.layout.specs.Begins.{Begins, FirstBroken}
 use Rattle.layout.specs.declared.Part.the-variants.{OldRoute, NewRoute, JobPart}
 use Rattle.layout.specs.declared.Point.{Point}
-use Rattle.layout.specs.declared.Point.the-variants.{Start, Open, Choice, Letters, Past, Digit, Digits, Gap, Closed, Lf, Stuck}
+use Rattle.layout.specs.declared.Point.the-variants.{Start, Open, Choice, Letters, Past, Digit, Digits, Gap}
+use Rattle.layout.specs.declared.Point.the-variants.{Closed, Lf, Stuck}
 use Rattle.layout.proofs.Complete.{complete}
 use Rattle.layout.proofs.Sound.{sound, not-read}
 use Rattle.layout.proofs.Ends.{good, stays-good, ends}
@@ -48,13 +49,26 @@ module _ (v : Version) (limits : Limits v) where
   no-more (Lf w p) t r e = cc
   no-more Stuck t r e = cc
 
-  stops : (s : List ℕ) (p : Point) (c : Line) (t : Lines) (r : List ℕ) → good p ≡ true → run v p c t s ≡ Parsed.broken r → Stops p c t s r
+  stops : (s : List ℕ) (p : Point) (c : Line) (t : Lines) (r : List ℕ) → good p ≡ true → run v p c t s ≡ Parsed.broken r
+      → Stops p c t s r
   unfolding run
   stops [] p c t r g e =
-      record { before = []; split = sym (no-more p t r e); point = p; line = c; lines = t; on = λ q. refl; fine = g; stuck = λ b k z. cc (no-more p t r e) }
+      record {
+        before = [];
+        split = sym (no-more p t r e);
+        point = p;
+        line = c;
+        lines = t;
+        on = λ q. refl;
+        fine = g;
+        stuck = λ b k z. cc (no-more p t r e);
+      }
   stops (b ∷ s) p c t r g e = go (alive (next v p b)) refl e (stops s (next v p b) (took p b c) (keep p c t) r)
     where
-      go : (x : Bool) → alive (next v p b) ≡ x → cond x (run v (next v p b) (took p b c) (keep p c t) s) (Parsed.broken (b ∷ s)) ≡ Parsed.broken r → (good (next v p b) ≡ true → run v (next v p b) (took p b c) (keep p c t) s ≡ Parsed.broken r → Stops (next v p b) (took p b c) (keep p c t) s r) → Stops p c t (b ∷ s) r
+      go : (x : Bool) → alive (next v p b) ≡ x → cond x (run v (next v p b) (took p b c) (keep p c t) s)
+          (Parsed.broken (b ∷ s)) ≡ Parsed.broken r
+          → (good (next v p b) ≡ true → run v (next v p b) (took p b c) (keep p c t) s ≡ Parsed.broken r
+          → Stops (next v p b) (took p b c) (keep p c t) s r) → Stops p c t (b ∷ s) r
       go true l q ih =
           let on = ih (stays-good v p b g l) q in
           record {
@@ -63,13 +77,23 @@ module _ (v : Version) (limits : Limits v) where
             point = on .point;
             line = on .line;
             lines = on .lines;
-            on = λ k. ap (λ (x : Bool). cond x (run v (next v p b) (took p b c) (keep p c t) (on .before ++ k)) (Parsed.broken (b ∷ (on .before ++ k)))) l ∙ on .on k;
+            on = λ k. ap (λ (x : Bool). cond x (run v (next v p b) (took p b c) (keep p c t) (on .before ++ k))
+                (Parsed.broken (b ∷ (on .before ++ k)))) l ∙ on .on k;
             fine = on .fine;
             stuck = on .stuck;
           }
       go false l q ih =
           let same : b ∷ s ≡ r = cc in
-          record { before = []; split = same; point = p; line = c; lines = t; on = λ k. refl; fine = g; stuck = λ a k z. let e : b ≡ a = cc in subst (λ (x : ℕ). alive (next v p x) ≡ false) e l }
+          record {
+            before = [];
+            split = same;
+            point = p;
+            line = c;
+            lines = t;
+            on = λ k. refl;
+            fine = g;
+            stuck = λ a k z. let e : b ≡ a = cc in subst (λ (x : ℕ). alive (next v p x) ≡ false) e l;
+          }
 
   -- the bytes before the stop begin a sheet: the point's own ending makes one
   begins-before : (s r : List ℕ) (on : Stops Start noLine noLines s r) → Begins v (on .before)
@@ -80,14 +104,19 @@ module _ (v : Version) (limits : Limits v) where
       record { rest = end .ending; sheet = record { lines = end .lines; short = made .short; same = made .same } }
 
   -- no sheet goes on with the byte behind the stop: reading its text would stop there too
-  no-longer : (s r : List ℕ) (on : Stops Start noLine noLines s r) (b : ℕ) (k : List ℕ) → r ≡ b ∷ k → Begins v (on .before ++ (b ∷ [])) → ⊥
+  no-longer : (s r : List ℕ) (on : Stops Start noLine noLines s r) (b : ℕ) (k : List ℕ) → r ≡ b ∷ k
+      → Begins v (on .before ++ (b ∷ [])) → ⊥
   unfolding parse run
   no-longer s r on b k e begun =
       let sheet = begun .sheet in
-      let bytes : on .before ++ (b ∷ begun .rest) ≡ text (sheet .lines) = sym (append-assoc (on .before) (b ∷ []) (begun .rest)) ∙ sheet .same in
+      let bytes : on .before ++ (b ∷ begun .rest) ≡ text (sheet .lines) =
+      sym (append-assoc (on .before) (b ∷ []) (begun .rest)) ∙ sheet .same in
       let halt : run v (on .point) (on .line) (on .lines) (b ∷ begun .rest) ≡ Parsed.broken (b ∷ begun .rest) =
-      ap (λ (x : Bool). cond x (run v (next v (on .point) b) (took (on .point) b (on .line)) (keep (on .point) (on .line) (on .lines)) (begun .rest)) (Parsed.broken (b ∷ begun .rest))) (on .stuck b k e) in
-      not-read (b ∷ begun .rest) (sheet .lines) (sym halt ∙ sym (on .on (b ∷ begun .rest)) ∙ ap (parse v) bytes ∙ complete v limits (sheet .lines) (sheet .short))
+      ap (λ (x : Bool). cond x (run v (next v (on .point) b) (took (on .point) b (on .line))
+      (keep (on .point) (on .line) (on .lines)) (begun .rest)) (Parsed.broken (b ∷ begun .rest))) (on .stuck b k e)
+      in
+      not-read (b ∷ begun .rest) (sheet .lines) (sym halt ∙ sym (on .on (b ∷ begun .rest)) ∙ ap (parse v) bytes
+      ∙ complete v limits (sheet .lines) (sheet .short))
 
   -- the offset is the first byte where no sheet begins so, or the length
   pub first-broken : (s r : List ℕ) → parse v s ≡ Parsed.broken r → FirstBroken v s (length s - length r)
@@ -98,14 +127,21 @@ module _ (v : Version) (limits : Limits v) where
       go on =
           record {
             within = omega arith;
-            begins = subst (Begins v) (sym (ap (λ (l : List ℕ). take (length s - length r) l) (on .split) ∙ take-at (on .before) r (length s - length r) size)) (begins-before s r on);
+            begins = subst (Begins v) (sym (ap (λ (l : List ℕ). take (length s - length r) l) (on .split)
+                ∙ take-at (on .before) r (length s - length r) size)) (begins-before s r on);
             no-longer = longer r refl;
-            no-sheet = λ sheet. not-read r (sheet .lines) (sym e ∙ ap (parse v) (sheet .same) ∙ complete v limits (sheet .lines) (sheet .short));
+            no-sheet = λ sheet. not-read r (sheet .lines)
+                (sym e ∙ ap (parse v) (sheet .same) ∙ complete v limits (sheet .lines) (sheet .short));
           }
         where
           size : length (on .before) ≡ length s - length r
           size = omega (arith, ap length (on .split) ∙ length-append (on .before) r)
 
-          longer : (k : List ℕ) → r ≡ k → length s - length r < length s → Begins v (take (suc (length s - length r)) s) → ⊥
+          longer : (k : List ℕ) → r ≡ k → length s - length r < length s → Begins v (take (suc (length s - length r)) s)
+              → ⊥
           longer [] z room h = absurd (omega (arith, ap length z))
-          longer (b ∷ k) z room h = no-longer s r on b k z (subst (Begins v) (ap (λ (l : List ℕ). take (suc (length s - length r)) l) (on .split ∙ ap (λ (l : List ℕ). on .before ++ l) z ∙ sym (append-assoc (on .before) (b ∷ []) k)) ∙ take-at (on .before ++ (b ∷ [])) k (suc (length s - length r)) (length-append (on .before) (b ∷ []) ∙ omega (arith, size))) h)
+          longer (b ∷ k) z room h = no-longer s r on b k z
+              (subst (Begins v) (ap (λ (l : List ℕ). take (suc (length s - length r)) l)
+              (on .split ∙ ap (λ (l : List ℕ). on .before ++ l) z ∙ sym (append-assoc (on .before) (b ∷ []) k))
+              ∙ take-at (on .before ++ (b ∷ [])) k (suc (length s - length r))
+              (length-append (on .before) (b ∷ []) ∙ omega (arith, size))) h)

@@ -11,14 +11,16 @@ use borrow.Author.Tests.{eqb-false, eq-eqb, ne-eqb, ltb-true, lt-ltb}
 use Rattle.version.specs.declared.Version.{Version}
 use Rattle.layout.specs.Words.{spelling}
 use Rattle.layout.specs.Text.{Lines}
-use Rattle.layout.specs.Points.{digit, alive, expect, chosen, spelt, inList, pastWord, first, ended, more, closed, next}
+use Rattle.layout.specs.Points.{digit, alive, expect, chosen, spelt, inList, pastWord, first, ended, more, closed}
+use Rattle.layout.specs.Points.{next}
 use Rattle.layout.specs.Parse.{Line, Parsed, took, putLine, keep, atEnd, run}
 use Rattle.layout.specs.declared.Word.{Word}
 use Rattle.layout.specs.declared.Word.the-variants.{Old, New, Job, Done, Step, In, Out, Read, Write}
 use Rattle.layout.specs.declared.Part.{Part}
 use Rattle.layout.specs.declared.Part.the-variants.{OldRoute, NewRoute, JobPart}
 use Rattle.layout.specs.declared.Point.{Point}
-use Rattle.layout.specs.declared.Point.the-variants.{Start, Open, Choice, Letters, Past, Digit, Digits, Gap, Closed, Lf, Stuck}
+use Rattle.layout.specs.declared.Point.the-variants.{Start, Open, Choice, Letters, Past, Digit, Digits, Gap}
+use Rattle.layout.specs.declared.Point.the-variants.{Closed, Lf, Stuck}
 use Rattle.layout.proofs.Numbers.{run-on}
 use Rattle.layout.proofs.PrefixStep.{never, apart, expected, either}
 
@@ -75,9 +77,11 @@ word-some Out = refl
 word-some Read = refl
 word-some Write = refl
 
-list-good : (w : Word) (p : Part) (b : ℕ) → numbered w ≡ true → isList w ≡ true → alive (inList w p b) ≡ true → good (inList w p b) ≡ true
+list-good : (w : Word) (p : Part) (b : ℕ) → numbered w ≡ true → isList w ≡ true → alive (inList w p b) ≡ true
+    → good (inList w p b) ≡ true
 unfolding inList good
-list-good w p b n l = either Good b 32 (Digit w p) (expect b 41 (Closed w p)) n (λ far. expected Good b 41 (Closed w p) l)
+list-good w p b n l = either Good b 32 (Digit w p) (expect b 41 (Closed w p)) n
+    (λ far. expected Good b 41 (Closed w p) l)
 
 past-good : (w : Word) (p : Part) (b : ℕ) → alive (pastWord w p b) ≡ true → good (pastWord w p b) ≡ true
 unfolding pastWord good numbered isList
@@ -117,8 +121,10 @@ closed-good Write p b = expected Good b 41 (Lf Write p) refl
 
 chosen-good : (p : Part) (b : ℕ) → alive (chosen p b) ≡ true → good (chosen p b) ≡ true
 unfolding chosen good spelling
-chosen-good OldRoute b = either Good b 115 (Letters Step OldRoute 1) (expect b 110 (Letters New NewRoute 1)) refl (λ far. expected Good b 110 (Letters New NewRoute 1) refl)
-chosen-good NewRoute b = either Good b 115 (Letters Step NewRoute 1) (expect b 106 (Letters Job JobPart 1)) refl (λ far. expected Good b 106 (Letters Job JobPart 1) refl)
+chosen-good OldRoute b = either Good b 115 (Letters Step OldRoute 1) (expect b 110 (Letters New NewRoute 1)) refl
+    (λ far. expected Good b 110 (Letters New NewRoute 1) refl)
+chosen-good NewRoute b = either Good b 115 (Letters Step NewRoute 1) (expect b 106 (Letters Job JobPart 1)) refl
+    (λ far. expected Good b 106 (Letters Job JobPart 1) refl)
 chosen-good JobPart b = expected Good b 100 (Letters Done JobPart 1) refl
 
 spelt-good : (w : Word) (p : Part) (k b : ℕ) → alive (spelt w p k b) ≡ true → good (spelt w p k b) ≡ true
@@ -134,24 +140,32 @@ spelt-good w p k b = inside (ltb k (length (spelling w))) refl
         let far : (k + 1 ≡ length (spelling w)) → ⊥ = eqb-false (k + 1) (length (spelling w)) e in
         lt-ltb (k + 1) (length (spelling w)) (omega arith)
 
-    inside : (x : Bool) → ltb k (length (spelling w)) ≡ x → alive (cond x (expect b (getD (spelling w) k 0) (target (eqb (k + 1) (length (spelling w))))) Stuck) ≡ true → good (cond x (expect b (getD (spelling w) k 0) (target (eqb (k + 1) (length (spelling w))))) Stuck) ≡ true
-    inside true e l = expected Good b (getD (spelling w) k 0) (target (eqb (k + 1) (length (spelling w)))) (reached (eqb (k + 1) (length (spelling w))) refl (ltb-true k (length (spelling w)) e)) l
+    inside : (x : Bool) → ltb k (length (spelling w)) ≡ x
+        → alive (cond x (expect b (getD (spelling w) k 0) (target (eqb (k + 1) (length (spelling w))))) Stuck) ≡ true
+        → good (cond x (expect b (getD (spelling w) k 0) (target (eqb (k + 1) (length (spelling w))))) Stuck) ≡ true
+    inside true e l = expected Good b (getD (spelling w) k 0) (target (eqb (k + 1) (length (spelling w))))
+        (reached (eqb (k + 1) (length (spelling w))) refl (ltb-true k (length (spelling w)) e)) l
     inside false e l = absurd (never l)
 
 module _ (v : Version) where
-  first-good : (w : Word) (p : Part) (b : ℕ) → numbered w ≡ true → alive (first v w p b) ≡ true → good (first v w p b) ≡ true
+  first-good : (w : Word) (p : Part) (b : ℕ) → numbered w ≡ true → alive (first v w p b) ≡ true
+      → good (first v w p b) ≡ true
   unfolding first good
-  first-good w p b h = either Good b 48 (Digits w p 0) (cond (digit b) (Digits w p (v .digits - 1)) Stuck) h (λ far. go (digit b))
+  first-good w p b h = either Good b 48 (Digits w p 0) (cond (digit b) (Digits w p (v .digits - 1)) Stuck) h
+      (λ far. go (digit b))
     where
-      go : (x : Bool) → alive (cond x (Digits w p (v .digits - 1)) Stuck) ≡ true → good (cond x (Digits w p (v .digits - 1)) Stuck) ≡ true
+      go : (x : Bool) → alive (cond x (Digits w p (v .digits - 1)) Stuck) ≡ true
+          → good (cond x (Digits w p (v .digits - 1)) Stuck) ≡ true
       go true l = h
       go false l = absurd (never l)
 
-  more-good : (w : Word) (p : Part) (k b : ℕ) → numbered w ≡ true → alive (more w p k b) ≡ true → good (more w p k b) ≡ true
+  more-good : (w : Word) (p : Part) (k b : ℕ) → numbered w ≡ true → alive (more w p k b) ≡ true
+      → good (more w p k b) ≡ true
   unfolding more good
   more-good w p k b h = go (digit b) (ltb 0 k)
     where
-      go : (x y : Bool) → alive (cond x (cond y (Digits w p (k - 1)) Stuck) (ended w p b)) ≡ true → good (cond x (cond y (Digits w p (k - 1)) Stuck) (ended w p b)) ≡ true
+      go : (x y : Bool) → alive (cond x (cond y (Digits w p (k - 1)) Stuck) (ended w p b)) ≡ true
+          → good (cond x (cond y (Digits w p (k - 1)) Stuck) (ended w p b)) ≡ true
       go true true l = h
       go true false l = absurd (never l)
       go false true l = ended-good w p b l
@@ -178,18 +192,32 @@ module _ (v : Version) where
     pub lines : Lines
     pub reads : run v p c t ending ≡ Parsed.read lines
 
-  by-byte : (p q : Point) (b : ℕ) (c : Line) (t : Lines) → next v p b ≡ q → alive q ≡ true → Ends q (took p b c) (keep p c t) → Ends p c t
-  by-byte p q b c t e l on = record { ending = b ∷ on .ending; lines = on .lines; reads = run-on v p q b c t (on .ending) e l ∙ on .reads }
+  by-byte : (p q : Point) (b : ℕ) (c : Line) (t : Lines) → next v p b ≡ q → alive q ≡ true
+      → Ends q (took p b c) (keep p c t) → Ends p c t
+  by-byte p q b c t e l on = record {
+    ending = b ∷ on .ending;
+    lines = on .lines;
+    reads = run-on v p q b c t (on .ending) e l ∙ on .reads;
+  }
 
   ends-open : (p : Part) (c : Line) (t : Lines) → Ends (Open p) c t
   unfolding run next alive expect chosen spelt spelling pastWord first more ended digit took keep putLine atEnd
-  ends-open OldRoute c t = record { ending = 40 ∷ 110 ∷ 101 ∷ 119 ∷ 32 ∷ 48 ∷ 41 ∷ 10 ∷ 40 ∷ 106 ∷ 111 ∷ 98 ∷ 41 ∷ 10 ∷ []; lines = _; reads = refl }
+  ends-open OldRoute c t = record {
+    ending = 40 ∷ 110 ∷ 101 ∷ 119 ∷ 32 ∷ 48 ∷ 41 ∷ 10 ∷ 40 ∷ 106 ∷ 111 ∷ 98 ∷ 41 ∷ 10
+        ∷ [];
+    lines = _;
+    reads = refl;
+  }
   ends-open NewRoute c t = record { ending = 40 ∷ 106 ∷ 111 ∷ 98 ∷ 41 ∷ 10 ∷ []; lines = _; reads = refl }
   ends-open JobPart c t = record { ending = []; lines = _; reads = refl }
 
   ends-choice : (p : Part) (c : Line) (t : Lines) → Ends (Choice p) c t
   unfolding run next alive expect chosen spelt spelling pastWord first more ended digit took keep putLine atEnd
-  ends-choice OldRoute c t = record { ending = 110 ∷ 101 ∷ 119 ∷ 32 ∷ 48 ∷ 41 ∷ 10 ∷ 40 ∷ 106 ∷ 111 ∷ 98 ∷ 41 ∷ 10 ∷ []; lines = _; reads = refl }
+  ends-choice OldRoute c t = record {
+    ending = 110 ∷ 101 ∷ 119 ∷ 32 ∷ 48 ∷ 41 ∷ 10 ∷ 40 ∷ 106 ∷ 111 ∷ 98 ∷ 41 ∷ 10 ∷ [];
+    lines = _;
+    reads = refl;
+  }
   ends-choice NewRoute c t = record { ending = 106 ∷ 111 ∷ 98 ∷ 41 ∷ 10 ∷ []; lines = _; reads = refl }
   ends-choice JobPart c t = record { ending = 100 ∷ 111 ∷ 110 ∷ 101 ∷ 32 ∷ 48 ∷ 41 ∷ 10 ∷ []; lines = _; reads = refl }
 
@@ -198,28 +226,36 @@ module _ (v : Version) where
   ends-lf w p c t = by-byte (Lf w p) (Open p) 10 c t refl refl (ends-open p _ _)
 
   -- the letters of a word, from where it ends
-  ends-letters : (w : Word) (p : Part) → ((c : Line) (t : Lines) → Ends (Past w p) c t) → (n k : ℕ) → k + n ≡ length (spelling w) → 1 ≤ n → (c : Line) (t : Lines) → Ends (Letters w p k) c t
+  ends-letters : (w : Word) (p : Part) → ((c : Line) (t : Lines) → Ends (Past w p) c t) → (n k : ℕ)
+      → k + n ≡ length (spelling w) → 1 ≤ n → (c : Line) (t : Lines) → Ends (Letters w p k) c t
   unfolding next spelt took keep
   ends-letters w p past zero k e l c t = absurd (omega arith)
   ends-letters w p past (suc zero) k e l c t =
       by-byte (Letters w p k) (Past w p) (getD (spelling w) k 0) c t
-      (rw (lt-ltb k (length (spelling w)) (omega arith)) (unfold expect in rw (eq-eqb (getD (spelling w) k 0) (getD (spelling w) k 0) refl) (rw (eq-eqb (k + 1) (length (spelling w)) e))))
+      (rw (lt-ltb k (length (spelling w)) (omega arith))
+      (unfold expect in rw (eq-eqb (getD (spelling w) k 0) (getD (spelling w) k 0) refl)
+      (rw (eq-eqb (k + 1) (length (spelling w)) e))))
       (unfold alive in refl)
       (past c t)
   ends-letters w p past (suc (suc n)) k e l c t =
       by-byte (Letters w p k) (Letters w p (k + 1)) (getD (spelling w) k 0) c t
-      (rw (lt-ltb k (length (spelling w)) (omega arith)) (unfold expect in rw (eq-eqb (getD (spelling w) k 0) (getD (spelling w) k 0) refl) (rw (ne-eqb (k + 1) (length (spelling w)) (omega arith)))))
+      (rw (lt-ltb k (length (spelling w)) (omega arith))
+      (unfold expect in rw (eq-eqb (getD (spelling w) k 0) (getD (spelling w) k 0) refl)
+      (rw (ne-eqb (k + 1) (length (spelling w)) (omega arith)))))
       (unfold alive in refl)
       (ends-letters w p past (suc n) (k + 1) (omega arith) (omega arith) c t)
 
   -- past a list's word, from past its closing bracket
-  ends-list : (w : Word) (p : Part) → ((c : Line) (t : Lines) → Ends (Closed w p) c t) → (c : Line) (t : Lines) → pastWord w p 41 ≡ Closed w p → Ends (Past w p) c t
+  ends-list : (w : Word) (p : Part) → ((c : Line) (t : Lines) → Ends (Closed w p) c t) → (c : Line) (t : Lines)
+      → pastWord w p 41 ≡ Closed w p → Ends (Past w p) c t
   unfolding next alive took keep
   ends-list w p closing c t e = by-byte (Past w p) (Closed w p) 41 c t e refl (closing c t)
 
-  ends-gap : (w : Word) (p : Part) → ((c : Line) (t : Lines) → Ends (Past w p) c t) → (c : Line) (t : Lines) → Ends (Gap w p) c t
+  ends-gap : (w : Word) (p : Part) → ((c : Line) (t : Lines) → Ends (Past w p) c t) → (c : Line) (t : Lines)
+      → Ends (Gap w p) c t
   unfolding next expect alive took keep
-  ends-gap w p past c t = by-byte (Gap w p) (Letters w p 0) 40 c t refl refl (ends-letters w p past (length (spelling w)) 0 (omega arith) (ltb-true 0 (length (spelling w)) (word-some w)) c t)
+  ends-gap w p past c t = by-byte (Gap w p) (Letters w p 0) 40 c t refl refl
+      (ends-letters w p past (length (spelling w)) 0 (omega arith) (ltb-true 0 (length (spelling w)) (word-some w)) c t)
 
   module _ (p : Part) where
     closed-write : (c : Line) (t : Lines) → Ends (Closed Write p) c t
@@ -280,10 +316,14 @@ module _ (v : Version) where
 
     ends-past : (w : Word) (c : Line) (t : Lines) → Ends (Past w p) c t
     unfolding next pastWord expect alive keep
-    ends-past Old c t = by-byte (Past Old p) (Digit Old p) 32 c t refl refl (ends-digit Old _ t (unfold numbered in refl))
-    ends-past New c t = by-byte (Past New p) (Digit New p) 32 c t refl refl (ends-digit New _ t (unfold numbered in refl))
-    ends-past Done c t = by-byte (Past Done p) (Digit Done p) 32 c t refl refl (ends-digit Done _ t (unfold numbered in refl))
-    ends-past Step c t = by-byte (Past Step p) (Digit Step p) 32 c t refl refl (ends-digit Step _ t (unfold numbered in refl))
+    ends-past Old c t = by-byte (Past Old p) (Digit Old p) 32 c t refl refl
+        (ends-digit Old _ t (unfold numbered in refl))
+    ends-past New c t = by-byte (Past New p) (Digit New p) 32 c t refl refl
+        (ends-digit New _ t (unfold numbered in refl))
+    ends-past Done c t = by-byte (Past Done p) (Digit Done p) 32 c t refl refl
+        (ends-digit Done _ t (unfold numbered in refl))
+    ends-past Step c t = by-byte (Past Step p) (Digit Step p) 32 c t refl refl
+        (ends-digit Step _ t (unfold numbered in refl))
     ends-past Job c t = by-byte (Past Job p) (Lf Job p) 41 c t refl refl (ends-lf Job p _ t)
     ends-past In c t = past-in c t
     ends-past Out c t = past-out c t
@@ -293,10 +333,14 @@ module _ (v : Version) where
   -- every point that reading reaches
   pub ends : (p : Point) (c : Line) (t : Lines) → good p ≡ true → Ends p c t
   unfolding good
-  ends Start c t h = by-byte Start (Letters Old OldRoute 0) 40 c t (unfold next expect in refl) (unfold alive in refl) (ends-letters Old OldRoute (ends-past OldRoute Old) (length (spelling Old)) 0 (omega arith) (ltb-true 0 (length (spelling Old)) (word-some Old)) _ _)
+  ends Start c t h = by-byte Start (Letters Old OldRoute 0) 40 c t (unfold next expect in refl) (unfold alive in refl)
+      (ends-letters Old OldRoute (ends-past OldRoute Old) (length (spelling Old)) 0 (omega arith)
+      (ltb-true 0 (length (spelling Old)) (word-some Old)) _ _)
   ends (Open p) c t h = ends-open p c t
   ends (Choice p) c t h = ends-choice p c t
-  ends (Letters w p k) c t h = let room : k < length (spelling w) = ltb-true k (length (spelling w)) h in ends-letters w p (ends-past p w) (length (spelling w) - k) k (omega arith) (omega arith) c t
+  ends (Letters w p k) c t h = let room : k < length (spelling w) =
+      ltb-true k (length (spelling w)) h in ends-letters w p (ends-past p w) (length (spelling w) - k) k (omega arith)
+      (omega arith) c t
   ends (Past w p) c t h = ends-past p w c t
   ends (Digit w p) c t h = ends-digit p w c t h
   ends (Digits w p k) c t h = ends-digits p w k c t h

@@ -45,15 +45,24 @@ each-of-five P a b c d e (suc (suc (suc (suc (suc k))))) h = absurd (omega arith
 -- row by row: the table's bytes are the words' letters
 pub letter-at : (w : Word) (k : ℕ) → k < 5 → getD wordTable (numberOf w * 6 + 1 + k) 0 ≡ getD (spelling w) k 0
 unfolding spelling numberOf
-letter-at Old = each-of-five (λ k. getD wordTable (numberOf Old * 6 + 1 + k) 0 ≡ getD (spelling Old) k 0) refl refl refl refl refl
-letter-at New = each-of-five (λ k. getD wordTable (numberOf New * 6 + 1 + k) 0 ≡ getD (spelling New) k 0) refl refl refl refl refl
-letter-at Job = each-of-five (λ k. getD wordTable (numberOf Job * 6 + 1 + k) 0 ≡ getD (spelling Job) k 0) refl refl refl refl refl
-letter-at Done = each-of-five (λ k. getD wordTable (numberOf Done * 6 + 1 + k) 0 ≡ getD (spelling Done) k 0) refl refl refl refl refl
-letter-at Step = each-of-five (λ k. getD wordTable (numberOf Step * 6 + 1 + k) 0 ≡ getD (spelling Step) k 0) refl refl refl refl refl
-letter-at In = each-of-five (λ k. getD wordTable (numberOf In * 6 + 1 + k) 0 ≡ getD (spelling In) k 0) refl refl refl refl refl
-letter-at Out = each-of-five (λ k. getD wordTable (numberOf Out * 6 + 1 + k) 0 ≡ getD (spelling Out) k 0) refl refl refl refl refl
-letter-at Read = each-of-five (λ k. getD wordTable (numberOf Read * 6 + 1 + k) 0 ≡ getD (spelling Read) k 0) refl refl refl refl refl
-letter-at Write = each-of-five (λ k. getD wordTable (numberOf Write * 6 + 1 + k) 0 ≡ getD (spelling Write) k 0) refl refl refl refl refl
+letter-at Old = each-of-five (λ k. getD wordTable (numberOf Old * 6 + 1 + k) 0 ≡ getD (spelling Old) k 0) refl refl refl
+    refl refl
+letter-at New = each-of-five (λ k. getD wordTable (numberOf New * 6 + 1 + k) 0 ≡ getD (spelling New) k 0) refl refl refl
+    refl refl
+letter-at Job = each-of-five (λ k. getD wordTable (numberOf Job * 6 + 1 + k) 0 ≡ getD (spelling Job) k 0) refl refl refl
+    refl refl
+letter-at Done = each-of-five (λ k. getD wordTable (numberOf Done * 6 + 1 + k) 0 ≡ getD (spelling Done) k 0) refl refl
+    refl refl refl
+letter-at Step = each-of-five (λ k. getD wordTable (numberOf Step * 6 + 1 + k) 0 ≡ getD (spelling Step) k 0) refl refl
+    refl refl refl
+letter-at In = each-of-five (λ k. getD wordTable (numberOf In * 6 + 1 + k) 0 ≡ getD (spelling In) k 0) refl refl refl
+    refl refl
+letter-at Out = each-of-five (λ k. getD wordTable (numberOf Out * 6 + 1 + k) 0 ≡ getD (spelling Out) k 0) refl refl refl
+    refl refl
+letter-at Read = each-of-five (λ k. getD wordTable (numberOf Read * 6 + 1 + k) 0 ≡ getD (spelling Read) k 0) refl refl
+    refl refl refl
+letter-at Write = each-of-five (λ k. getD wordTable (numberOf Write * 6 + 1 + k) 0 ≡ getD (spelling Write) k 0) refl
+    refl refl refl refl
 
 pub length-at : (w : Word) → getD wordTable (numberOf w * 6) 0 ≡ length (spelling w)
 unfolding spelling numberOf

@@ -15,7 +15,8 @@ use Rattle.layout.specs.declared.Word.the-variants.{Old, New, Job, Done,
 use Rattle.layout.specs.declared.Part.{Part}
 use Rattle.layout.specs.declared.Part.the-variants.{OldRoute, NewRoute, JobPart}
 use Rattle.layout.specs.declared.Point.{Point}
-use Rattle.layout.specs.declared.Point.the-variants.{Start, Open, Choice, Letters, Past, Digit, Digits, Gap, Closed, Lf, Stuck}
+use Rattle.layout.specs.declared.Point.the-variants.{Start, Open, Choice, Letters, Past, Digit, Digits, Gap}
+use Rattle.layout.specs.declared.Point.the-variants.{Closed, Lf, Stuck}
 use Rattle.layout.proofs.Back.{entriesBack, stepsBack, donesBack}
 
 -- the line in hand without the number in hand
@@ -32,8 +33,10 @@ rest c = record { head = c .head; ins = c .ins; outs = c .outs; reads = c .reads
 -- the whole lines, up to the last one of a part
 unfoldable pub above : Part → Lines → List ℕ → List ℕ
 above OldRoute t s = wordLine Old (t .oldPlaces) (stepsBack (t .old) s)
-above NewRoute t s = wordLine Old (t .oldPlaces) (stepsBack (t .old) (wordLine New (t .newPlaces) (stepsBack (t .new) s)))
-above JobPart t s = wordLine Old (t .oldPlaces) (stepsBack (t .old) (wordLine New (t .newPlaces) (stepsBack (t .new) (jobLine (donesBack (t .done) s)))))
+above NewRoute t s = wordLine Old (t .oldPlaces) (stepsBack (t .old)
+    (wordLine New (t .newPlaces) (stepsBack (t .new) s)))
+above JobPart t s = wordLine Old (t .oldPlaces) (stepsBack (t .old)
+    (wordLine New (t .newPlaces) (stepsBack (t .new) (jobLine (donesBack (t .done) s)))))
 
 unfoldable pub gapIn : Part → Rest → Lines → List ℕ → List ℕ
 gapIn p c t s = above p t (40 ∷ (spelling Step ++ (32 ∷ number (c .head) (32 ∷ s))))
@@ -181,10 +184,12 @@ Shape v Stuck c = Unit {0}
 
 -- every number that has been put away is short
 abbrev pub ShortLine : Version → Rest → Type 0
-ShortLine v c = Short v (c .head) × (Shorts v (c .ins) × (Shorts v (c .outs) × (Shorts v (c .reads) × Shorts v (c .writes))))
+ShortLine v c = Short v (c .head) × (Shorts v (c .ins)
+    × (Shorts v (c .outs) × (Shorts v (c .reads) × Shorts v (c .writes))))
 
 -- one byte on, from p at b to q
-pub record Onward (v : Version) (p : Point) (b : ℕ) (c : Line) (t : Lines) (q : Point) (c′ : Line) (t′ : Lines) : Type 0 where
+pub record Onward (v : Version) (p : Point) (b : ℕ) (c : Line) (t : Lines) (q : Point) (c′ : Line) (t′ : Lines) : Type
+    0 where
   pub same : (s : List ℕ) → sofar q c′ t′ s ≡ sofar p c t (b ∷ s)
   pub shape : Shape v q c′
   pub line : ShortLine v (rest c′)

@@ -14,7 +14,8 @@ use Rattle.layout.specs.Parse.{Line, Parsed, noLine, noLines, took, keep
 use Rattle.layout.specs.declared.Word.the-variants.{Old, New}
 use Rattle.layout.specs.declared.Part.the-variants.{OldRoute, NewRoute, JobPart}
 use Rattle.layout.specs.declared.Point.{Point}
-use Rattle.layout.specs.declared.Point.the-variants.{Start, Open, Choice, Letters, Past, Digit, Digits, Gap, Closed, Lf, Stuck}
+use Rattle.layout.specs.declared.Point.the-variants.{Start, Open, Choice, Letters, Past, Digit, Digits, Gap}
+use Rattle.layout.specs.declared.Point.the-variants.{Closed, Lf, Stuck}
 use Rattle.layout.proofs.Back.{stepsBack, steps-back, dones-back, shorts-back, forms-back}
 use Rattle.layout.proofs.Prefix.{rest, above, sofar, Shape, ShortLine}
 use Rattle.layout.proofs.PrefixStep.{onward}
@@ -30,15 +31,28 @@ not-read r x e = let z : _≡_ {A = ℕ} 0 1 = cc in omega arith
 whole : (t : Lines) → above JobPart t [] ≡ text (inOrder t)
 unfolding above text jobText stepLines doneLines
 whole t =
-    ap (λ (y : List ℕ). wordLine Old (t .oldPlaces) (stepsBack (t .old) (wordLine New (t .newPlaces) (stepsBack (t .new) (jobLine y))))) (sym (dones-back (t .done) [] []))
-    ∙ ap (λ (y : List ℕ). wordLine Old (t .oldPlaces) (stepsBack (t .old) (wordLine New (t .newPlaces) y))) (sym (steps-back (t .new) [] (jobLine (doneLines (reverse (t .done)) []))))
-    ∙ ap (λ (y : List ℕ). wordLine Old (t .oldPlaces) y) (sym (steps-back (t .old) [] (wordLine New (t .newPlaces) (stepLines (reverse (t .new)) (jobLine (doneLines (reverse (t .done)) []))))))
+    ap (λ (y : List ℕ). wordLine Old (t .oldPlaces)
+    (stepsBack (t .old) (wordLine New (t .newPlaces) (stepsBack (t .new) (jobLine y)))))
+    (sym (dones-back (t .done) [] []))
+    ∙ ap (λ (y : List ℕ). wordLine Old (t .oldPlaces) (stepsBack (t .old) (wordLine New (t .newPlaces) y)))
+    (sym (steps-back (t .new) [] (jobLine (doneLines (reverse (t .done)) []))))
+    ∙ ap (λ (y : List ℕ). wordLine Old (t .oldPlaces) y)
+    (sym (steps-back (t .old) [] (wordLine New (t .newPlaces)
+    (stepLines (reverse (t .new)) (jobLine (doneLines (reverse (t .done)) []))))))
 
 module _ (v : Version) (limits : Limits v) where
   short-order : (t : Lines) → ShortLines v t → ShortLines v (inOrder t)
-  short-order t h = record { oldPlaces = h .oldPlaces; old = forms-back v (t .old) [] (h .old) tt; newPlaces = h .newPlaces; new = forms-back v (t .new) [] (h .new) tt; done = shorts-back v (t .done) [] (h .done) tt }
+  short-order t h = record {
+    oldPlaces = h .oldPlaces;
+    old = forms-back v (t .old) [] (h .old) tt;
+    newPlaces = h .newPlaces;
+    new = forms-back v (t .new) [] (h .new) tt;
+    done =
+        shorts-back v (t .done) [] (h .done) tt;
+  }
 
-  at-end : (p : Point) (c : Line) (t x : Lines) → ShortLines v t → atEnd p t ≡ Parsed.read x → Written v (sofar p c t []) x
+  at-end : (p : Point) (c : Line) (t x : Lines) → ShortLines v t → atEnd p t ≡ Parsed.read x
+      → Written v (sofar p c t []) x
   unfolding atEnd sofar
   at-end Start c t x h e = absurd (not-read [] x e)
   at-end (Open OldRoute) c t x h e = absurd (not-read [] x e)
@@ -56,12 +70,18 @@ module _ (v : Version) (limits : Limits v) where
   at-end (Lf w p) c t x h e = absurd (not-read [] x e)
   at-end Stuck c t x h e = absurd (not-read [] x e)
 
-  from-point : (s : List ℕ) (p : Point) (c : Line) (t x : Lines) → Shape v p c → ShortLine v (rest c) → ShortLines v t → run v p c t s ≡ Parsed.read x → Written v (sofar p c t s) x
+  from-point : (s : List ℕ) (p : Point) (c : Line) (t x : Lines) → Shape v p c → ShortLine v (rest c) → ShortLines v t
+      → run v p c t s ≡ Parsed.read x → Written v (sofar p c t s) x
   unfolding run
   from-point [] p c t x shape line lines e = at-end p c t x lines e
-  from-point (b ∷ s) p c t x shape line lines e = go (alive (next v p b)) refl e (from-point s (next v p b) (took p b c) (keep p c t) x)
+  from-point (b ∷ s) p c t x shape line lines e =
+      go (alive (next v p b)) refl e (from-point s (next v p b) (took p b c) (keep p c t) x)
     where
-      go : (y : Bool) → alive (next v p b) ≡ y → cond y (run v (next v p b) (took p b c) (keep p c t) s) (Parsed.broken (b ∷ s)) ≡ Parsed.read x → (Shape v (next v p b) (took p b c) → ShortLine v (rest (took p b c)) → ShortLines v (keep p c t) → run v (next v p b) (took p b c) (keep p c t) s ≡ Parsed.read x → Written v (sofar (next v p b) (took p b c) (keep p c t) s) x) → Written v (sofar p c t (b ∷ s)) x
+      go : (y : Bool) → alive (next v p b) ≡ y → cond y (run v (next v p b) (took p b c) (keep p c t) s)
+          (Parsed.broken (b ∷ s)) ≡ Parsed.read x
+          → (Shape v (next v p b) (took p b c) → ShortLine v (rest (took p b c)) → ShortLines v (keep p c t)
+          → run v (next v p b) (took p b c) (keep p c t) s ≡ Parsed.read x
+          → Written v (sofar (next v p b) (took p b c) (keep p c t) s) x) → Written v (sofar p c t (b ∷ s)) x
       go true l q ih =
           let on = onward v limits c t line lines p b shape l in
           let done = ih (on .shape) (on .line) (on .lines) q in
@@ -71,4 +91,11 @@ module _ (v : Version) (limits : Limits v) where
   -- what reading accepts is the text of the lines that it gives
   pub sound : (s : List ℕ) (x : Lines) → parse v s ≡ Parsed.read x → Written v s x
   unfolding parse sofar
-  sound s x e = from-point s Start noLine noLines x tt (low-short v limits 0 (omega arith), (tt, (tt, (tt, tt)))) (record { oldPlaces = low-short v limits 0 (omega arith); old = tt; newPlaces = low-short v limits 0 (omega arith); new = tt; done = tt }) e
+  sound s x e = from-point s Start noLine noLines x tt (low-short v limits 0 (omega arith), (tt, (tt, (tt, tt))))
+      (record {
+        oldPlaces = low-short v limits 0 (omega arith);
+        old = tt;
+        newPlaces = low-short v limits 0 (omega arith);
+        new = tt;
+        done = tt;
+      }) e

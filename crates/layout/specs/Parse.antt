@@ -10,7 +10,8 @@ use Rattle.layout.specs.declared.Word.the-variants.{Old, New, Job, Done,
 use Rattle.layout.specs.declared.Part.{Part}
 use Rattle.layout.specs.declared.Part.the-variants.{OldRoute, NewRoute, JobPart}
 use Rattle.layout.specs.declared.Point.{Point}
-use Rattle.layout.specs.declared.Point.the-variants.{Start, Open, Choice, Letters, Past, Digit, Digits, Gap, Closed, Lf, Stuck}
+use Rattle.layout.specs.declared.Point.the-variants.{Start, Open, Choice, Letters, Past, Digit, Digits, Gap}
+use Rattle.layout.specs.declared.Point.the-variants.{Closed, Lf, Stuck}
 
 -- what has been read of the line: the number in hand, the line's own number, the entries of its lists
 pub record Line : Type 0 where
@@ -33,15 +34,71 @@ grown n b = n * 10 + (b - 48)
 
 -- a number that has ended goes where the word says
 unfoldable pub stored : Word → Line → Line
-stored Old c = record { num = c .num; head = c .num; ins = c .ins; outs = c .outs; reads = c .reads; writes = c .writes }
-stored New c = record { num = c .num; head = c .num; ins = c .ins; outs = c .outs; reads = c .reads; writes = c .writes }
+stored Old c = record {
+  num = c .num;
+  head = c .num;
+  ins = c .ins;
+  outs = c .outs;
+  reads = c .reads;
+  writes = c .writes;
+}
+stored New c = record {
+  num = c .num;
+  head = c .num;
+  ins = c .ins;
+  outs = c .outs;
+  reads = c .reads;
+  writes = c .writes;
+}
 stored Job c = c
-stored Done c = record { num = c .num; head = c .num; ins = c .ins; outs = c .outs; reads = c .reads; writes = c .writes }
-stored Step c = record { num = c .num; head = c .num; ins = c .ins; outs = c .outs; reads = c .reads; writes = c .writes }
-stored In c = record { num = c .num; head = c .head; ins = c .num ∷ c .ins; outs = c .outs; reads = c .reads; writes = c .writes }
-stored Out c = record { num = c .num; head = c .head; ins = c .ins; outs = c .num ∷ c .outs; reads = c .reads; writes = c .writes }
-stored Read c = record { num = c .num; head = c .head; ins = c .ins; outs = c .outs; reads = c .num ∷ c .reads; writes = c .writes }
-stored Write c = record { num = c .num; head = c .head; ins = c .ins; outs = c .outs; reads = c .reads; writes = c .num ∷ c .writes }
+stored Done c = record {
+  num = c .num;
+  head = c .num;
+  ins = c .ins;
+  outs = c .outs;
+  reads = c .reads;
+  writes = c .writes;
+}
+stored Step c = record {
+  num = c .num;
+  head = c .num;
+  ins = c .ins;
+  outs = c .outs;
+  reads = c .reads;
+  writes = c .writes;
+}
+stored In c = record {
+  num = c .num;
+  head = c .head;
+  ins = c .num ∷ c .ins;
+  outs = c .outs;
+  reads = c .reads;
+  writes = c .writes;
+}
+stored Out c = record {
+  num = c .num;
+  head = c .head;
+  ins = c .ins;
+  outs = c .num ∷ c .outs;
+  reads = c .reads;
+  writes = c .writes;
+}
+stored Read c = record {
+  num = c .num;
+  head = c .head;
+  ins = c .ins;
+  outs = c .outs;
+  reads = c .num ∷ c .reads;
+  writes = c .writes;
+}
+stored Write c = record {
+  num = c .num;
+  head = c .head;
+  ins = c .ins;
+  outs = c .outs;
+  reads = c .reads;
+  writes = c .num ∷ c .writes;
+}
 
 -- what a byte does to the line in hand
 unfoldable pub took : Point → ℕ → Line → Line
@@ -58,7 +115,13 @@ took (Lf w p) b c = noLine
 took Stuck b c = c
 
 abbrev pub formOf : Line → Form
-formOf c = record { name = c .head; ins = reverse (c .ins); outs = reverse (c .outs); reads = reverse (c .reads); writes = reverse (c .writes) }
+formOf c = record {
+  name = c .head;
+  ins = reverse (c .ins);
+  outs = reverse (c .outs);
+  reads = reverse (c .reads);
+  writes = reverse (c .writes);
+}
 
 -- the lines that have been read, the latest first in each list
 abbrev pub noLines : Lines
@@ -66,15 +129,33 @@ noLines = record { oldPlaces = 0; old = []; newPlaces = 0; new = []; done = [] }
 
 -- a line that has ended is put away
 unfoldable pub putStep : Part → Form → Lines → Lines
-putStep OldRoute f t = record { oldPlaces = t .oldPlaces; old = f ∷ t .old; newPlaces = t .newPlaces; new = t .new; done = t .done }
-putStep NewRoute f t = record { oldPlaces = t .oldPlaces; old = t .old; newPlaces = t .newPlaces; new = f ∷ t .new; done = t .done }
+putStep OldRoute f t = record {
+  oldPlaces = t .oldPlaces;
+  old = f ∷ t .old;
+  newPlaces = t .newPlaces;
+  new = t .new;
+  done = t .done;
+}
+putStep NewRoute f t = record {
+  oldPlaces = t .oldPlaces;
+  old = t .old;
+  newPlaces = t .newPlaces;
+  new = f ∷ t .new;
+  done = t .done;
+}
 putStep JobPart f t = t
 
 unfoldable pub putLine : Word → Part → Line → Lines → Lines
 putLine Old p c t = record { oldPlaces = c .head; old = []; newPlaces = 0; new = []; done = [] }
 putLine New p c t = record { oldPlaces = t .oldPlaces; old = t .old; newPlaces = c .head; new = []; done = [] }
 putLine Job p c t = record { oldPlaces = t .oldPlaces; old = t .old; newPlaces = t .newPlaces; new = t .new; done = [] }
-putLine Done p c t = record { oldPlaces = t .oldPlaces; old = t .old; newPlaces = t .newPlaces; new = t .new; done = c .head ∷ t .done }
+putLine Done p c t = record {
+  oldPlaces = t .oldPlaces;
+  old = t .old;
+  newPlaces = t .newPlaces;
+  new = t .new;
+  done = c .head ∷ t .done;
+}
 putLine Step p c t = t
 putLine In p c t = t
 putLine Out p c t = t
@@ -96,7 +177,13 @@ keep Stuck c t = t
 
 -- the lines in their order
 abbrev pub inOrder : Lines → Lines
-inOrder t = record { oldPlaces = t .oldPlaces; old = reverse (t .old); newPlaces = t .newPlaces; new = reverse (t .new); done = reverse (t .done) }
+inOrder t = record {
+  oldPlaces = t .oldPlaces;
+  old = reverse (t .old);
+  newPlaces = t .newPlaces;
+  new = reverse (t .new);
+  done = reverse (t .done);
+}
 
 -- what reading finds: the lines, or what is left from the first byte where no sheet goes on so
 pub data Parsed : Type 0 where

@@ -1,4 +1,5 @@
--- The points of the layout, and the step from one to the next. The theorems of proofs/ say that this is the text of specs/Text.antt.
+-- The points of the layout, and the step from one to the next. The theorems of proofs/ say that this is the text of
+-- specs/Text.antt.
 use mathlib.Core.Bool.{Bool, true, false, cond, _&&_}
 use Prim.Native.Nat.{ℕ, _+_, _-_}
 use lib.Dec.{eqb, ltb, leb}
@@ -10,7 +11,8 @@ use Rattle.layout.specs.declared.Word.the-variants.{Old, New, Job, Done,
 use Rattle.layout.specs.declared.Part.{Part}
 use Rattle.layout.specs.declared.Part.the-variants.{OldRoute, NewRoute, JobPart}
 use Rattle.layout.specs.declared.Point.{Point}
-use Rattle.layout.specs.declared.Point.the-variants.{Start, Open, Choice, Letters, Past, Digit, Digits, Gap, Closed, Lf, Stuck}
+use Rattle.layout.specs.declared.Point.the-variants.{Start, Open, Choice, Letters, Past, Digit, Digits, Gap}
+use Rattle.layout.specs.declared.Point.the-variants.{Closed, Lf, Stuck}
 
 unfoldable pub digit : ℕ → Bool
 digit b = leb 48 b && leb b 57

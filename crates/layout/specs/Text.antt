@@ -1,5 +1,5 @@
--- The text of a sheet as a function of its lines. Each definition puts its text in front of what follows, `s`. The bytes: 40 and 41 are
--- the brackets, 32 the space, 10 the LF, 48 the digit 0.
+-- The text of a sheet as a function of its lines. Each definition puts its text in front of what follows, `s`. The
+-- bytes: 40 and 41 are the brackets, 32 the space, 10 the LF, 48 the digit 0.
 use mathlib.Core.Bool.{cond}
 use mathlib.Core.List.{List, [], _∷_, _++_}
 use Prim.Native.Nat.{ℕ, zero, suc, _+_, _/_, _%_, _^_, _<_}
@@ -17,7 +17,8 @@ pub record Form : Type 0 where
   pub reads : List ℕ
   pub writes : List ℕ
 
--- the lines of a sheet: `(old N)`, its steps, `(new N)`, its steps, `(job)`, then `(done NAME)` lines, as many as there are
+-- the lines of a sheet: `(old N)`, its steps, `(new N)`, its steps, `(job)`, then `(done NAME)` lines, as many as there
+-- are
 pub record Lines : Type 0 where
   pub oldPlaces : ℕ
   pub old : List Form
@@ -48,7 +49,8 @@ unfoldable pub stepLine : Form → List ℕ → List ℕ
 stepLine f s =
     40
     ∷ (spelling Step
-    ++ (32 ∷ number (f .name) (listed In (f .ins) (listed Out (f .outs) (listed Read (f .reads) (listed Write (f .writes) (41 ∷ 10 ∷ s)))))))
+    ++ (32 ∷ number (f .name) (listed In (f .ins)
+    (listed Out (f .outs) (listed Read (f .reads) (listed Write (f .writes) (41 ∷ 10 ∷ s)))))))
 
 -- `(old N)`, `(new N)`, `(done NAME)`
 unfoldable pub wordLine : Word → ℕ → List ℕ → List ℕ
@@ -70,7 +72,8 @@ unfoldable pub jobText : List ℕ → List ℕ
 jobText done = jobLine (doneLines done [])
 
 unfoldable pub text : Lines → List ℕ
-text x = wordLine Old (x .oldPlaces) (stepLines (x .old) (wordLine New (x .newPlaces) (stepLines (x .new) (jobText (x .done)))))
+text x = wordLine Old (x .oldPlaces) (stepLines (x .old)
+    (wordLine New (x .newPlaces) (stepLines (x .new) (jobText (x .done)))))
 
 -- "A number has one to five digits": every number has at most as many as the version allows
 abbrev pub Short : Version → ℕ → Type 0

@@ -1,5 +1,5 @@
--- A call that lays the first n entries of an array over a lent list, as `records::fill` and `put` do, for entries of any type: the list's token
--- comes back, and what the list holds at the end is said.
+-- A call that lays the first n entries of an array over a lent list, as `records::fill` and `put` do, for entries of
+-- any type: the list's token comes back, and what the list holds at the end is said.
 use mathlib.Core.Path.{_≡_, refl}
 use Prim.Native.Nat.{ℕ, _≤_, _<_, _^_}
 use mathlib.Core.List.{List, [], _∷_}
@@ -14,7 +14,8 @@ use prog.Wp.{Heap, Env, Calls, Loops}
 use ghost.Atoms.{Atoms}
 use contract.Monad.{fact}
 use sound.WpLaws.{FmC}
-use types.Kit.{Given, Item, Post, Seq, ‵, raw, _⊛_, ⋆, _$_, _∵_, !, qed, move, drop, use1, use2, split, join, fsplit, fjoin, lands, runs, frame, done}
+use types.Kit.{Given, Item, Post, Seq, ‵, raw, _⊛_, ⋆, _$_, _∵_, !, qed, move, drop, use1, use2, split, join, fsplit}
+use types.Kit.{fjoin, lands, runs, frame, done}
 use types.Run.{Opds}
 use denote.Array.{Array, array-makes}
 use denote.Builtin.{usize, unit}

@@ -1,6 +1,6 @@
 -- Why a job of lent lists and the job of the routes that they are loaded into meet the same answer (LoadedJob,
--- SameAnswers); the walk that all operations over lent lists share (Slices, Loads, OverLists); and reading into lent lists
--- (Counting, Taken, Lays).
+-- SameAnswers); the walk that all operations over lent lists share (Slices, Loads, OverLists); and reading into lent
+-- lists (Counting, Taken, Lays).
 pub mod Slices
 pub mod Loads
 pub mod Counting

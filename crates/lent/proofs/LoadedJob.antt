@@ -1,5 +1,6 @@
--- An answer that depends on nothing but the refusal, where a job's lines are refused, is the same for a job of lent lists and for the job of
--- the routes that they are loaded into: lists up to 64 are loaded whole, and of longer ones row 4 refuses the 65th record, whatever it is.
+-- An answer that depends on nothing but the refusal, where a job's lines are refused, is the same for a job of lent
+-- lists and for the job of the routes that they are loaded into: lists up to 64 are loaded whole, and of longer ones
+-- row 4 refuses the 65th record, whatever it is.
 use mathlib.Core.Path.{_≡_, refl, sym, ap, ap₂, _∙_}
 use mathlib.Core.Bool.{Bool, true, false, not}
 use mathlib.Core.List.{List, [], _∷_, _++_, append-assoc, append-nil}
@@ -16,6 +17,7 @@ use Rattle.route.specs.Steps.{blank, stepsOf}
 use Rattle.route.specs.declared.Step.{Step}
 use Rattle.records.specs.Loaded.{loaded}
 use Rattle.job.specs.Job.{Job, jobOf}
+use Rattle.version.specs.Limits.{scope}
 use Rattle.job.specs.Lines.{placesFit, stepRow, stepRows, routeRows, doneRows, lineRows}
 use Rattle.job.proofs.LongLists.{Refused, short, same-short}
 use Rattle.job.proofs.Rows.{lines-fit}
@@ -108,9 +110,9 @@ module _ (p : ℕ) (l : List Step) (q : ℕ) (m : List Step) (d : List ℕ) wher
       let old = alike p l in
       let new = alike q m in
       ap₂ (λ (r : List Outcome) (n : ℕ). r ++ (routeRows (2 + n) q (short j .new)
-      ++ doneRows (2 + n + 1 + length (short j .new) + 1) 0 d)) (route-alike 1 p _ _ old) (old .long)
+      ++ doneRows scope (2 + n + 1 + length (short j .new) + 1) 0 d)) (route-alike 1 p _ _ old) (old .long)
       ∙ ap₂ (λ (r : List Outcome) (n : ℕ). routeRows 1 p (short k .old)
-      ++ (r ++ doneRows (2 + length (short k .old) + 1 + n + 1) 0 d))
+      ++ (r ++ doneRows scope (2 + length (short k .old) + 1 + n + 1) 0 d))
       (route-alike (2 + length (short k .old)) q _ _ new) (new .long)
 
   -- the law: f of the loaded routes' job is f of the lent lists' job

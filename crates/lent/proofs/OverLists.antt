@@ -1,5 +1,6 @@
--- An operation over two lent lists and other slices meets its contract where the operation over routes by value meets its own, and the two
--- answers are the same for lists and for the routes that they are loaded into. One law for every kind of the other slices.
+-- An operation over two lent lists and other slices meets its contract where the operation over routes by value meets
+-- its own, and the two answers are the same for lists and for the routes that they are loaded into. One law for every
+-- kind of the other slices.
 use mathlib.Core.Path.{_≡_, refl, _∙_, subst}
 use Prim.Native.Nat.{ℕ, suc, _<_, _^_}
 use mathlib.Core.List.{List, [], _∷_}
@@ -17,7 +18,8 @@ use ghost.Atoms.{Atoms}
 use contract.Monad.{Fun, fact, fact-mono}
 use contract.Lifetimes.{Lfts, Shares, toks}
 use sound.WpLaws.{fmOf}
-use types.Kit.{Given, Item, ‵, raw, _⊛_, given, later, ⋆, mean, _$_, _∵_, !, qed, by, move, keep, drop, use1, split, join, fsplit, fjoin, check, suffices, updating, now as at-once, frame, done as ends-here}
+use types.Kit.{Given, Item, ‵, raw, _⊛_, given, later, ⋆, mean, _$_, _∵_, !, qed, by, move, keep, drop, use1, split}
+use types.Kit.{join, fsplit, fjoin, check, suffices, updating, now as at-once, frame, done as ends-here}
 use denote.Exit.{yes}
 use denote.RattleType.{RattleType, flat, owns}
 use denote.Laws.{Is, Are, Ises}
@@ -39,8 +41,11 @@ use Rattle.route.proofs.Step as St
 use Rattle.route.proofs.Route as Ro
 use Rattle.records.proofs.Called.{Known, told, tells, meets}
 use Rattle.records.proofs.load.Symbol.{name as #load}
-use Rattle.lent.proofs.Slices.{Slice, shr, mut, many, spells, tell, on, on-vals, flat-on, back, owns-on, lasts-back, same, past, alone, behind, alone-kept, behind-kept, Alone, Behind, AloneOut, BehindOut, behind-vals}
-use Rattle.lent.proofs.Loads.{Lent, val, owned-route, Load, Choice, Reads, reads, choice, firstOf, secondOf, Walk, body-one, body-two, body-mut, calls-one, calls-two, calls-mut}
+use Rattle.lent.proofs.Slices.{Slice, shr, mut, many, spells, tell, on, on-vals, flat-on, back, owns-on}
+use Rattle.lent.proofs.Slices.{lasts-back, same, past, alone, behind, alone-kept, behind-kept, Alone, Behind}
+use Rattle.lent.proofs.Slices.{AloneOut, BehindOut, behind-vals}
+use Rattle.lent.proofs.Loads.{Lent, val, owned-route, Load, Choice, Reads, reads, choice, firstOf, secondOf}
+use Rattle.lent.proofs.Loads.{Walk, body-one, body-two, body-mut, calls-one, calls-two, calls-mut}
 
 module _ (R : RattleType) (l : List Slice) where
   abbrev places : Slot (suc (suc (many l)))
@@ -255,8 +260,8 @@ module _ (R : RattleType) (l : List Slice) where
           (λ y are. via 𝓤 _ (fst∗ 𝓤 _ (emp 𝓤)) (walk y (are .1 .1 .1 .1) (are .0 .1) (are .1 .1 .0 .1)
           (are .1 .0 .0 .1 .0) (are .1 .1 .1 .0 .0 .1 .0)))
 
--- ---- the three kinds of operation: with a done list; with bytes to read too (try its order); with bytes to write on (judge its work slice,
--- write its out slice)
+-- ---- the three kinds of operation: with a done list; with bytes to read too (try its order); with bytes to write on
+-- (judge its work slice, write its out slice)
 
 -- the slices as the MIR holds them
 abbrev namesTy : Ty

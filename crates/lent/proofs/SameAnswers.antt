@@ -1,5 +1,5 @@
--- Each operation's answer, where a job's lines are refused, is made of that refusal alone. So it is the same for lent lists as for the routes
--- that they are loaded into.
+-- Each operation's answer, where a job's lines are refused, is made of that refusal alone. So it is the same for lent
+-- lists as for the routes that they are loaded into.
 use mathlib.Core.Path.{_≡_}
 use mathlib.Core.Bool.{false}
 use mathlib.Core.List.{List}

@@ -1,5 +1,5 @@
--- The slices that a function hands on to its callee, whatever their kinds: each has a lifetime of its own, and the caller's and the callee's
--- parameters differ in nothing but how many lifetimes stand before it.
+-- The slices that a function hands on to its callee, whatever their kinds: each has a lifetime of its own, and the
+-- caller's and the callee's parameters differ in nothing but how many lifetimes stand before it.
 use mathlib.Core.Path.{_≡_, refl, ap, subst}
 use Prim.Native.Nat.{ℕ, zero, suc}
 use mathlib.Core.List.{List, [], _∷_, _++_}

@@ -8,7 +8,8 @@ use Rattle.refusal.specs.declared.Outcome.{Outcome}
 use Rattle.facts.specs.declared.Sheet.{Sheet}
 use Rattle.lent.specs.declared.Counts.{Counts}
 
--- "15: a lent list too short; old, new, done in turn", with the length needed, after the rows of reading. The numbers are the lists' lengths
+-- "15: a lent list too short; old, new, done in turn", with the length needed, after the rows of reading. The numbers
+-- are the lists' lengths
 unfoldable pub readRow : Sheet → ℕ → ℕ → ℕ → Outcome
 readRow s old new done =
     first
@@ -20,7 +21,15 @@ readRow s old new done =
 
 -- a refusal: its number and second number, all else 0
 abbrev pub noCounts : ℕ → ℕ → Counts
-noCounts n k = record { number = n; second = k; «old_places» = 0; «old_len» = 0; «new_places» = 0; «new_len» = 0; «done_len» = 0 }
+noCounts n k = record {
+  number = n;
+  second = k;
+  «old_places» = 0;
+  «old_len» = 0;
+  «new_places» = 0;
+  «new_len» = 0;
+  «done_len» = 0;
+}
 
 unfoldable pub counts : Sheet → Outcome → Counts
 counts s o =

@@ -44,7 +44,8 @@ and-right false y h = absurd (apart (sym h))
 along-top : (e : Entries) (l : List ℕ) (n : ℕ) → leb (along e l .top) n ≡ (leb (e .top) n && allBelow n l)
 unfolding along added allBelow
 along-top e [] n = sym (right (leb (e .top) n))
-along-top e (v ∷ l) n = along-top (added v e) l n ∙ ap (λ (x : Bool). x && allBelow n l) (step (ltb v (e .top)) refl) ∙ assoc (leb (e .top) n) (ltb v n) (allBelow n l)
+along-top e (v ∷ l) n = along-top (added v e) l n ∙ ap (λ (x : Bool). x && allBelow n l) (step (ltb v (e .top)) refl)
+    ∙ assoc (leb (e .top) n) (ltb v n) (allBelow n l)
   where
     both : (x : Bool) → leb (e .top) n ≡ x → v < e .top → x ≡ (x && ltb v n)
     both true p h = sym (lt-ltb v n (omega (arith, leb-true (e .top) n p)))
@@ -68,11 +69,16 @@ unfolding along added rising
 along-falls e [] = sym (right (not (e .falls)))
 along-falls e (v ∷ l) = along-falls (added v e) l ∙ step (ltb v (e .top)) refl
   where
-    step : (x : Bool) → ltb v (e .top) ≡ x → (not (cond x true (e .falls)) && rising (cond x (e .top) (v + 1)) l) ≡ (not (e .falls) && (leb (e .top) v && rising (suc v) l))
-    step true p = sym (and-false (not (e .falls))) ∙ ap (λ (y : Bool). not (e .falls) && (y && rising (suc v) l)) (sym (lt-leb (e .top) v (ltb-true v (e .top) p)))
-    step false p = ap (λ (m : ℕ). not (e .falls) && rising m l) (add-one v) ∙ ap (λ (y : Bool). not (e .falls) && (y && rising (suc v) l)) (sym (le-leb (e .top) v (ltb-false v (e .top) p)))
+    step : (x : Bool) → ltb v (e .top) ≡ x → (not (cond x true (e .falls)) && rising (cond x (e .top) (v + 1)) l)
+        ≡ (not (e .falls) && (leb (e .top) v && rising (suc v) l))
+    step true p = sym (and-false (not (e .falls)))
+        ∙ ap (λ (y : Bool). not (e .falls) && (y && rising (suc v) l)) (sym (lt-leb (e .top) v (ltb-true v (e .top) p)))
+    step false p = ap (λ (m : ℕ). not (e .falls) && rising m l) (add-one v)
+        ∙ ap (λ (y : Bool). not (e .falls) && (y && rising (suc v) l))
+        (sym (le-leb (e .top) v (ltb-false v (e .top) p)))
 
-along-mask : (w : ℕ) → w ≤ 64 → (e : Entries) (l : List ℕ) → allBelow w l ≡ true → along e l .mask ≡ masked w (e .mask) l
+along-mask : (w : ℕ) → w ≤ 64 → (e : Entries) (l : List ℕ) → allBelow w l ≡ true
+    → along e l .mask ≡ masked w (e .mask) l
 unfolding along added allBelow masked
 along-mask w h e [] b = refl
 along-mask w h e (v ∷ l) b =
@@ -87,7 +93,8 @@ unfolding allBelow
 below-wider m n [] h e = refl
 below-wider m n (v ∷ l) h e =
     let small = ltb-true v m (and-left (ltb v m) (allBelow m l) e) in
-    ap (λ (y : Bool). y && allBelow n l) (lt-ltb v n (omega (arith, h, small))) ∙ below-wider m n l h (and-right (ltb v m) (allBelow m l) e)
+    ap (λ (y : Bool). y && allBelow n l) (lt-ltb v n (omega (arith, h, small)))
+    ∙ below-wider m n l h (and-right (ltb v m) (allBelow m l) e)
 
 -- ---- a whole list
 
@@ -116,13 +123,23 @@ module _ (r : StepLine) (f : Form) (h : IsForm r f) where
   pub lists-form : lineLists r ≡ formLists f
   unfolding lineLists formLists
   lists-form =
-      ap₂ (λ (x y : Bool). not x && y) (ap (λ (e : Entries). eqb (e .count) 0) (h .ins) ∙ ap (λ (n : ℕ). eqb n 0) (count-is (f .ins)))
-      (ap₂ (λ (x y : Bool). not x && y) (ap (λ (e : Entries). eqb (e .count) 0) (h .outs) ∙ ap (λ (n : ℕ). eqb n 0) (count-is (f .outs)))
+      ap₂ (λ (x y : Bool). not x && y) (ap (λ (e : Entries). eqb (e .count) 0) (h .ins)
+      ∙ ap (λ (n : ℕ). eqb n 0) (count-is (f .ins)))
+      (ap₂ (λ (x y : Bool). not x && y) (ap (λ (e : Entries). eqb (e .count) 0) (h .outs)
+      ∙ ap (λ (n : ℕ). eqb n 0) (count-is (f .outs)))
       (ap₂ (λ (x y : Bool). x && y) (ap entriesFit (h .ins) ∙ fits-is (f .ins))
       (ap₂ (λ (x y : Bool). x && y) (ap entriesFit (h .outs) ∙ fits-is (f .outs))
-      (ap₂ (λ (x y : Bool). x && y) (ap entriesFit (h .reads) ∙ fits-is (f .reads)) (ap entriesFit (h .writes) ∙ fits-is (f .writes))))))
+      (ap₂ (λ (x y : Bool). x && y) (ap entriesFit (h .reads) ∙ fits-is (f .reads))
+      (ap entriesFit (h .writes) ∙ fits-is (f .writes))))))
 
-  pub step-form : (v : Version) (places : ℕ) → Limits v → places ≤ 64 → formFits v places f ≡ true → record { name = r .name % 4294967296; ins = r .ins .mask; outs = r .outs .mask; reads = r .reads .mask % 4294967296; writes = r .writes .mask % 4294967296 } ≡ recordOf f
+  pub step-form : (v : Version) (places : ℕ) → Limits v → places ≤ 64 → formFits v places f ≡ true
+      → record {
+        name = r .name % 4294967296;
+        ins = r .ins .mask;
+        outs = r .outs .mask;
+        reads = r .reads .mask % 4294967296;
+        writes = r .writes .mask % 4294967296;
+      } ≡ recordOf f
   unfolding formFits recordOf
   step-form v places limits few fits =
       let rest = and-right (nameFits v (f .name)) _ fits in
@@ -132,7 +149,8 @@ module _ (r : StepLine) (f : Form) (h : IsForm r f) where
       let outs = places-mask (f .outs) (and-left (allBelow places (f .outs)) _ rest₁) in
       let reads = vars-mask (f .reads) (and-left (allBelow 32 (f .reads)) _ rest₂) in
       let writes = vars-mask (f .writes) (and-right (allBelow 32 (f .reads)) _ rest₂) in
-      let name : r .name % 4294967296 ≡ f .name = omega (arith, name-stored v limits (f .name) (and-left (nameFits v (f .name)) _ fits), h .name) in
+      let name : r .name % 4294967296 ≡ f .name =
+      omega (arith, name-stored v limits (f .name) (and-left (nameFits v (f .name)) _ fits), h .name) in
       λ j. record {
         name = name j;
         ins = (ap (λ (e : Entries). e .mask) (h .ins) ∙ ins) j;

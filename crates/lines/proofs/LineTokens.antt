@@ -17,15 +17,19 @@ use Rattle.tokens.specs.declared.Cursor.{Cursor}
 use Rattle.tokens.specs.declared.Numeral.{Numeral}
 use Rattle.tokens.specs.declared.Listed.{Listed}
 use Rattle.lines.specs.Lines.{hasSteps, NumberedOn, StepOn}
-use Rattle.lines.proofs.LineTexts.{end-spells, step-spells, in-spells, out-spells, read-spells, write-spells, write-end-spells}
+use Rattle.lines.proofs.LineTexts.{end-spells, step-spells, in-spells, out-spells, read-spells, write-spells}
+use Rattle.lines.proofs.LineTexts.{write-end-spells}
 
-pub numbered-on : (v : Version) (s : List ℕ) (from : ℕ) (w : List ℕ) (a : Cursor) (n : Numeral) (e : Cursor) → TextOn s from true w a → NumberOn v s (a .at) (a .ok) n → TextOn s (n .at) (n .ok) (41 ∷ 10 ∷ []) e → NumberedOn v s from w (record { at = e .at; ok = e .ok; value = n .value })
+pub numbered-on : (v : Version) (s : List ℕ) (from : ℕ) (w : List ℕ) (a : Cursor) (n : Numeral) (e : Cursor)
+    → TextOn s from true w a → NumberOn v s (a .at) (a .ok) n → TextOn s (n .at) (n .ok) (41 ∷ 10 ∷ []) e
+    → NumberedOn v s from w (record { at = e .at; ok = e .ok; value = n .value })
 unfolding Reached
 numbered-on v s from w a n e first number end =
     record {
       past = λ h. omega (arith, first .later, number .later, end .past h);
       within = end .within;
-      goes = λ p c t x q h way r. end .goes v _ _ _ _ _ _ (end-spells v s (n .at) x q (withNum (n .value) c) t h) (number .goes x q c t (first .goes v p c t (Digit x q) c t way r));
+      goes = λ p c t x q h way r. end .goes v _ _ _ _ _ _ (end-spells v s (n .at) x q (withNum (n .value) c) t h)
+          (number .goes x q c t (first .goes v p c t (Digit x q) c t way r));
     }
 
 -- ---- the line in hand with its lists
@@ -35,29 +39,62 @@ last : List ℕ → ℕ → ℕ
 last [] m = m
 last (n ∷ l) m = last l n
 
-in-is : (l : List ℕ) (c : Line) → withEntries In l c ≡ record { num = last l (c .num); head = c .head; ins = reverseAux l (c .ins); outs = c .outs; reads = c .reads; writes = c .writes }
+in-is : (l : List ℕ) (c : Line) → withEntries In l c
+    ≡ record {
+      num = last l (c .num);
+      head = c .head;
+      ins = reverseAux l (c .ins);
+      outs = c .outs;
+      reads = c .reads;
+      writes = c .writes;
+    }
 unfolding withEntries stored last
 in-is [] c = refl
 in-is (n ∷ l) c = in-is l (stored In (withNum n c))
 
-out-is : (l : List ℕ) (c : Line) → withEntries Out l c ≡ record { num = last l (c .num); head = c .head; ins = c .ins; outs = reverseAux l (c .outs); reads = c .reads; writes = c .writes }
+out-is : (l : List ℕ) (c : Line) → withEntries Out l c
+    ≡ record {
+      num = last l (c .num);
+      head = c .head;
+      ins = c .ins;
+      outs = reverseAux l (c .outs);
+      reads = c .reads;
+      writes = c .writes;
+    }
 unfolding withEntries stored last
 out-is [] c = refl
 out-is (n ∷ l) c = out-is l (stored Out (withNum n c))
 
-read-is : (l : List ℕ) (c : Line) → withEntries Read l c ≡ record { num = last l (c .num); head = c .head; ins = c .ins; outs = c .outs; reads = reverseAux l (c .reads); writes = c .writes }
+read-is : (l : List ℕ) (c : Line) → withEntries Read l c
+    ≡ record {
+      num = last l (c .num);
+      head = c .head;
+      ins = c .ins;
+      outs = c .outs;
+      reads = reverseAux l (c .reads);
+      writes = c .writes;
+    }
 unfolding withEntries stored last
 read-is [] c = refl
 read-is (n ∷ l) c = read-is l (stored Read (withNum n c))
 
-write-is : (l : List ℕ) (c : Line) → withEntries Write l c ≡ record { num = last l (c .num); head = c .head; ins = c .ins; outs = c .outs; reads = c .reads; writes = reverseAux l (c .writes) }
+write-is : (l : List ℕ) (c : Line) → withEntries Write l c
+    ≡ record {
+      num = last l (c .num);
+      head = c .head;
+      ins = c .ins;
+      outs = c .outs;
+      reads = c .reads;
+      writes = reverseAux l (c .writes);
+    }
 unfolding withEntries stored last
 write-is [] c = refl
 write-is (n ∷ l) c = write-is l (stored Write (withNum n c))
 
 -- the line of a name and four lists
 abbrev lineWith : ℕ → List ℕ → List ℕ → List ℕ → List ℕ → Line
-lineWith v i o r w = withEntries Write w (withEntries Read r (withEntries Out o (withEntries In i (stored Step (withNum v noLine)))))
+lineWith v i o r w = withEntries Write w (withEntries Read r
+    (withEntries Out o (withEntries In i (stored Step (withNum v noLine)))))
 
 abbrev formWith : ℕ → List ℕ → List ℕ → List ℕ → List ℕ → Form
 formWith v i o r w = record { name = v; ins = i; outs = o; reads = r; writes = w }
@@ -67,17 +104,45 @@ unfolding stored
 form-is v i o r w =
     ap formOf
     (write-is w _
-    ∙ ap (λ (c : Line). record { num = last w (c .num); head = c .head; ins = c .ins; outs = c .outs; reads = c .reads; writes = reverseAux w (c .writes) })
+    ∙ ap (λ (c : Line). record {
+      num = last w (c .num);
+      head = c .head;
+      ins = c .ins;
+      outs = c .outs;
+      reads = c .reads;
+      writes = reverseAux w (c .writes);
+    })
     (read-is r _
-    ∙ ap (λ (c : Line). record { num = last r (c .num); head = c .head; ins = c .ins; outs = c .outs; reads = reverseAux r (c .reads); writes = c .writes })
+    ∙ ap (λ (c : Line). record {
+      num = last r (c .num);
+      head = c .head;
+      ins = c .ins;
+      outs = c .outs;
+      reads = reverseAux r (c .reads);
+      writes = c .writes;
+    })
     (out-is o _
-    ∙ ap (λ (c : Line). record { num = last o (c .num); head = c .head; ins = c .ins; outs = reverseAux o (c .outs); reads = c .reads; writes = c .writes })
+    ∙ ap (λ (c : Line). record {
+      num = last o (c .num);
+      head = c .head;
+      ins = c .ins;
+      outs = reverseAux o (c .outs);
+      reads = c .reads;
+      writes = c .writes;
+    })
     (in-is i _))))
-    ∙ (λ j. record { name = v; ins = reverse-reverse i j; outs = reverse-reverse o j; reads = reverse-reverse r j; writes = reverse-reverse w j })
+    ∙ (λ j. record {
+      name = v;
+      ins = reverse-reverse i j;
+      outs = reverse-reverse o j;
+      reads = reverse-reverse r j;
+      writes = reverse-reverse w j;
+    })
 
 -- ---- a step's line, token by token
 
-module _ (v : Version) (s : List ℕ) (from : ℕ) (a : Cursor) (n : Numeral) (b : Cursor) (i : Listed) (c : Cursor) (o : Listed) (d : Cursor) (r : Listed) (e : Cursor) (w : Listed) (f : Cursor)
+module _ (v : Version) (s : List ℕ) (from : ℕ) (a : Cursor) (n : Numeral) (b : Cursor) (i : Listed) (c : Cursor)
+    (o : Listed) (d : Cursor) (r : Listed) (e : Cursor) (w : Listed) (f : Cursor)
     (ha : TextOn s from true (40 ∷ 115 ∷ 116 ∷ 101 ∷ 112 ∷ 32 ∷ []) a)
     (hn : NumberOn v s (a .at) (a .ok) n)
     (hb : TextOn s (n .at) (n .ok) (32 ∷ 40 ∷ 105 ∷ 110 ∷ []) b)
@@ -89,23 +154,48 @@ module _ (v : Version) (s : List ℕ) (from : ℕ) (a : Cursor) (n : Numeral) (b
     (he : TextOn s (r .at) (r .ok) (32 ∷ 40 ∷ 119 ∷ 114 ∷ 105 ∷ 116 ∷ 101 ∷ []) e)
     (hw : ListOn v s (e .at) (e .ok) w)
     (hf : TextOn s (w .at) (w .ok) (41 ∷ 10 ∷ []) f) where
-  reads-step : (q : Part) (t : Lines) → hasSteps q ≡ true → getD s (from + 1) 0 ≡ 115 → Reading v s from (Open q) noLine t → Reached v s (f .at) (f .ok) (Open q) noLine (putLine Write q (lineWith (n .value) (hi .entries) (ho .entries) (hr .entries) (hw .entries)) t)
+  reads-step : (q : Part) (t : Lines) → hasSteps q ≡ true → getD s (from + 1) 0 ≡ 115
+      → Reading v s from (Open q) noLine t → Reached v s (f .at) (f .ok) (Open q) noLine
+      (putLine Write q (lineWith (n .value) (hi .entries) (ho .entries) (hr .entries) (hw .entries)) t)
   unfolding listWord Reached
   reads-step q t route is h =
       let at-name = hn .goes Step q noLine t (ha .goes v _ _ _ _ _ _ (step-spells v s from q noLine t route is) h) in
-      let at-in = hi .goes In q _ t refl (hb .goes v _ _ _ _ _ _ (in-spells v s (n .at) q (withNum (n .value) noLine) t) at-name) in
+      let at-in = hi .goes In q _ t refl (hb .goes v _ _ _ _ _ _ (in-spells v s (n .at) q (withNum (n .value) noLine) t)
+      at-name) in
       let at-out = ho .goes Out q _ t refl (hc .goes v _ _ _ _ _ _ (out-spells v s (i .at) q _ t) at-in) in
       let at-read = hr .goes Read q _ t refl (hd .goes v _ _ _ _ _ _ (read-spells v s (o .at) q _ t) at-out) in
       let at-write = hw .goes Write q _ t refl (he .goes v _ _ _ _ _ _ (write-spells v s (r .at) q _ t) at-read) in
       hf .goes v _ _ _ _ _ _ (write-end-spells v s (w .at) q _ t) at-write
 
-  pub step-on : StepOn v s from (record { at = f .at; ok = f .ok; name = n .value; ins = i .entries; outs = o .entries; reads = r .entries; writes = w .entries })
+  pub step-on : StepOn v s from (record {
+    at = f .at;
+    ok = f .ok;
+    name = n .value;
+    ins = i .entries;
+    outs = o .entries;
+    reads = r .entries;
+    writes = w .entries;
+  })
   unfolding putLine
   step-on =
       record {
-        past = λ h. omega (arith, ha .later, hn .later, hb .later, hi .later, hc .later, ho .later, hd .later, hr .later, he .later, hw .later, hf .past h);
+        past = λ h. omega (
+          arith,
+          ha .later,
+          hn .later,
+          hb .later,
+          hi .later,
+          hc .later,
+          ho .later,
+          hd .later,
+          hr .later,
+          he .later,
+          hw .later,
+          hf .past h,
+        );
         within = hf .within;
         form = formWith (n .value) (hi .entries) (ho .entries) (hr .entries) (hw .entries);
         is = record { name = refl; ins = hi .kept; outs = ho .kept; reads = hr .kept; writes = hw .kept };
-        goes = λ q t route is h. subst (λ (x : Form). Reached v s (f .at) (f .ok) (Open q) noLine (putStep q x t)) (form-is (n .value) (hi .entries) (ho .entries) (hr .entries) (hw .entries)) (reads-step q t route is h);
+        goes = λ q t route is h. subst (λ (x : Form). Reached v s (f .at) (f .ok) (Open q) noLine (putStep q x t))
+            (form-is (n .value) (hi .entries) (ho .entries) (hr .entries) (hw .entries)) (reads-step q t route is h);
       }

@@ -35,7 +35,9 @@ headWord Write = false
 pub record NumberedOn (v : Version) (s : List ℕ) (from : ℕ) (w : List ℕ) (r : Numeral) : Type 0 where
   pub past : r .ok ≡ true → from < r .at
   pub within : r .at ≤ length s
-  pub goes : (p : Point) (c : Line) (t : Lines) (x : Word) (q : Part) → headWord x ≡ true → Spells v s from p c t w (Digit x q) c t → Reading v s from p c t → Reached v s (r .at) (r .ok) (Open q) noLine (putLine x q (stored x (withNum (r .value) c)) t)
+  pub goes : (p : Point) (c : Line) (t : Lines) (x : Word) (q : Part) → headWord x ≡ true
+      → Spells v s from p c t w (Digit x q) c t → Reading v s from p c t
+      → Reached v s (r .at) (r .ok) (Open q) noLine (putLine x q (stored x (withNum (r .value) c)) t)
 
 -- what is kept of a step's line is that of its form
 pub record IsForm (r : StepLine) (f : Form) : Type 0 where
@@ -56,12 +58,14 @@ pub record StepOn (v : Version) (s : List ℕ) (from : ℕ) (r : StepLine) : Typ
   pub within : r .at ≤ length s
   pub form : Form
   pub is : IsForm r form
-  pub goes : (q : Part) (t : Lines) → hasSteps q ≡ true → getD s (from + 1) 0 ≡ 115 → Reading v s from (Open q) noLine t → Reached v s (r .at) (r .ok) (Open q) noLine (putStep q form t)
+  pub goes : (q : Part) (t : Lines) → hasSteps q ≡ true → getD s (from + 1) 0 ≡ 115 → Reading v s from (Open q) noLine t
+      → Reached v s (r .at) (r .ok) (Open q) noLine (putStep q form t)
 
 -- ---- rows 2 and 3
 
 unfoldable pub lineFits : Version → ℕ → StepLine → Bool
-lineFits v places l = nameFits v (l .name) && (leb (l .ins .top) places && (leb (l .outs .top) places && (leb (l .reads .top) 32 && leb (l .writes .top) 32)))
+lineFits v places l = nameFits v (l .name) && (leb (l .ins .top) places
+    && (leb (l .outs .top) places && (leb (l .reads .top) 32 && leb (l .writes .top) 32)))
 
 unfoldable pub entriesFit : Entries → Bool
 entriesFit e = leb (e .count) 8 && not (e .falls)
@@ -69,4 +73,5 @@ entriesFit e = leb (e .count) 8 && not (e .falls)
 unfoldable pub lineLists : StepLine → Bool
 lineLists l =
     not (eqb (l .ins .count) 0)
-    && (not (eqb (l .outs .count) 0) && (entriesFit (l .ins) && (entriesFit (l .outs) && (entriesFit (l .reads) && entriesFit (l .writes)))))
+    && (not (eqb (l .outs .count) 0) && (entriesFit (l .ins)
+    && (entriesFit (l .outs) && (entriesFit (l .reads) && entriesFit (l .writes)))))

@@ -19,15 +19,18 @@ use Rattle.listing.specs.Listing.{afterLine, afterLines, valueLine, valu
 abbrev pub lineOf : List ℕ → ℕ → List ℕ
 lineOf rows i = afterLine i (getD rows i 0)
 
-pub after-start : (kept : ℕ) (rows : List ℕ) {o : List ℕ} {n : ℕ} → Room (afterLines kept rows) o n → Left (over (lineOf rows) (members 64 kept)) o n (afterLines kept rows) o n
+pub after-start : (kept : ℕ) (rows : List ℕ) {o : List ℕ} {n : ℕ} → Room (afterLines kept rows) o n
+    → Left (over (lineOf rows) (members 64 kept)) o n (afterLines kept rows) o n
 unfolding afterLines
 after-start kept rows r = left-start r
 
-module _ (rows : List ℕ) (m : ℕ) {o u o₀ : List ℕ} {n n₀ : ℕ} (left : Left (over (lineOf rows) (members 64 m)) o n u o₀ n₀) where
+module _ (rows : List ℕ) (m : ℕ) {o u o₀ : List ℕ} {n n₀ : ℕ}
+    (left : Left (over (lineOf rows) (members 64 m)) o n u o₀ n₀) where
   pub row-room : m < 2 ^ 64 → (m ≡ 0 → ⊥) → Room (lineOf rows (trailingZeros 64 m)) o n
   row-room = mask-room (lineOf rows) m left
 
-  pub row-turn : {p : List ℕ} {k : ℕ} → m < 2 ^ 64 → (m ≡ 0 → ⊥) → Emits (lineOf rows (trailingZeros 64 m)) o n p k → Left (over (lineOf rows) (members 64 (bitAnd m (m - 1)))) p k u o₀ n₀
+  pub row-turn : {p : List ℕ} {k : ℕ} → m < 2 ^ 64 → (m ≡ 0 → ⊥) → Emits (lineOf rows (trailingZeros 64 m)) o n p k
+      → Left (over (lineOf rows) (members 64 (bitAnd m (m - 1)))) p k u o₀ n₀
   row-turn = mask-turn (lineOf rows) m left
 
 -- ---- variables
@@ -37,7 +40,8 @@ abbrev pub valuesFrom : List ℕ → ℕ → List ℕ
 valuesFrom writers v = over (λ (i : ℕ). valueLine i (getD writers i 0)) (inTurn v (32 - v))
 
 module _ (writers : List ℕ) where
-  pub values-start : {o : List ℕ} {n : ℕ} → Room (valueLines writers) o n → Left (valuesFrom writers 0) o n (valueLines writers) o n
+  pub values-start : {o : List ℕ} {n : ℕ} → Room (valueLines writers) o n
+      → Left (valuesFrom writers 0) o n (valueLines writers) o n
   unfolding valueLines
   values-start r = left-start r
 
@@ -46,7 +50,8 @@ module _ (writers : List ℕ) where
     unfolding over inTurn
     values-next h =
         ap (λ (k : ℕ). over (λ (i : ℕ). valueLine i (getD writers i 0)) (inTurn v k)) more
-        ∙ ap (λ (k : ℕ). valueLine v (getD writers v 0) ++ over (λ (i : ℕ). valueLine i (getD writers i 0)) (inTurn k (32 - (v + 1)))) next
+        ∙ ap (λ (k : ℕ). valueLine v (getD writers v 0)
+        ++ over (λ (i : ℕ). valueLine i (getD writers i 0)) (inTurn k (32 - (v + 1)))) next
       where
         more : 32 - v ≡ suc (32 - (v + 1))
         more = omega arith
@@ -58,7 +63,8 @@ module _ (writers : List ℕ) where
       pub values-room : v < 32 → Room (valueLine v (getD writers v 0)) o n
       values-room h = left-room _ _ (left-as (values-next h) left)
 
-      pub values-turn : {p : List ℕ} {m : ℕ} → v < 32 → Emits (valueLine v (getD writers v 0)) o n p m → Left (valuesFrom writers (v + 1)) p m u o₀ n₀
+      pub values-turn : {p : List ℕ} {m : ℕ} → v < 32 → Emits (valueLine v (getD writers v 0)) o n p m
+          → Left (valuesFrom writers (v + 1)) p m u o₀ n₀
       values-turn h w = left-turn (left-as (values-next h) left) w
 
       pub values-end : 32 ≤ v → Emits u o₀ n₀ o n

@@ -23,7 +23,8 @@ unfolding over
 size-cons f x l = length-append (f x) (over f l)
 
 -- texts that are no longer, position by position
-pub size-most : (f g : ℕ → List ℕ) (v k : ℕ) → ((x : ℕ) → x < v + k → length (f x) ≤ length (g x)) → size f (inTurn v k) ≤ size g (inTurn v k)
+pub size-most : (f g : ℕ → List ℕ) (v k : ℕ) → ((x : ℕ) → x < v + k → length (f x) ≤ length (g x))
+    → size f (inTurn v k) ≤ size g (inTurn v k)
 unfolding inTurn
 size-most f g v zero h = unfold over in omega arith
 size-most f g v (suc k) h =
@@ -41,10 +42,16 @@ unfolding inTurn
 size-more f v zero b h = unfold over in omega arith
 size-more f v (suc a) zero h = absurd (omega arith)
 size-more f v (suc a) (suc b) h =
-    omega (arith, size-cons f v (inTurn (suc v) a), size-cons f v (inTurn (suc v) b), size-more f (suc v) a b (omega arith))
+    omega (
+      arith,
+      size-cons f v (inTurn (suc v) a),
+      size-cons f v (inTurn (suc v) b),
+      size-more f (suc v) a b (omega arith),
+    )
 
 -- members that are all among a positions
-pub size-members : (f : ℕ → List ℕ) (k v a m : ℕ) → ((x : ℕ) → x < v + k → has m x ≡ true → x < v + a) → size f (membersFrom v k m) ≤ size f (inTurn v a)
+pub size-members : (f : ℕ → List ℕ) (k v a m : ℕ) → ((x : ℕ) → x < v + k → has m x ≡ true → x < v + a)
+    → size f (membersFrom v k m) ≤ size f (inTurn v a)
 unfolding membersFrom inTurn
 size-members f zero v a m h = unfold over in omega arith
 size-members f (suc k) v zero m h =
@@ -52,19 +59,29 @@ size-members f (suc k) v zero m h =
     (λ e. absurd (omega (arith, h v (omega arith) e)))
     (λ e. size-members f k (suc v) zero m (λ x p q. omega (arith, h x (omega arith) q)))
 size-members f (suc k) v (suc a) m h =
-    let rest : size f (membersFrom (suc v) k m) ≤ size f (inTurn (suc v) a) = size-members f k (suc v) a m (λ x p q. omega (arith, h x (omega arith) q)) in
-    split (λ (t : Bool). size f (cond t (v ∷ membersFrom (suc v) k m) (membersFrom (suc v) k m)) ≤ size f (v ∷ inTurn (suc v) a)) (has m v)
+    let rest : size f (membersFrom (suc v) k m) ≤ size f (inTurn (suc v) a) =
+    size-members f k (suc v) a m (λ x p q. omega (arith, h x (omega arith) q)) in
+    split (λ (t : Bool). size f (cond t (v ∷ membersFrom (suc v) k m) (membersFrom (suc v) k m)) ≤ size f
+    (v ∷ inTurn (suc v) a)) (has m v)
     (λ e. omega (arith, size-cons f v (membersFrom (suc v) k m), size-cons f v (inTurn (suc v) a)))
     (λ e. omega (arith, size-cons f v (inTurn (suc v) a)))
 
 -- as many texts as there are members, each of at most b bytes
-pub size-count : (f : ℕ → List ℕ) (b k v m : ℕ) → ((x : ℕ) → x < v + k → length (f x) ≤ b) → size f (membersFrom v k m) ≤ length (membersFrom v k m) * b
+pub size-count : (f : ℕ → List ℕ) (b k v m : ℕ) → ((x : ℕ) → x < v + k → length (f x) ≤ b)
+    → size f (membersFrom v k m) ≤ length (membersFrom v k m) * b
 unfolding membersFrom
 size-count f b zero v m h = unfold over in omega arith
 size-count f b (suc k) v m h =
-    let rest : size f (membersFrom (suc v) k m) ≤ length (membersFrom (suc v) k m) * b = size-count f b k (suc v) m (λ x p. h x (omega arith)) in
-    split (λ (t : Bool). size f (cond t (v ∷ membersFrom (suc v) k m) (membersFrom (suc v) k m)) ≤ length (cond t (v ∷ membersFrom (suc v) k m) (membersFrom (suc v) k m)) * b) (has m v)
-    (λ e. omega (arith, size-cons f v (membersFrom (suc v) k m), h v (omega arith), suc-mul (length (membersFrom (suc v) k m)) b))
+    let rest : size f (membersFrom (suc v) k m) ≤ length (membersFrom (suc v) k m) * b =
+    size-count f b k (suc v) m (λ x p. h x (omega arith)) in
+    split (λ (t : Bool). size f (cond t (v ∷ membersFrom (suc v) k m) (membersFrom (suc v) k m)) ≤ length
+    (cond t (v ∷ membersFrom (suc v) k m) (membersFrom (suc v) k m)) * b) (has m v)
+    (λ e. omega (
+      arith,
+      size-cons f v (membersFrom (suc v) k m),
+      h v (omega arith),
+      suc-mul (length (membersFrom (suc v) k m)) b,
+    ))
     (λ e. rest)
 
 -- ---- the members of `below n` are all positions below n
@@ -75,11 +92,13 @@ below-from zero b v n e = past (0 + b) v (omega arith)
   where
     past : (b v : ℕ) → n ≤ v → membersFrom v b (below n) ≡ []
     past zero v h = refl
-    past (suc b) v h = let out : has (below n) v ≡ false = has-below n v ∙ le-ltb v n h in rw out (past b (suc v) (omega arith))
+    past (suc b) v h = let out : has (below n) v ≡ false =
+        has-below n v ∙ le-ltb v n h in rw out (past b (suc v) (omega arith))
 below-from (suc a) b v n e =
     let inside : has (below n) v ≡ true = has-below n v ∙ lt-ltb v n (omega arith) in
     let one-more : suc a + b ≡ suc (a + b) = omega arith in
-    ap (λ (k : ℕ). membersFrom v k (below n)) one-more ∙ rw inside (ap (λ (l : List ℕ). v ∷ l) (below-from a b (suc v) n (omega arith)))
+    ap (λ (k : ℕ). membersFrom v k (below n)) one-more
+    ∙ rw inside (ap (λ (l : List ℕ). v ∷ l) (below-from a b (suc v) n (omega arith)))
 
 pub below-members : (n w : ℕ) → n ≤ w → members w (below n) ≡ inTurn 0 n
 unfolding members

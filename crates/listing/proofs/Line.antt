@@ -12,9 +12,12 @@ use borrow.Author.Tests.{eq-eqb, ne-eqb}
 use Rattle.mask.specs.Mask.{members, count}
 use Rattle.emit.specs.Emit.{Emits}
 use Rattle.emit.specs.Numbers.{entry, over}
-use Rattle.emit.proofs.Chains.{parts, First, Second, Third, Three, first-room, second-room, third-room, three-emits, emits-none}
+use Rattle.emit.proofs.Chains.{parts, First, Second, Third, Three, first-room, second-room, third-room, three-emits}
+use Rattle.emit.proofs.Chains.{emits-none}
 use Rattle.emit.proofs.Over.{from-zero, from-one}
-use Rattle.listing.specs.Listing.{close, line, movedWord, droppedWord, movedEnd, movedLine, afterWord, afterLine, orderWord, orderLine, markingWord, markingLine, valueWord, valueLine, refusedWord, refusedLine}
+use Rattle.listing.specs.Listing.{close, line, movedWord, droppedWord, movedEnd, movedLine, afterWord, afterLine}
+use Rattle.listing.specs.Listing.{orderWord, orderLine, markingWord, markingLine, valueWord, valueLine}
+use Rattle.listing.specs.Listing.{refusedWord, refusedLine}
 
 module _ (w : List ℕ) where
   line-parts : (l : List ℕ) → line w l ≡ parts (w ∷ over entry l ∷ close ∷ [])
@@ -28,36 +31,45 @@ module _ (w : List ℕ) where
 
   pair-parts : (a b : ℕ) → line w (a ∷ b ∷ []) ≡ parts ((w ++ entry a) ∷ entry b ∷ close ∷ [])
   unfolding over
-  pair-parts a b = first-parts a (b ∷ []) ∙ ap (λ (t : List ℕ). parts ((w ++ entry a) ∷ t ∷ close ∷ [])) (append-nil (entry b))
+  pair-parts a b = first-parts a (b ∷ []) ∙ ap (λ (t : List ℕ). parts ((w ++ entry a) ∷ t ∷ close ∷ []))
+      (append-nil (entry b))
 
-moved-parts : (kept dropped c : ℕ) → c ≡ count 64 kept → movedLine kept dropped ≡ parts ((movedWord ++ entry c) ∷ (droppedWord ++ entry dropped) ∷ movedEnd ∷ [])
+moved-parts : (kept dropped c : ℕ) → c ≡ count 64 kept
+    → movedLine kept dropped ≡ parts ((movedWord ++ entry c) ∷ (droppedWord ++ entry dropped) ∷ movedEnd ∷ [])
 unfolding movedLine parts
 moved-parts kept dropped c e = rw e
 
-after-parts : (i row : ℕ) → (row ≡ 0 → ⊥) → afterLine i row ≡ parts ((afterWord ++ entry (i + 1)) ∷ over (λ (v : ℕ). entry (1 + v)) (members 64 row) ∷ close ∷ [])
+after-parts : (i row : ℕ) → (row ≡ 0 → ⊥) → afterLine i row
+    ≡ parts ((afterWord ++ entry (i + 1)) ∷ over (λ (v : ℕ). entry (1 + v)) (members 64 row) ∷ close ∷ [])
 unfolding afterLine
 after-parts i row some =
     rw (ne-eqb row 0 some) (first-parts afterWord (suc i) (map suc (members 64 row)))
     ∙ (λ j. parts ((afterWord ++ entry (sym (add-one i) j)) ∷ sym (from-one (members 64 row)) j ∷ close ∷ []))
 
 -- an order that is longer than its list has the list's entries
-order-parts : (len c : ℕ) (order : List ℕ) → c ≡ min len 64 → length order ≡ 64 → orderLine len order ≡ parts (orderWord ∷ over entry (take c order) ∷ close ∷ [])
+order-parts : (len c : ℕ) (order : List ℕ) → c ≡ min len 64 → length order ≡ 64
+    → orderLine len order ≡ parts (orderWord ∷ over entry (take c order) ∷ close ∷ [])
 unfolding orderLine
-order-parts len c order e full = line-parts orderWord (take len order) ∙ ap (λ (l : List ℕ). parts (orderWord ∷ over entry l ∷ close ∷ [])) (cut (decLe len 64))
+order-parts len c order e full = line-parts orderWord (take len order)
+    ∙ ap (λ (l : List ℕ). parts (orderWord ∷ over entry l ∷ close ∷ [])) (cut (decLe len 64))
   where
     cut : Dec (len ≤ 64) → take len order ≡ take c order
     cut (yes h) = let all : len ≡ c = omega arith in rw all
     cut (no h) = take-all len order (omega arith) ∙ sym (take-all c order (omega arith))
 
-marking-parts : (m : ℕ) → markingLine m ≡ parts (markingWord ∷ over (λ (v : ℕ). entry (0 + v)) (members 64 m) ∷ close ∷ [])
+marking-parts : (m : ℕ) → markingLine m ≡ parts (markingWord ∷ over (λ (v : ℕ). entry (0 + v)) (members 64 m) ∷ close
+    ∷ [])
 unfolding markingLine
-marking-parts m = line-parts markingWord (members 64 m) ∙ ap (λ (t : List ℕ). parts (markingWord ∷ t ∷ close ∷ [])) (sym (from-zero (members 64 m)))
+marking-parts m = line-parts markingWord (members 64 m)
+    ∙ ap (λ (t : List ℕ). parts (markingWord ∷ t ∷ close ∷ [])) (sym (from-zero (members 64 m)))
 
-value-parts : (v writer : ℕ) → (writer ≡ 0 → ⊥) → valueLine v writer ≡ parts ((valueWord ++ entry v) ∷ entry writer ∷ close ∷ [])
+value-parts : (v writer : ℕ) → (writer ≡ 0 → ⊥) → valueLine v writer
+    ≡ parts ((valueWord ++ entry v) ∷ entry writer ∷ close ∷ [])
 unfolding valueLine
 value-parts v writer some = rw (ne-eqb writer 0 some) (pair-parts valueWord v writer)
 
-refused-parts : (number second : ℕ) → refusedLine number second ≡ parts ((refusedWord ++ entry number) ∷ entry second ∷ close ∷ [])
+refused-parts : (number second : ℕ) → refusedLine number second
+    ≡ parts ((refusedWord ++ entry number) ∷ entry second ∷ close ∷ [])
 unfolding refusedLine
 refused-parts number second = pair-parts refusedWord number second
 
@@ -93,13 +105,16 @@ module _ (i row : ℕ) (some : row ≡ 0 → ⊥) where
   pub after-first : First (afterLine i row) (afterWord ++ entry (i + 1))
   after-first = first-room _ _ _ (after-parts i row some)
 
-  pub after-second : Second (afterLine i row) (afterWord ++ entry (i + 1)) (over (λ (v : ℕ). entry (1 + v)) (members 64 row))
+  pub after-second : Second (afterLine i row) (afterWord ++ entry (i + 1))
+      (over (λ (v : ℕ). entry (1 + v)) (members 64 row))
   after-second = second-room _ _ _ _ (after-parts i row some)
 
-  pub after-third : Third (afterLine i row) (afterWord ++ entry (i + 1)) (over (λ (v : ℕ). entry (1 + v)) (members 64 row)) close
+  pub after-third : Third (afterLine i row) (afterWord ++ entry (i + 1))
+      (over (λ (v : ℕ). entry (1 + v)) (members 64 row)) close
   after-third = third-room _ _ _ _ _ (after-parts i row some)
 
-  pub after-whole : Three (afterLine i row) (afterWord ++ entry (i + 1)) (over (λ (v : ℕ). entry (1 + v)) (members 64 row)) close
+  pub after-whole : Three (afterLine i row) (afterWord ++ entry (i + 1))
+      (over (λ (v : ℕ). entry (1 + v)) (members 64 row)) close
   after-whole = three-emits _ _ _ _ (after-parts i row some)
 
 module _ (len c : ℕ) (order : List ℕ) (e : c ≡ min len 64) (full : length order ≡ 64) where

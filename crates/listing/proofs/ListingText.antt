@@ -9,8 +9,10 @@ use lib.Seq.{length-take-le}
 use borrow.Author.Tests.{eq-eqb, ne-eqb, le-leb, lt-leb}
 use Rattle.answering.specs.declared.Judged.{Judged}
 use Rattle.emit.specs.Emit.{Room, Emits}
-use Rattle.emit.proofs.Chains.{parts, First, Second, Third, Two, Three, first-room, second-room, third-room, two-emits, three-emits, room-as, emits-length, emits-end, emits-whole, emits-take}
-use Rattle.listing.specs.Listing.{movedLine, afterLines, orderLine, markingLine, valueLines, refusedLine, movedText, listing}
+use Rattle.emit.proofs.Chains.{parts, First, Second, Third, Two, Three, first-room, second-room, third-room, two-emits}
+use Rattle.emit.proofs.Chains.{three-emits, room-as, emits-length, emits-end, emits-whole, emits-take}
+use Rattle.listing.specs.Listing.{movedLine, afterLines, orderLine, markingLine, valueLines, refusedLine}
+use Rattle.listing.specs.Listing.{movedText, listing}
 use Rattle.listing.specs.Written.{writtenFor, outAfter}
 
 abbrev pub firstLines : Judged → List ℕ
@@ -26,7 +28,8 @@ module _ (a : Judged) where
 
   success-parts : a .number ≡ 0 → listing a ≡ parts (firstLines a ∷ lastLines a ∷ [])
   unfolding listing movedText parts
-  success-parts none = rw (eq-eqb (a .number) 0 none) (ap (λ (t : List ℕ). firstLines a ++ t) (sym (append-nil (lastLines a))))
+  success-parts none = rw (eq-eqb (a .number) 0 none)
+      (ap (λ (t : List ℕ). firstLines a ++ t) (sym (append-nil (lastLines a))))
 
   pub refusal-room : (a .number ≡ 0 → ⊥) → First (listing a) (refusedLine (a .number) (a .second))
   refusal-room some o n r = room-as r (refusal-is some)
@@ -108,7 +111,8 @@ module _ (a : Judged) (short : length (listing a) ≤ 7053) (o : List ℕ) (long
       pub copy-out : (q : List ℕ) (k : ℕ) → Emits (take end p) out 0 q k → q ≡ outAfter a out
       copy-out q k x =
           let same : take end p ≡ listing a = emits-take any-room w in
-          passed-out a out end (emits-end w) enough q (emits-whole copy-room x ∙ ap (λ (t : List ℕ). t ++ drop (length t) out) same)
+          passed-out a out end (emits-end w) enough q
+          (emits-whole copy-room x ∙ ap (λ (t : List ℕ). t ++ drop (length t) out) same)
 
 -- the array that the text is written to apart
 pub apart-long : 7053 ≤ length (replicate {A = ℕ} 7053 0)

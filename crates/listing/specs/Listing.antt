@@ -9,7 +9,8 @@ use Rattle.emit.specs.Numbers.{entry, over}
 use Rattle.slice.specs.Order.{inTurn}
 use Rattle.answering.specs.declared.Judged.{Judged}
 
--- the fixed texts: `(moved (kept`, `) (dropped`, `))` and LF, `(after`, `(order`, `(marking`, `(value`, `(refused`, `)` and LF
+-- the fixed texts: `(moved (kept`, `) (dropped`, `))` and LF, `(after`, `(order`, `(marking`, `(value`, `(refused`, `)`
+-- and LF
 abbrev pub movedWord : List ℕ
 movedWord = 40 ∷ 109 ∷ 111 ∷ 118 ∷ 101 ∷ 100 ∷ 32 ∷ 40 ∷ 107 ∷ 101 ∷ 112 ∷ 116 ∷ []
 
@@ -48,7 +49,8 @@ movedLine kept dropped =
     (movedWord ++ entry (count 64 kept))
     ++ ((droppedWord ++ entry dropped) ++ movedEnd)
 
--- `(after I J ..)`: "An `after` line gives a kept occurrence and all kept ones that it comes after, if any". Occurrence k is bit k - 1.
+-- `(after I J ..)`: "An `after` line gives a kept occurrence and all kept ones that it comes after, if any". Occurrence
+-- k is bit k - 1.
 unfoldable pub afterLine : ℕ → ℕ → List ℕ
 afterLine i row =
     cond (eqb row 0) []

@@ -11,12 +11,15 @@ use Rattle.route.specs.Steps.{blank}
 use Rattle.route.specs.declared.Step.{Step}
 use Rattle.matching.specs.Straight.{allOf}
 
-pub allOf-intro : (t : Step → Bool) (l : List Step) → ((i : ℕ) → i < length l → t (getD l i blank) ≡ true) → allOf t l ≡ true
+pub allOf-intro : (t : Step → Bool) (l : List Step) → ((i : ℕ) → i < length l → t (getD l i blank) ≡ true)
+    → allOf t l ≡ true
 unfolding allOf
 allOf-intro t [] h = refl
-allOf-intro t (s ∷ l) h = ap₂ (λ (x y : Bool). x && y) (h 0 (omega arith)) (allOf-intro t l (λ i b. h (suc i) (omega arith)))
+allOf-intro t (s ∷ l) h = ap₂ (λ (x y : Bool). x && y) (h 0 (omega arith))
+    (allOf-intro t l (λ i b. h (suc i) (omega arith)))
 
-pub allOf-elim : (t : Step → Bool) (l : List Step) → allOf t l ≡ true → (i : ℕ) → i < length l → t (getD l i blank) ≡ true
+pub allOf-elim : (t : Step → Bool) (l : List Step) → allOf t l ≡ true → (i : ℕ) → i < length l
+    → t (getD l i blank) ≡ true
 unfolding allOf
 allOf-elim t [] h i b = absurd (not-suc-le-zero b)
 allOf-elim t (s ∷ l) h zero b = both (t s) (allOf t l) h .0

@@ -7,4 +7,5 @@ use borrow.Author.Tests.{eqb-true, eqb-false}
 use Rattle.mask.proofs.Truth.{split}
 
 pub either : {P : Type 0} (a b : ℕ) → (a ≡ b → P) → ((a ≡ b → ⊥) → P) → P
-either {P} a b same differ = split (λ (t : Bool). P) (eqb a b) (λ u. same (eqb-true a b u)) (λ u. differ (eqb-false a b u))
+either {P} a b same differ = split (λ (t : Bool). P) (eqb a b) (λ u. same (eqb-true a b u))
+    (λ u. differ (eqb-false a b u))

@@ -53,7 +53,8 @@ module _ (j : Job) where
 
   -- rows 6 to 9 have been asked: b is what they say, t that they pass. `line` is that of `(job)`
   module _
-      (b : Begun) (occurrences : List ℕ) (begun : BegunOf j b occurrences) (t : Bool) (test : t ≡ eqb (b .outcome .number) 0)
+      (b : Begun) (occurrences : List ℕ) (begun : BegunOf j b occurrences) (t : Bool)
+      (test : t ≡ eqb (b .outcome .number) 0)
       (line : ℕ) (line-is : line ≡ jobLine j) where
     number-is : eqb (ran j .number) 0 ≡ t
     number-is = sym (test ∙ ap (λ (x : Outcome). eqb (x .number) 0) (begun .outcome-is))

@@ -1,5 +1,5 @@
--- Straight replay: the whole done list in its own order on the new route. `l` is the list of the steps done, `new` the new route's steps,
--- `from` the new start.
+-- Straight replay: the whole done list in its own order on the new route. `l` is the list of the steps done, `new` the
+-- new route's steps, `from` the new start.
 use mathlib.Core.Path.{_≡_}
 use mathlib.Core.Bool.{Bool, true, false, _&&_}
 use mathlib.Core.List.{List, [], _∷_, map}
@@ -25,7 +25,8 @@ unfoldable pub allOf : (Step → Bool) → List Step → Bool
 allOf t [] = true
 allOf t (s ∷ l) = t s && allOf t l
 
--- firing in turn the new route's steps of these names: the marking at the end, or none where one isn't there or can't fire
+-- firing in turn the new route's steps of these names: the marking at the end, or none where one isn't there or can't
+-- fire
 unfoldable pub fireAll : List Step → ℕ → List Step → Option ℕ
 fireAll new m [] = some m
 fireAll new m (s ∷ l) = ifFires m (lookup (s .name) new) none none (λ t m′. fireAll new m′ l)
@@ -34,7 +35,8 @@ fireAll new m (s ∷ l) = ifFires m (lookup (s .name) new) none none (λ t m′.
 unfoldable pub stepsOn : List Step → List ℕ → List Step
 stepsOn l o = map (λ (i : ℕ). getD l i blank) o
 
--- where there is a straight list: "each name is in the new route with the same reads and writes, and all fire from the new start"
+-- where there is a straight list: "each name is in the new route with the same reads and writes, and all fire from the
+-- new start"
 unfoldable pub runsStraight : ℕ → List Step → List Step → Bool
 runsStraight from new l = allOf (sameStep new) l && isSome (fireAll new from l)
 

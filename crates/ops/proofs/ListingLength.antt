@@ -1,4 +1,5 @@
--- No listing of a sheet is longer than 7,053 bytes: judge's answers have a bound of their own, and a refusal is one short line.
+-- No listing of a sheet is longer than 7,053 bytes: judge's answers have a bound of their own, and a refusal is one
+-- short line.
 use mathlib.Core.Path.{_≡_, refl}
 use mathlib.Core.Bool.{Bool, true, false, cond}
 use mathlib.Core.List.{List}
@@ -23,7 +24,8 @@ listing-length s = go (eqb (readOf s .number) 0) refl
     stopped n k e = rw e (omega (arith, refused-long (judgeStopped n k)))
 
     go : (t : Bool) → eqb (readOf s .number) 0 ≡ t
-        → length (listing (cond t (judged (jobRead (readOf s)) 8192) (judgeStopped (readOf s .number) (readOf s .second)))) ≤ 7053
+        → length (listing (cond t (judged (jobRead (readOf s)) 8192)
+        (judgeStopped (readOf s .number) (readOf s .second)))) ≤ 7053
     go true e = longest (jobRead (readOf s)) 8192
     go false e = stopped (readOf s .number) (readOf s .second) e
 

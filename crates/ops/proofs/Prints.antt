@@ -31,7 +31,8 @@ enough-work j room h = sym (cond-yes _ _ refl (le-leb 8192 room h))
 
 module _ (s : List ℕ) (r : Counts) (old new done : List ℕ) (k : ReadTo s r old new done) where
   abbrev job : Job
-  job = flatJob (r .«old_places») (take (4 * r .«old_len») old) (r .«new_places») (take (4 * r .«new_len») new) (take (r .«done_len») done)
+  job = flatJob (r .«old_places») (take (4 * r .«old_len») old) (r .«new_places») (take (4 * r .«new_len») new)
+      (take (r .«done_len») done)
 
   module _ (off : r .number ≡ 0 → ⊥) where
     refused : eqb (readOf s .number) 0 ≡ false
@@ -86,7 +87,8 @@ module _ (s w o : List ℕ) where
   module _ (long : 8192 ≤ length w) (a : Judged) (told : a ≡ sheetAnswer s) where
     pub printed-long : (x : Written) → x ≡ writtenFor a (length o) → x ≡ printed s (length w) (length o)
     unfolding printed
-    printed-long x e = e ∙ ap (λ (y : Judged). writtenFor y (length o)) told ∙ cond-yes _ _ refl (le-leb 8192 (length w) long)
+    printed-long x e = e ∙ ap (λ (y : Judged). writtenFor y (length o)) told
+        ∙ cond-yes _ _ refl (le-leb 8192 (length w) long)
 
     pub out-long : (x : List ℕ) → x ≡ outAfter a o → x ≡ outPrinted s (length w) o
     unfolding outPrinted
@@ -95,9 +97,13 @@ module _ (s w o : List ℕ) where
 -- the bytes written lie in the out slice
 pub written-fits : (a : Written) (s : List ℕ) (work room : ℕ) → a ≡ printed s work room → a .written ≤ room
 unfolding printed writtenFor
-written-fits a s work room is = subst (λ (w : Written). w .written ≤ room) (sym is) (go (leb 8192 work) (leb (length (listing (sheetAnswer s))) room) refl)
+written-fits a s work room is = subst (λ (w : Written). w .written ≤ room) (sym is)
+    (go (leb 8192 work) (leb (length (listing (sheetAnswer s))) room) refl)
   where
-    go : (t u : Bool) → leb (length (listing (sheetAnswer s))) room ≡ u → cond {A = Written} t (cond u (record { number = 0; second = 0; written = length (listing (sheetAnswer s)) }) (record { number = 15; second = length (listing (sheetAnswer s)); written = 0 })) (record { number = 14; second = 0; written = 0 }) .written ≤ room
+    go : (t u : Bool) → leb (length (listing (sheetAnswer s))) room ≡ u
+        → cond {A = Written} t (cond u (record { number = 0; second = 0; written = length (listing (sheetAnswer s)) })
+        (record { number = 15; second = length (listing (sheetAnswer s)); written = 0 }))
+        (record { number = 14; second = 0; written = 0 }) .written ≤ room
     go true true e = leb-true (length (listing (sheetAnswer s))) room e
     go true false e = omega arith
     go false u e = omega arith

@@ -33,23 +33,33 @@ unfolding factsRecord
 old-records s z =
     let r = reads-as scope s z in
     ap (λ (y : Sheet). length (y .old .steps)) (r .facts)
-    ∙ filled-length _ _ (omega (arith, length-map (r .lines .old) recordOf, lines-fine scope (r .lines) (r .passes) .oldFew))
+    ∙ filled-length _ _ (omega (
+      arith,
+      length-map (r .lines .old) recordOf,
+      lines-fine scope (r .lines) (r .passes) .oldFew,
+    ))
 
 new-records : (s : List ℕ) → readOf s .number ≡ 0 → length (readOf s .new .steps) ≡ 64
 unfolding factsRecord
 new-records s z =
     let r = reads-as scope s z in
     ap (λ (y : Sheet). length (y .new .steps)) (r .facts)
-    ∙ filled-length _ _ (omega (arith, length-map (r .lines .new) recordOf, lines-fine scope (r .lines) (r .passes) .newFew))
+    ∙ filled-length _ _ (omega (
+      arith,
+      length-map (r .lines .new) recordOf,
+      lines-fine scope (r .lines) (r .passes) .newFew,
+    ))
 
 stepsOf-short : (r : Route) → r .len ≤ 64 → take (r .len) (r .steps) ≡ stepsOf r
 unfolding stepsOf
 stepsOf-short r h =
     let none : r .len - 64 ≡ 0 = omega arith in
-    sym (append-nil (take (r .len) (r .steps))) ∙ ap (λ (n : ℕ). take (r .len) (r .steps) ++ replicate n blank) (sym none)
+    sym (append-nil (take (r .len) (r .steps))) ∙ ap (λ (n : ℕ). take (r .len) (r .steps) ++ replicate n blank)
+    (sym none)
 
 -- the numbers of a route's steps, up to its length
-steps-in : (w : List ℕ) (n : ℕ) (r : Route) → n ≤ 64 → n ≡ r .len → stepsIn w ≡ r .steps → stepsIn (take (4 * n) w) ≡ stepsOf r
+steps-in : (w : List ℕ) (n : ℕ) (r : Route) → n ≤ 64 → n ≡ r .len → stepsIn w ≡ r .steps
+    → stepsIn (take (4 * n) w) ≡ stepsOf r
 steps-in w n r h e is =
     flat-take w n ∙ ap₂ (λ (k : ℕ) (l : List Step). take k l) e is ∙ stepsOf-short r (omega (arith, e))
 
@@ -66,7 +76,8 @@ module _ (s : List ℕ) (r : Counts) (old new done : List ℕ) (k : ReadTo s r o
   pub done-room : r .«done_len» ≤ length done
   done-room = omega (arith, ap length (k .done-names z) ∙ read-dones scope s .room, k .done-few)
 
-  pub read-job : flatJob (r .«old_places») (take (4 * r .«old_len») old) (r .«new_places») (take (4 * r .«new_len») new) (take (r .«done_len») done) ≡ jobRead (readOf s)
+  pub read-job : flatJob (r .«old_places») (take (4 * r .«old_len») old) (r .«new_places») (take (4 * r .«new_len») new)
+      (take (r .«done_len») done) ≡ jobRead (readOf s)
   read-job = λ i. record {
     oldPlaces = k .old-places i;
     old = steps-in old (r .«old_len») (readOf s .old) (k .old-few) (k .old-len) (k .old-steps z) i;
@@ -75,5 +86,6 @@ module _ (s : List ℕ) (r : Counts) (old new done : List ℕ) (k : ReadTo s r o
     done = ap₂ (λ (n : ℕ) (l : List ℕ). take n l) (k .done-len) (k .done-names z) i;
   }
 
-  pub read-passes : LinesPass (flatJob (r .«old_places») (take (4 * r .«old_len») old) (r .«new_places») (take (4 * r .«new_len») new) (take (r .«done_len») done))
+  pub read-passes : LinesPass (flatJob (r .«old_places») (take (4 * r .«old_len») old) (r .«new_places»)
+      (take (4 * r .«new_len») new) (take (r .«done_len») done))
   read-passes = subst LinesPass (sym read-job) (read-lines s reads)

@@ -22,7 +22,9 @@ module _ (s order : List ℕ) (r : Counts) (old new done : List ℕ) (k : ReadTo
       ∙ (λ i. tryStopped (k .number i) (k .second i))
       ∙ cond-no _ _ refl (ne-eqb (readOf s .number) 0 (λ z. off (k .number ∙ z)))
 
-  pub try-tried : r .number ≡ 0 → (t : Tried) → t ≡ tried (flatJob (r .«old_places») (take (4 * r .«old_len») old) (r .«new_places») (take (4 * r .«new_len») new) (take (r .«done_len») done)) order → t ≡ triedSheet s order
+  pub try-tried : r .number ≡ 0 → (t : Tried) → t
+      ≡ tried (flatJob (r .«old_places») (take (4 * r .«old_len») old) (r .«new_places») (take (4 * r .«new_len») new)
+      (take (r .«done_len») done)) order → t ≡ triedSheet s order
   unfolding triedSheet triedFacts
   try-tried z t e =
       e

@@ -22,13 +22,24 @@ pub record Copied (places len : ℕ) (l : List Step) (r : Route) (i : ℕ) : Typ
   pub whole : 0 < i → length l ≡ 64
   pub same : take i (r .steps) ≡ take i l
 
-pub copied-init : (places len : ℕ) (l : List Step) (e : Route) → e ≡ noRoute → Copied places len l (record { places = places; len = len; steps = e .steps }) 0
-copied-init places len l e is = record { few = omega arith; places-is = refl; len-is = refl; long = ap (λ (x : Route). length (x .steps)) is ∙ length-replicate {A = Step} 64 blank; whole = λ z. absurd (omega (arith, z)); same = refl }
+pub copied-init : (places len : ℕ) (l : List Step) (e : Route) → e ≡ noRoute
+    → Copied places len l (record { places = places; len = len; steps = e .steps }) 0
+copied-init places len l e is = record {
+  few = omega arith;
+  places-is = refl;
+  len-is = refl;
+  long = ap (λ (x : Route). length (x .steps)) is ∙ length-replicate {A = Step} 64 blank;
+  whole =
+      λ z. absurd (omega (arith, z));
+  same = refl;
+}
 
 pub steps-room : (list : List ℕ) (i : ℕ) → length list ≡ 256 → i < 64 → i < length (stepsIn list)
 steps-room list i h r = omega (arith, length-flat list, h)
 
-pub copied-step : (places len : ℕ) (list : List ℕ) (r : Route) (i : ℕ) (s : Step) → Copied places len (stepsIn list) r i → length list ≡ 256 → i < 64 → s ≡ getD (stepsIn list) i blank → Copied places len (stepsIn list) (record { places = r .places; len = r .len; steps = set (r .steps) i s }) (i + 1)
+pub copied-step : (places len : ℕ) (list : List ℕ) (r : Route) (i : ℕ) (s : Step) → Copied places len (stepsIn list) r i
+    → length list ≡ 256 → i < 64 → s ≡ getD (stepsIn list) i blank
+    → Copied places len (stepsIn list) (record { places = r .places; len = r .len; steps = set (r .steps) i s }) (i + 1)
 copied-step places len list r i s h room less is =
     record {
       few = omega (arith, less);
@@ -44,10 +55,12 @@ copied-step places len list r i s h room less is =
           ∙ sym (ap (λ (n : ℕ). take n (stepsIn list)) (add-one i));
     }
 
-pub copied-done : (places len : ℕ) (l : List Step) (r : Route) (i : ℕ) → Copied places len l r i → 64 ≤ i → r ≡ routeIn places len l
+pub copied-done : (places len : ℕ) (l : List Step) (r : Route) (i : ℕ) → Copied places len l r i → 64 ≤ i
+    → r ≡ routeIn places len l
 copied-done places len l r i h over =
     λ j. record {
       places = h .places-is j;
       len = h .len-is j;
-      steps = (sym (take-all i (r .steps) (omega (arith, h .long, over))) ∙ h .same ∙ take-all i l (omega (arith, h .whole (omega (arith, over)), over))) j;
+      steps = (sym (take-all i (r .steps) (omega (arith, h .long, over))) ∙ h .same
+          ∙ take-all i l (omega (arith, h .whole (omega (arith, over)), over))) j;
     }

@@ -22,7 +22,8 @@ use Rattle.facts.specs.JobPart.{afterLines, jobPart, PastLines}
 use Rattle.facts.specs.declared.Sheet.{Sheet}
 use Rattle.tokens.specs.Tokens.{Broken}
 use Rattle.lines.specs.Lines.{hasSteps}
-use Rattle.reader.specs.Prefix.{stateOf, Prefix, Upto, passed, withRoute, withDones, OldOn, NewOn, JobOn, StepsOn, DonesOn}
+use Rattle.reader.specs.Prefix.{stateOf, Prefix, Upto, passed, withRoute, withDones, OldOn, NewOn, JobOn, StepsOn}
+use Rattle.reader.specs.Prefix.{DonesOn}
 use Rattle.reader.specs.Read.{noCounts, ReadInto, ReadTo, routeIn}
 use Rattle.reader.specs.declared.Pass.{Pass}
 use Rattle.reader.specs.declared.Head.{Head}
@@ -36,10 +37,12 @@ broken-read : (v : Version) (s : List ℕ) (i : ℕ) → Broken v s i → readBy
 unfolding readBy answered
 broken-read v s i h = ap (answered v (length s)) (h .same) ∙ ap (failed 1) (omega (arith, length-drop i s, h .within))
 
-whole-read : (v : Version) (s : List ℕ) (i : ℕ) (k : State) → Prefix v s i JobPart k → length s ≤ i → readBy v s ≡ k .sheet
+whole-read : (v : Version) (s : List ℕ) (i : ℕ) (k : State) → Prefix v s i JobPart k → length s ≤ i
+    → readBy v s ≡ k .sheet
 unfolding readBy answered run atEnd stateOf
 whole-read v s i k h over =
-    ap (answered v (length s)) (h .reading .same ∙ ap (run v (Open JobPart) noLine (h .lines)) (drop-of-length-le s over))
+    ap (answered v (length s)) (h .reading .same ∙ ap (run v (Open JobPart) noLine (h .lines))
+    (drop-of-length-le s over))
     ∙ sym (whole-state v (h .lines)) ∙ ap (λ (x : State). x .sheet) (h .state)
 
 -- ---- the parts
@@ -55,7 +58,8 @@ sheetWith op ol np nl dl old new done =
       done = done;
     }
 
-module _ (v : Version) (s : List ℕ) (old new : List ℕ) (done₀ done : List ℕ) (a : Head) (b : Filled) (c : Head) (d : Filled) (e : Pass) (f : Filled)
+module _ (v : Version) (s : List ℕ) (old new : List ℕ) (done₀ done : List ℕ) (a : Head) (b : Filled) (c : Head)
+    (d : Filled) (e : Pass) (f : Filled)
     (ha : OldOn v s a)
     (hb : StepsOn v s (a .pass) (a .places) b (stepsIn old))
     (hc : NewOn v s (b .pass) (b .len) c)
@@ -75,19 +79,26 @@ module _ (v : Version) (s : List ℕ) (old new : List ℕ) (done₀ done : List 
       let new-head = hc .goes one refl refl (hb .over) old-steps in
       let new-steps = hd .goes NewRoute one refl refl new-head in
       let job = he .goes v two refl refl (hd .over) new-steps in
-      hf .goes two refl (subst (λ (l : List ℕ). Upto v s (e .at) (e .ok) JobPart (passed (e .lines) (e .outcome) (withDones 0 l two))) (sym none) job)
+      hf .goes two refl (subst (λ (l : List ℕ). Upto v s (e .at) (e .ok) JobPart
+      (passed (e .lines) (e .outcome) (withDones 0 l two))) (sym none) job)
 
-  broken-to : (r : Counts) → r ≡ noCounts 1 (f .pass .at) → not (f .pass .ok) ≡ true → readBy v s ≡ failed 1 (f .pass .at)
+  broken-to : (r : Counts) → r ≡ noCounts 1 (f .pass .at) → not (f .pass .ok) ≡ true
+      → readBy v s ≡ failed 1 (f .pass .at)
   unfolding Upto
-  broken-to r is bad = broken-read v s (f .pass .at) (subst (λ (x : Bool). Upto v s (f .pass .at) x JobPart (passed (f .pass .lines) (f .pass .outcome) sheet)) (not-true (f .pass .ok) bad) all-parts)
+  broken-to r is bad = broken-read v s (f .pass .at)
+      (subst (λ (x : Bool). Upto v s (f .pass .at) x JobPart (passed (f .pass .lines) (f .pass .outcome) sheet))
+      (not-true (f .pass .ok) bad) all-parts)
 
   reads : not (f .pass .ok) ≡ false → readBy v s ≡ settled (f .pass .outcome) sheet
   unfolding Upto
   reads good =
       let held = not-false (f .pass .ok) good in
-      whole-read v s (f .pass .at) _ (subst (λ (x : Bool). Upto v s (f .pass .at) x JobPart (passed (f .pass .lines) (f .pass .outcome) sheet)) held all-parts) (hf .all held)
+      whole-read v s (f .pass .at) _ (subst (λ (x : Bool).
+      Upto v s (f .pass .at) x JobPart (passed (f .pass .lines) (f .pass .outcome) sheet)) held all-parts)
+      (hf .all held)
 
-  refused-to : (n k : ℕ) (r : Counts) → (n ≡ 0 → ⊥) → r ≡ noCounts n k → readBy v s ≡ failed n k → ReadInto v s r old new done
+  refused-to : (n k : ℕ) (r : Counts) → (n ≡ 0 → ⊥) → r ≡ noCounts n k → readBy v s ≡ failed n k
+      → ReadInto v s r old new done
   unfolding failed
   refused-to n k r far is h =
       subst (λ (x : Counts). ReadInto v s x old new done) (sym is)
@@ -112,10 +123,21 @@ module _ (v : Version) (s : List ℕ) (old new : List ℕ) (done₀ done : List 
   pub read-broken : (r : Counts) → r ≡ noCounts 1 (f .pass .at) → not (f .pass .ok) ≡ true → ReadInto v s r old new done
   read-broken r is bad = refused-to 1 (f .pass .at) r (λ z. omega (arith, z)) is (broken-to r is bad)
 
-  pub read-refused : (r : Counts) → r ≡ noCounts (f .pass .outcome .number) (f .pass .outcome .second) → not (f .pass .ok) ≡ false → (f .pass .outcome .number ≡ 0 → ⊥) → ReadInto v s r old new done
-  read-refused r is good far = refused-to (f .pass .outcome .number) (f .pass .outcome .second) r far is (reads good ∙ settled-no (f .pass .outcome) sheet far)
+  pub read-refused : (r : Counts) → r ≡ noCounts (f .pass .outcome .number) (f .pass .outcome .second)
+      → not (f .pass .ok) ≡ false → (f .pass .outcome .number ≡ 0 → ⊥) → ReadInto v s r old new done
+  read-refused r is good far = refused-to (f .pass .outcome .number) (f .pass .outcome .second) r far is
+      (reads good ∙ settled-no (f .pass .outcome) sheet far)
 
-  pub read-facts : not (f .pass .ok) ≡ false → f .pass .outcome .number ≡ 0 → ReadInto v s (record { number = 0; second = 0; «old_places» = a .places; «old_len» = b .len; «new_places» = c .places; «new_len» = d .len; «done_len» = f .len }) old new done
+  pub read-facts : not (f .pass .ok) ≡ false → f .pass .outcome .number ≡ 0
+      → ReadInto v s (record {
+        number = 0;
+        second = 0;
+        «old_places» = a .places;
+        «old_len» = b .len;
+        «new_places» = c .places;
+        «new_len» = d .len;
+        «done_len» = f .len;
+      }) old new done
   read-facts good zero =
       let h = reads good ∙ settled-yes (f .pass .outcome) sheet zero in
       record {
@@ -142,23 +164,35 @@ module _ (s : List ℕ) (r : Counts) (old new done : List ℕ) (h : ReadTo s r o
   pub sheet-refused : (x : Sheet) → (r .number ≡ 0 → ⊥) → x ≡ failed (r .number) (r .second) → x ≡ readOf s
   sheet-refused x far is = is ∙ sym (h .refused far)
 
-  pub sheet-read : (a b : Route) → r .number ≡ 0 → a ≡ routeIn (r .«old_places») (r .«old_len») (stepsIn old) → b ≡ routeIn (r .«new_places») (r .«new_len») (stepsIn new) → record { number = 0; second = 0; old = a; new = b; «done_len» = r .«done_len»; done = done } ≡ readOf s
+  pub sheet-read : (a b : Route) → r .number ≡ 0 → a ≡ routeIn (r .«old_places») (r .«old_len») (stepsIn old)
+      → b ≡ routeIn (r .«new_places») (r .«new_len») (stepsIn new)
+      → record { number = 0; second = 0; old = a; new = b; «done_len» = r .«done_len»; done = done } ≡ readOf s
   sheet-read a b z p q =
       let number : 0 ≡ readOf s .number = sym z ∙ h .number in
       let second : 0 ≡ readOf s .second = sym (h .none z) ∙ h .second in
       let old-route : a ≡ readOf s .old = p ∙ (λ j. routeIn (h .old-places j) (h .old-len j) (h .old-steps z j)) in
       let new-route : b ≡ readOf s .new = q ∙ (λ j. routeIn (h .new-places j) (h .new-len j) (h .new-steps z j)) in
-      λ j. record { number = number j; second = second j; old = old-route j; new = new-route j; «done_len» = h .done-len j; done = h .done-names z j }
+      λ j. record {
+        number = number j;
+        second = second j;
+        old = old-route j;
+        new = new-route j;
+        «done_len» = h .done-len j;
+        done = h .done-names z j;
+      }
 
   pub part-refused : (r .number ≡ 0 → ⊥) → _≡_ {A = List ℕ} [] (jobPart s)
   unfolding jobPart
   part-refused far =
-      sym (ap (λ (t : Bool). cond t (afterLines (readOf s .old .len + readOf s .new .len + 2) s) []) (ap (λ (n : ℕ). eqb n 0) (sym (h .number)) ∙ ne-eqb (r .number) 0 far))
+      sym (ap (λ (t : Bool). cond t (afterLines (readOf s .old .len + readOf s .new .len + 2) s) [])
+      (ap (λ (n : ℕ). eqb n 0) (sym (h .number)) ∙ ne-eqb (r .number) 0 far))
 
-  pub part-read : (k : ℕ) → r .number ≡ 0 → PastLines (r .«old_len» + r .«new_len» + 2) s k → take (length s - k) (drop k s) ≡ jobPart s
+  pub part-read : (k : ℕ) → r .number ≡ 0 → PastLines (r .«old_len» + r .«new_len» + 2) s k
+      → take (length s - k) (drop k s) ≡ jobPart s
   unfolding jobPart
   part-read k z past =
       take-all (length s - k) (drop k s) (omega (arith, length-drop k s))
       ∙ past .rest
       ∙ (λ j. afterLines (h .old-len j + h .new-len j + 2) s)
-      ∙ sym (ap (λ (t : Bool). cond t (afterLines (readOf s .old .len + readOf s .new .len + 2) s) []) (ap (λ (n : ℕ). eqb n 0) (sym (h .number)) ∙ eq-eqb (r .number) 0 z))
+      ∙ sym (ap (λ (t : Bool). cond t (afterLines (readOf s .old .len + readOf s .new .len + 2) s) [])
+      (ap (λ (n : ℕ). eqb n 0) (sym (h .number)) ∙ eq-eqb (r .number) 0 z))

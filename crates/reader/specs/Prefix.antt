@@ -15,7 +15,8 @@ use Rattle.layout.specs.Parse.{noLine}
 use Rattle.layout.specs.declared.Part.{Part}
 use Rattle.layout.specs.declared.Part.the-variants.{OldRoute, NewRoute, JobPart}
 use Rattle.layout.specs.declared.Point.the-variants.{Open}
-use Rattle.facts.specs.Facts.{State, failed, settled, headed, withOld, withNew, oldHead, newHead, jobHead, doneIn, stepIn, more, nothing}
+use Rattle.facts.specs.Facts.{State, failed, settled, headed, withOld, withNew, oldHead, newHead, jobHead, doneIn}
+use Rattle.facts.specs.Facts.{stepIn, more, nothing}
 use Rattle.facts.specs.declared.Sheet.{Sheet}
 use Rattle.tokens.specs.Tokens.{Reading, Broken}
 use Rattle.lines.specs.Lines.{hasSteps}
@@ -84,16 +85,22 @@ bare n = record { places = n; len = 0; steps = replicate 64 blank }
 pub record OldOn (v : Version) (s : List ℕ) (r : Head) : Type 0 where
   pub placed : Placed s (r .pass)
   pub fits : r .pass .outcome .number ≡ 0 → r .places ≤ 64
-  pub goes : Upto v s (r .pass .at) (r .pass .ok) OldRoute (passed (r .pass .lines) (r .pass .outcome) (withOld (bare (r .places)) (failed 0 0)))
+  pub goes : Upto v s (r .pass .at) (r .pass .ok) OldRoute
+      (passed (r .pass .lines) (r .pass .outcome) (withOld (bare (r .places)) (failed 0 0)))
 
 pub record NewOn (v : Version) (s : List ℕ) (p : Pass) (above : ℕ) (r : Head) : Type 0 where
   pub placed : Placed s (r .pass)
   pub fits : r .pass .outcome .number ≡ 0 → r .places ≤ 64
-  pub goes : (z : Sheet) → z .number ≡ 0 → z .old .len ≡ above → (p .ok ≡ true → NoStep s (p .at)) → Upto v s (p .at) (p .ok) OldRoute (passed (p .lines) (p .outcome) z) → Upto v s (r .pass .at) (r .pass .ok) NewRoute (passed (r .pass .lines) (r .pass .outcome) (withNew (headed (r .places) (z .new)) z))
+  pub goes : (z : Sheet) → z .number ≡ 0 → z .old .len ≡ above → (p .ok ≡ true → NoStep s (p .at))
+      → Upto v s (p .at) (p .ok) OldRoute (passed (p .lines) (p .outcome) z)
+      → Upto v s (r .pass .at) (r .pass .ok) NewRoute
+      (passed (r .pass .lines) (r .pass .outcome) (withNew (headed (r .places) (z .new)) z))
 
 pub record JobOn (s : List ℕ) (p : Pass) (above : ℕ) (r : Pass) : Type 0 where
   pub placed : Placed s r
-  pub goes : (v : Version) (z : Sheet) → z .number ≡ 0 → z .new .len ≡ above → (p .ok ≡ true → NoStep s (p .at)) → Upto v s (p .at) (p .ok) NewRoute (passed (p .lines) (p .outcome) z) → Upto v s (r .at) (r .ok) JobPart (passed (r .lines) (r .outcome) z)
+  pub goes : (v : Version) (z : Sheet) → z .number ≡ 0 → z .new .len ≡ above → (p .ok ≡ true → NoStep s (p .at))
+      → Upto v s (p .at) (p .ok) NewRoute (passed (p .lines) (p .outcome) z)
+      → Upto v s (r .at) (r .ok) JobPart (passed (r .lines) (r .outcome) z)
 
 -- ---- steps and done names
 
@@ -106,13 +113,26 @@ pub record StepsOn (v : Version) (s : List ℕ) (p : Pass) (places : ℕ) (r : F
   pub placed : Placed s (r .pass)
   pub few : r .len ≤ 64
   pub over : r .pass .ok ≡ true → NoStep s (r .pass .at)
-  pub goes : (q : Part) (z : Sheet) → hasSteps q ≡ true → z .number ≡ 0 → Upto v s (p .at) (p .ok) q (passed (p .lines) (p .outcome) (withRoute q (bare places) z)) → Upto v s (r .pass .at) (r .pass .ok) q (passed (r .pass .lines) (r .pass .outcome) (withRoute q (record { places = places; len = r .len; steps = list }) z))
+  pub goes : (q : Part) (z : Sheet) → hasSteps q ≡ true → z .number ≡ 0
+      → Upto v s (p .at) (p .ok) q (passed (p .lines) (p .outcome) (withRoute q (bare places) z))
+      → Upto v s (r .pass .at) (r .pass .ok) q (passed (r .pass .lines) (r .pass .outcome)
+      (withRoute q (record { places = places; len = r .len; steps = list }) z))
 
 abbrev pub withDones : ℕ → List ℕ → Sheet → Sheet
-withDones n l z = record { number = z .number; second = z .second; old = z .old; new = z .new; «done_len» = n; done = l }
+withDones n l z = record {
+  number = z .number;
+  second = z .second;
+  old = z .old;
+  new = z .new;
+  «done_len» = n;
+  done = l;
+}
 
 pub record DonesOn (v : Version) (s : List ℕ) (p : Pass) (r : Filled) (before after : List ℕ) : Type 0 where
   pub within : r .pass .at ≤ length s
   pub few : r .len ≤ 64
   pub all : r .pass .ok ≡ true → length s ≤ r .pass .at
-  pub goes : (z : Sheet) → z .number ≡ 0 → Upto v s (p .at) (p .ok) JobPart (passed (p .lines) (p .outcome) (withDones 0 before z)) → Upto v s (r .pass .at) (r .pass .ok) JobPart (passed (r .pass .lines) (r .pass .outcome) (withDones (r .len) after z))
+  pub goes : (z : Sheet) → z .number ≡ 0 → Upto v s (p .at) (p .ok) JobPart
+      (passed (p .lines) (p .outcome) (withDones 0 before z))
+      → Upto v s (r .pass .at) (r .pass .ok) JobPart
+      (passed (r .pass .lines) (r .pass .outcome) (withDones (r .len) after z))

@@ -26,7 +26,8 @@ pub copied-is : (a l : List Step) (i : ℕ) → i ≤ length l → i ≤ length 
 unfolding copied
 copied-is a l zero h k = sym (laid-none l a)
 copied-is a l (suc i) h k =
-    ap (λ (x : List Step). set x i (getD l i blank)) (copied-is a l i (omega arith) (omega arith)) ∙ laid-more blank l a i h k ∙ ap (λ (n : ℕ). laid n l a) (add-one i)
+    ap (λ (x : List Step). set x i (getD l i blank)) (copied-is a l i (omega arith) (omega arith))
+    ∙ laid-more blank l a i h k ∙ ap (λ (n : ℕ). laid n l a) (add-one i)
 
 drop-replicate : (n i : ℕ) (x : Step) → drop i (replicate n x) ≡ replicate (n - i) x
 drop-replicate n zero x = ap (λ (k : ℕ). replicate k x) (sym (sub-zero n))
@@ -38,14 +39,17 @@ abbrev pub blanks : List Step
 blanks = replicate 64 blank
 
 -- a list that was copied whole, and one that is longer than 64, make the route that is asked for
-pub loads-short : (p : ℕ) (l : List Step) → length l ≤ 64 → record { places = p; len = length l; steps = copied blanks l (length l) } ≡ loaded p l
+pub loads-short : (p : ℕ) (l : List Step) → length l ≤ 64
+    → record { places = p; len = length l; steps = copied blanks l (length l) } ≡ loaded p l
 unfolding loaded laid
 loads-short p l h = λ j. record { places = p; len = length l; steps = same j }
   where
     same : copied blanks l (length l) ≡ take 64 l ++ replicate (64 - length l) blank
-    same = copied-is blanks l (length l) (omega arith) (omega arith) ∙ ap₂ (λ (x y : List Step). x ++ y) (take-length l ∙ sym (take-all 64 l h)) (drop-replicate 64 (length l) blank)
+    same = copied-is blanks l (length l) (omega arith) (omega arith)
+        ∙ ap₂ (λ (x y : List Step). x ++ y) (take-length l ∙ sym (take-all 64 l h)) (drop-replicate 64 (length l) blank)
 
-pub loads-long : (p : ℕ) (l : List Step) → 64 < length l → record { places = p; len = length l; steps = copied blanks l 64 } ≡ loaded p l
+pub loads-long : (p : ℕ) (l : List Step) → 64 < length l
+    → record { places = p; len = length l; steps = copied blanks l 64 } ≡ loaded p l
 unfolding loaded laid
 loads-long p l h = λ j. record { places = p; len = length l; steps = same j }
   where
@@ -53,4 +57,5 @@ loads-long p l h = λ j. record { places = p; len = length l; steps = same j }
     none-left = omega arith
 
     same : copied blanks l 64 ≡ take 64 l ++ replicate (64 - length l) blank
-    same = copied-is blanks l 64 (omega arith) (omega arith) ∙ ap (λ (k : ℕ). take 64 l ++ replicate k blank) (sym none-left)
+    same = copied-is blanks l 64 (omega arith) (omega arith)
+        ∙ ap (λ (k : ℕ). take 64 l ++ replicate k blank) (sym none-left)

@@ -10,7 +10,8 @@ use mir.Val.{Val}
 use base.Fml.{fsep, fat}
 use prog.Wp.{Heap}
 use ghost.Atoms.{Atoms}
-use types.Kit.{Given, Goal, Item, Seq, Step as Moves, step, ‵, _$_, move, drop, use1, rewrite, fsplit, fjoin, fpick, fpack, feqI}
+use types.Kit.{Given, Goal, Item, Seq, Step as Moves, step, ‵, _$_, move, drop, use1, rewrite, fsplit, fjoin, fpick}
+use types.Kit.{fpack, feqI}
 use types.Share.{arr-parts}
 use denote.Array.{Array, arrayVal, array-makes}
 use denote.ArrayMemory.{array-apart, array-whole}

@@ -12,7 +12,8 @@ pub laid-none : {X : Type 0} (l a : List X) → laid 0 l a ≡ a
 unfolding laid
 laid-none l a = refl
 
-pub laid-more : {X : Type 0} (d : X) (l a : List X) (i : ℕ) → i < length l → i < length a → set (laid i l a) i (getD l i d) ≡ laid (i + 1) l a
+pub laid-more : {X : Type 0} (d : X) (l a : List X) (i : ℕ) → i < length l → i < length a
+    → set (laid i l a) i (getD l i d) ≡ laid (i + 1) l a
 unfolding laid
 laid-more {X} d l a i h k =
     ap (λ (x : List X). set (take i l ++ x) i (getD l i d)) (drop-cons a i d k)

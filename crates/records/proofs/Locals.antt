@@ -1,4 +1,5 @@
--- A function's locals in a walk: all of them allocated at once, read and assigned by their entry in the context, and freed with what they hold.
+-- A function's locals in a walk: all of them allocated at once, read and assigned by their entry in the context, and
+-- freed with what they hold.
 use mathlib.Core.Path.{_≡_, refl}
 use Prim.Native.Nat.{ℕ, zero}
 use mathlib.Core.List.{List, [], _∷_}

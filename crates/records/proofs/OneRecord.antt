@@ -14,7 +14,8 @@ use prog.Wp.{Heap, Env, Calls, Loops}
 use ghost.Atoms.{Atoms}
 use contract.Monad.{Fun}
 use sound.WpLaws.{FmC}
-use types.Kit.{Given, Item, Post, Seq, ‵, raw, _⊛_, ⋆, _$_, _∵_, !, qed, move, drop, use1, use2, split, join, rewrite, fjoin, lands, runs, frame, done}
+use types.Kit.{Given, Item, Post, Seq, ‵, raw, _⊛_, ⋆, _$_, _∵_, !, qed, move, drop, use1, use2, split, join, rewrite}
+use types.Kit.{fjoin, lands, runs, frame, done}
 use types.Run.{Opds}
 use denote.Laws.{Is}
 use denote.Plain.{uint-makes}

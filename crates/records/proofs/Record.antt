@@ -1,4 +1,5 @@
--- What the walks of this crate use of a step record and of an array of 64 of them: machine values, and that they have their types.
+-- What the walks of this crate use of a step record and of an array of 64 of them: machine values, and that they have
+-- their types.
 use mathlib.Core.Path.{_≡_, refl}
 use mathlib.Core.Bool.{Bool, true, false}
 use mathlib.Core.List.{List, [], _∷_}
@@ -41,7 +42,8 @@ abbrev pub bv : Val
 bv = St′.lowered blank
 
 pub is-blank : Is S blank (bv ∷ [])
-is-blank = LL.owes St.the-type St′.the-laws blank ((refl, lit< tt), ((refl, lit< tt), ((refl, lit< tt), ((refl, lit< tt), ((refl, lit< tt), tt)))))
+is-blank = LL.owes St.the-type St′.the-laws blank
+    ((refl, lit< tt), ((refl, lit< tt), ((refl, lit< tt), ((refl, lit< tt), ((refl, lit< tt), tt)))))
 
 -- the offset of the record at i in a lent list of n fits a word
 pub offset-fits : (i n : ℕ) → i < n → n * mem S .size < 2 ^ 63 → i * 32 < 2 ^ 64

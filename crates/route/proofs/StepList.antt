@@ -5,7 +5,8 @@ use mathlib.Core.List.{List, [], _∷_, _++_}
 use Prim.Native.Nat.{ℕ, zero, suc, _+_, _-_, _≤_, _<_, min}
 use native.Mathlib.Omega.{arith}
 use native.Mathlib.Numerals.{add-one}
-use lib.ListN.{length, take, drop, getD, replicate, length-append, length-take, length-replicate, length-map, List·getD-append, List·getD-map, drop-of-length-le}
+use lib.ListN.{length, take, drop, getD, replicate, length-append, length-take, length-replicate, length-map}
+use lib.ListN.{List·getD-append, List·getD-map, drop-of-length-le}
 use lib.Seq.{getD-append-add, drop-cons, getD-take}
 use lib.Bits.{bitOr, or-zero-r}
 use Rattle.mask.proofs.Laws.{or-assoc}

@@ -1,4 +1,5 @@
--- Loops over the variables of a mask, from the lowest up: the union of the entries there, and one more occurrence at each.
+-- Loops over the variables of a mask, from the lowest up: the union of the entries there, and one more occurrence at
+-- each.
 use mathlib.Core.Path.{_≡_, refl, sym, ap, ap₂, _∙_}
 use mathlib.Core.Bool.{Bool, true, false, not, cond, _&&_, _||_, or-false, and-true, and-false}
 use mathlib.Core.List.{List}
@@ -23,7 +24,8 @@ use Rattle.slice.proofs.Meeting.{or-meets, and-either}
 
 -- what is gathered so far, and the entries at the variables that are left
 pub record Gathering (by : List ℕ) (vars left m : ℕ) : Type 0 where
-  pub union : (f : ℕ → ℕ) (n : ℕ) → ByVariable f n by → (j : ℕ) → (has m j || (ltb j n && meets (f j) left)) ≡ (ltb j n && meets (f j) vars)
+  pub union : (f : ℕ → ℕ) (n : ℕ) → ByVariable f n by → (j : ℕ)
+      → (has m j || (ltb j n && meets (f j) left)) ≡ (ltb j n && meets (f j) vars)
 
 -- each entry as it will be once the variables that are left have the occurrence too
 abbrev pub Joining : List ℕ → ℕ → ℕ → ℕ → List ℕ → Type 0
@@ -39,26 +41,36 @@ abbrev pub Untouched : ℕ → List ℕ → List ℕ → Type 0
 Untouched left by₀ by = (v : ℕ) → has left v ≡ true → getD by v 0 ≡ getD by₀ v 0
 
 pub gathering-init : (by : List ℕ) (vars : ℕ) → Gathering by vars vars 0
-gathering-init by vars = record { union = λ f n is j. ap (λ (t : Bool). t || (ltb j n && meets (f j) vars)) (has-zero j) }
+gathering-init by vars = record {
+  union = λ f n is j.
+      ap (λ (t : Bool). t || (ltb j n && meets (f j) vars)) (has-zero j);
+}
 
 pub gathering-done : (by : List ℕ) (vars left m : ℕ) → left ≡ 0 → Gathering by vars left m → Gathers by vars m
 unfolding meeting
 gathering-done by vars left m e inv =
-    record { union = λ f n is. has-ext m (meeting f vars n) (λ j. sym (none f n j) ∙ inv .union f n is j ∙ sym (has-collect (λ (j : ℕ). meets (f j) vars) n j)) }
+    record {
+      union = λ f n is. has-ext m (meeting f vars n)
+          (λ j. sym (none f n j) ∙ inv .union f n is j ∙ sym (has-collect (λ (j : ℕ). meets (f j) vars) n j));
+    }
   where
     none : (f : ℕ → ℕ) (n j : ℕ) → (has m j || (ltb j n && meets (f j) left)) ≡ has m j
     none f n j =
         let apart : meets (f j) left ≡ false = ap (λ (x : ℕ). not (eqb x 0)) (ap (bitAnd (f j)) e ∙ and-zero-r (f j)) in
         simp (apart, and-false, or-false)
 
-pub meeting-or : (f g : ℕ → ℕ) (vars n : ℕ) → bitOr (meeting f vars n) (meeting g vars n) ≡ meeting (λ (j : ℕ). bitOr (f j) (g j)) vars n
+pub meeting-or : (f g : ℕ → ℕ) (vars n : ℕ) → bitOr (meeting f vars n) (meeting g vars n)
+    ≡ meeting (λ (j : ℕ). bitOr (f j) (g j)) vars n
 unfolding meeting
-meeting-or f g vars n = has-ext (bitOr (meeting f vars n) (meeting g vars n)) (meeting (λ (j : ℕ). bitOr (f j) (g j)) vars n) each
+meeting-or f g vars n = has-ext (bitOr (meeting f vars n) (meeting g vars n))
+    (meeting (λ (j : ℕ). bitOr (f j) (g j)) vars n) each
   where
-    each : (j : ℕ) → has (bitOr (meeting f vars n) (meeting g vars n)) j ≡ has (meeting (λ (j : ℕ). bitOr (f j) (g j)) vars n) j
+    each : (j : ℕ) → has (bitOr (meeting f vars n) (meeting g vars n)) j
+        ≡ has (meeting (λ (j : ℕ). bitOr (f j) (g j)) vars n) j
     each j =
         has-or (meeting f vars n) (meeting g vars n) j
-        ∙ ap₂ (λ (x y : Bool). x || y) (has-collect (λ (j : ℕ). meets (f j) vars) n j) (has-collect (λ (j : ℕ). meets (g j) vars) n j)
+        ∙ ap₂ (λ (x y : Bool). x || y) (has-collect (λ (j : ℕ). meets (f j) vars) n j)
+        (has-collect (λ (j : ℕ). meets (g j) vars) n j)
         ∙ and-either (ltb j n) (meets (f j) vars) (meets (g j) vars)
         ∙ ap (λ (t : Bool). ltb j n && t) (sym (or-meets (f j) (g j) vars))
         ∙ sym (has-collect (λ (j : ℕ). meets (bitOr (f j) (g j)) vars) n j)
@@ -103,31 +115,41 @@ module _ (left : ℕ) (some : left ≡ 0 → ⊥) (narrow : left < 2 ^ 32) where
   pub less-narrow : bitAnd left (left - 1) < 2 ^ 32
   less-narrow = omega (arith, less-left)
 
-  pub gathering-step : (by : List ℕ) (vars m : ℕ) → Gathering by vars left m → Gathering by vars (bitAnd left (left - 1)) (bitOr m (getD by lowest 0))
+  pub gathering-step : (by : List ℕ) (vars m : ℕ) → Gathering by vars left m
+      → Gathering by vars (bitAnd left (left - 1)) (bitOr m (getD by lowest 0))
   gathering-step by vars m inv = record { union = each }
     where
-      here : (f : ℕ → ℕ) (n : ℕ) → ByVariable f n by → (j : ℕ) → has (getD by lowest 0) j ≡ (ltb j n && has (f j) lowest)
-      here f n is j = ap (λ (x : ℕ). has x j) (is .entry lowest lowest-below) ∙ has-collect (λ (j : ℕ). has (f j) lowest) n j
+      here : (f : ℕ → ℕ) (n : ℕ) → ByVariable f n by → (j : ℕ)
+          → has (getD by lowest 0) j ≡ (ltb j n && has (f j) lowest)
+      here f n is j = ap (λ (x : ℕ). has x j) (is .entry lowest lowest-below)
+          ∙ has-collect (λ (j : ℕ). has (f j) lowest) n j
 
       table : (a t x y : Bool) → ((a || (t && x)) || (t && y)) ≡ (a || (t && (x || y)))
       table true t x y = refl
       table false true x y = refl
       table false false x y = refl
 
-      each : (f : ℕ → ℕ) (n : ℕ) → ByVariable f n by → (j : ℕ) → (has (bitOr m (getD by lowest 0)) j || (ltb j n && meets (f j) (bitAnd left (left - 1)))) ≡ (ltb j n && meets (f j) vars)
+      each : (f : ℕ → ℕ) (n : ℕ) → ByVariable f n by → (j : ℕ)
+          → (has (bitOr m (getD by lowest 0)) j || (ltb j n && meets (f j) (bitAnd left (left - 1))))
+          ≡ (ltb j n && meets (f j) vars)
       each f n is j =
-          ap (λ (t : Bool). t || (ltb j n && meets (f j) (bitAnd left (left - 1)))) (has-or m (getD by lowest 0) j ∙ ap (λ (t : Bool). has m j || t) (here f n is j))
+          ap (λ (t : Bool). t || (ltb j n && meets (f j) (bitAnd left (left - 1))))
+          (has-or m (getD by lowest 0) j ∙ ap (λ (t : Bool). has m j || t) (here f n is j))
           ∙ table (has m j) (ltb j n) (has (f j) lowest) (meets (f j) (bitAnd left (left - 1)))
-          ∙ ap (λ (t : Bool). has m j || (ltb j n && t)) (sym (meets-less (f j) left (bitAnd left (left - 1)) lowest in-left less-has))
+          ∙ ap (λ (t : Bool). has m j || (ltb j n && t))
+          (sym (meets-less (f j) left (bitAnd left (left - 1)) lowest in-left less-has))
           ∙ inv .union f n is j
 
   -- where the entries are joined as they are gathered, those at the variables that are left are as they were
-  pub gathering-joined : (by₀ by : List ℕ) (vars m : ℕ) → Untouched left by₀ by → Gathering by₀ vars left m → Gathering by₀ vars (bitAnd left (left - 1)) (bitOr m (getD by lowest 0))
+  pub gathering-joined : (by₀ by : List ℕ) (vars m : ℕ) → Untouched left by₀ by → Gathering by₀ vars left m
+      → Gathering by₀ vars (bitAnd left (left - 1)) (bitOr m (getD by lowest 0))
   gathering-joined by₀ by vars m same inv = rw (same lowest in-left) (gathering-step by₀ vars m inv)
 
-  pub untouched-step : (by₀ by : List ℕ) (x : ℕ) → Untouched left by₀ by → Untouched (bitAnd left (left - 1)) by₀ (set by lowest x)
+  pub untouched-step : (by₀ by : List ℕ) (x : ℕ) → Untouched left by₀ by
+      → Untouched (bitAnd left (left - 1)) by₀ (set by lowest x)
   untouched-step by₀ by x same v h =
-      let there : (has left v ≡ true) × (not (eqb v lowest) ≡ true) = both (has left v) (not (eqb v lowest)) (sym (less-has v) ∙ h) in
+      let there : (has left v ≡ true) × (not (eqb v lowest) ≡ true) =
+      both (has left v) (not (eqb v lowest)) (sym (less-has v) ∙ h) in
       getD-set-other by lowest v x 0 (eqb-false v lowest (not-true (eqb v lowest) (there .1))) ∙ same v (there .0)
 
   pub joining-step :
@@ -140,18 +162,22 @@ module _ (left : ℕ) (some : left ≡ 0 → ⊥) (narrow : left < 2 ^ 32) where
       by′ : List ℕ
       by′ = set by lowest (bitOr (getD by lowest 0) own)
 
-      go : (t : Bool) → eqb v lowest ≡ t → cond (has (bitAnd left (left - 1)) v) (bitOr (getD by′ v 0) own) (getD by′ v 0) ≡ cond (has left v) (bitOr (getD by v 0) own) (getD by v 0)
+      go : (t : Bool) → eqb v lowest ≡ t → cond (has (bitAnd left (left - 1)) v) (bitOr (getD by′ v 0) own)
+          (getD by′ v 0) ≡ cond (has left v) (bitOr (getD by v 0) own) (getD by v 0)
       go true e =
           let here : v ≡ lowest = eqb-true v lowest e in
-          let gone : has (bitAnd left (left - 1)) v ≡ false = less-has v ∙ ap (λ (t : Bool). has left v && not t) e ∙ and-false (has left v) in
+          let gone : has (bitAnd left (left - 1)) v ≡ false =
+          less-has v ∙ ap (λ (t : Bool). has left v && not t) e ∙ and-false (has left v) in
           let own-in : has left v ≡ true = ap (has left) here ∙ in-left in
           rw (gone, own-in)
           (ap (λ (u : ℕ). getD by′ u 0) here
           ∙ getD-set-same by lowest (bitOr (getD by lowest 0) own) 0 (omega (arith, lowest-below))
           ∙ ap (λ (u : ℕ). bitOr (getD by u 0) own) (sym here))
       go false e =
-          let same : has (bitAnd left (left - 1)) v ≡ has left v = less-has v ∙ ap (λ (t : Bool). has left v && not t) e ∙ and-true (has left v) in
-          let stays : getD by′ v 0 ≡ getD by v 0 = getD-set-other by lowest v (bitOr (getD by lowest 0) own) 0 (eqb-false v lowest e) in
+          let same : has (bitAnd left (left - 1)) v ≡ has left v =
+          less-has v ∙ ap (λ (t : Bool). has left v && not t) e ∙ and-true (has left v) in
+          let stays : getD by′ v 0 ≡ getD by v 0 =
+          getD-set-other by lowest v (bitOr (getD by lowest 0) own) 0 (eqb-false v lowest e) in
           rw (same, stays)
 
 pub ruleset at-lowest = (needs, lowest-below, lowest-wide, lowest-offset)
@@ -172,11 +198,15 @@ joined by₀ by vars own left same-room e inv f n is all one =
     none : (v : ℕ) → cond (has left v) (bitOr (getD by v 0) own) (getD by v 0) ≡ getD by v 0
     none v = let no : has left v ≡ false = ap (λ (x : ℕ). has x v) e ∙ has-zero v in rw no
 
-    go : (v : ℕ) → v < 32 → (t : Bool) → has vars v ≡ t → cond t (bitOr (getD by₀ v 0) own) (getD by₀ v 0) ≡ collect (λ (j : ℕ). has (f j) v) (n + 1)
-    go v b true h = ap (bitOr (getD by₀ v 0)) one ∙ collect-hit (λ (j : ℕ). has (f j) v) n (getD by₀ v 0) (is .entry v b) (ap (λ (x : ℕ). has x v) (sym all) ∙ h)
-    go v b false h = collect-miss (λ (j : ℕ). has (f j) v) n (getD by₀ v 0) (is .entry v b) (ap (λ (x : ℕ). has x v) (sym all) ∙ h)
+    go : (v : ℕ) → v < 32 → (t : Bool) → has vars v ≡ t
+        → cond t (bitOr (getD by₀ v 0) own) (getD by₀ v 0) ≡ collect (λ (j : ℕ). has (f j) v) (n + 1)
+    go v b true h = ap (bitOr (getD by₀ v 0)) one
+        ∙ collect-hit (λ (j : ℕ). has (f j) v) n (getD by₀ v 0) (is .entry v b) (ap (λ (x : ℕ). has x v) (sym all) ∙ h)
+    go v b false h = collect-miss (λ (j : ℕ). has (f j) v) n (getD by₀ v 0) (is .entry v b)
+        (ap (λ (x : ℕ). has x v) (sym all) ∙ h)
 
-pub joining-done : (by₀ by : List ℕ) (vars own left : ℕ) → length by ≡ length by₀ → left ≡ 0 → Joining by₀ vars own left by → Joins by₀ vars own by
+pub joining-done : (by₀ by : List ℕ) (vars own left : ℕ) → length by ≡ length by₀ → left ≡ 0
+    → Joining by₀ vars own left by → Joins by₀ vars own by
 joining-done by₀ by vars own left same-room e inv = record { more = joined by₀ by vars own left same-room e inv }
 
 -- before the first occurrence

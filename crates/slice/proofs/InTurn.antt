@@ -29,15 +29,18 @@ unfolding times inTurn
 times-inTurn i zero v h = absurd (omega arith)
 times-inTurn i (suc n) v h = go (eqb i v) refl h (times-inTurn (suc i) n v)
   where
-    go : (t : Bool) → eqb i v ≡ t → 0 < cond t 1 0 + times v (inTurn (suc i) n) → (0 < times v (inTurn (suc i) n) → v < suc i + n) → v < i + suc n
+    go : (t : Bool) → eqb i v ≡ t → 0 < cond t 1 0 + times v (inTurn (suc i) n)
+        → (0 < times v (inTurn (suc i) n) → v < suc i + n) → v < i + suc n
     go true e h ih = let same : i ≡ v = eqb-true i v e in omega arith
     go false e h ih = let z : v < suc i + n = ih (omega arith) in omega arith
 
 -- the entries at all positions in turn are the list
-drop-inTurn : (A : Type 0) (d : A) (l : List A) (n i : ℕ) → i + n ≡ length l → map (λ (k : ℕ). getD l k d) (inTurn i n) ≡ drop i l
+drop-inTurn : (A : Type 0) (d : A) (l : List A) (n i : ℕ) → i + n ≡ length l
+    → map (λ (k : ℕ). getD l k d) (inTurn i n) ≡ drop i l
 unfolding inTurn
 drop-inTurn A d l zero i e = sym (drop-of-length-le l {i = i} (omega arith))
-drop-inTurn A d l (suc n) i e = ap (λ (r : List A). getD l i d ∷ r) (drop-inTurn A d l n (suc i) (omega arith)) ∙ sym (drop-cons l i d (omega arith))
+drop-inTurn A d l (suc n) i e = ap (λ (r : List A). getD l i d ∷ r) (drop-inTurn A d l n (suc i) (omega arith))
+    ∙ sym (drop-cons l i d (omega arith))
 
 pub map-getD-inTurn : {A : Type 0} (d : A) (l : List A) → map (λ (k : ℕ). getD l k d) (inTurn 0 (length l)) ≡ l
 map-getD-inTurn {A} d l = drop-inTurn A d l (length l) 0 (omega arith)

@@ -30,7 +30,10 @@ row-exact l i j = has-collect (comesAfter l i) i j ∙ and-self-left (ltb j i) (
 -- past the last occurrence there is nothing to come after
 pub row-past : (l : List Step) (i : ℕ) → length l ≤ i → row l i ≡ 0
 unfolding row comesAfter clash
-row-past l i h = collect-none (comesAfter l i) i (λ j b. ap (λ (s : Step). ltb j i && clash s (getD l j blank)) (List·getD-eq-default l blank h) ∙ ap (λ (t : Bool). ltb j i && t) (quiet (getD l j blank)) ∙ and-false (ltb j i))
+row-past l i h = collect-none (comesAfter l i) i (λ j b.
+    ap (λ (s : Step). ltb j i && clash s (getD l j blank)) (List·getD-eq-default l blank h)
+    ∙ ap (λ (t : Bool). ltb j i && t) (quiet (getD l j blank)) ∙ and-false (ltb j i))
   where
     quiet : (s : Step) → clash blank s ≡ false
-    quiet s = ap₂ (λ (a b : ℕ). not (eqb a 0) || not (eqb b 0)) (and-zero-l (bitOr (s .reads) (s .writes))) (and-zero-r (s .writes))
+    quiet s = ap₂ (λ (a b : ℕ). not (eqb a 0) || not (eqb b 0)) (and-zero-l (bitOr (s .reads) (s .writes)))
+        (and-zero-r (s .writes))

@@ -1,5 +1,5 @@
--- A row of the table from the occurrences by variable: the earlier writers of what the occurrence reads, and the earlier users of what it
--- writes.
+-- A row of the table from the occurrences by variable: the earlier writers of what the occurrence reads, and the
+-- earlier users of what it writes.
 use mathlib.Core.Path.{_≡_, refl, sym, ap, ap₂, _∙_}
 use mathlib.Core.Bool.{Bool, true, false, _&&_, _||_, and-false}
 use mathlib.Core.List.{List}
@@ -32,12 +32,14 @@ usedBy l j = bitOr (getD l j blank .reads) (getD l j blank .writes)
 clash-by : (a b : Step) → clash a b ≡ (meets (b .writes) (a .reads) || meets (bitOr (b .reads) (b .writes)) (a .writes))
 unfolding clash
 clash-by a b =
-    ap₂ (λ (x y : Bool). x || y) (meets-comm (a .writes) (bitOr (b .reads) (b .writes))) (meets-or (b .writes) (a .reads) (a .writes))
+    ap₂ (λ (x y : Bool). x || y) (meets-comm (a .writes) (bitOr (b .reads) (b .writes)))
+    (meets-or (b .writes) (a .reads) (a .writes))
     ∙ ap (λ (t : Bool). t || (meets (b .writes) (a .reads) || meets (b .writes) (a .writes))) used
     ∙ table (meets (b .reads) (a .writes)) (meets (b .writes) (a .writes)) (meets (b .writes) (a .reads))
     ∙ ap (λ (t : Bool). meets (b .writes) (a .reads) || t) (sym used)
   where
-    used : meets (bitOr (b .reads) (b .writes)) (a .writes) ≡ (meets (b .reads) (a .writes) || meets (b .writes) (a .writes))
+    used : meets (bitOr (b .reads) (b .writes)) (a .writes)
+        ≡ (meets (b .reads) (a .writes) || meets (b .writes) (a .writes))
     used = or-meets (b .reads) (b .writes) (a .writes)
 
     table : (x y z : Bool) → ((x || y) || (z || y)) ≡ (z || (x || y))
@@ -52,7 +54,8 @@ clash-by a b =
 pub row-by :
     (l : List Step) (i : ℕ) (s : Step) (own a b : ℕ)
     → s ≡ getD l i blank
-    → own ≡ bit i → a ≡ meeting (usedBy l) (s .writes) i → b ≡ meeting (writtenBy l) (s .reads) (i + 1) → bitAnd (bitOr a b) (own - 1) ≡ row l i
+    → own ≡ bit i → a ≡ meeting (usedBy l) (s .writes) i → b ≡ meeting (writtenBy l) (s .reads) (i + 1)
+    → bitAnd (bitOr a b) (own - 1) ≡ row l i
 unfolding meeting comesAfter
 row-by l i s own a b is e p q = has-ext (bitAnd (bitOr a b) (own - 1)) (row l i) each
   where
@@ -77,6 +80,8 @@ row-by l i s own a b is e p q = has-ext (bitAnd (bitOr a b) (own - 1)) (row l i)
     each j =
         has-and (bitOr a b) (own - 1) j
         ∙ ap₂ (λ (x y : Bool). x && y) (has-or a b j ∙ ap₂ (λ (x y : Bool). x || y) (first j) (second j)) (earlier j)
-        ∙ table (ltb j i) (ltb j (i + 1)) (meets (usedBy l j) (s .writes)) (meets (writtenBy l j) (s .reads)) (λ h. lt-ltb j (i + 1) (omega (arith, ltb-true j i h)))
-        ∙ ap (λ (t : Bool). ltb j i && t) (sym (clash-by s (getD l j blank)) ∙ ap (λ (x : Step). clash x (getD l j blank)) is)
+        ∙ table (ltb j i) (ltb j (i + 1)) (meets (usedBy l j) (s .writes)) (meets (writtenBy l j) (s .reads))
+        (λ h. lt-ltb j (i + 1) (omega (arith, ltb-true j i h)))
+        ∙ ap (λ (t : Bool). ltb j i && t) (sym (clash-by s (getD l j blank))
+        ∙ ap (λ (x : Step). clash x (getD l j blank)) is)
         ∙ sym (row-exact l i j)

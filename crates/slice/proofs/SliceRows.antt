@@ -26,9 +26,22 @@ use Rattle.slice.specs.declared.Sliced.{Sliced}
 
 module _ (j : Job) where
   -- the answer by run's number
-  picked : (t : Bool) → eqb (ran j .number) 0 ≡ t → sliced j ≡ cond t (record { number = 0; second = 0; kept = keptMask (performed (j .old) (j .done)) (variables (j .new)); table = table (performed (j .old) (j .done)) }) (slicedStopped (ran j .number) (ran j .second))
+  picked : (t : Bool) → eqb (ran j .number) 0 ≡ t
+      → sliced j ≡ cond t (record {
+        number = 0;
+        second = 0;
+        kept = keptMask (performed (j .old) (j .done)) (variables (j .new));
+        table =
+            table (performed (j .old) (j .done));
+      }) (slicedStopped (ran j .number) (ran j .second))
   unfolding sliced
-  picked t e = ap (λ (x : Bool). cond x (record { number = 0; second = 0; kept = keptMask (performed (j .old) (j .done)) (variables (j .new)); table = table (performed (j .old) (j .done)) }) (slicedStopped (ran j .number) (ran j .second))) e
+  picked t e = ap (λ (x : Bool). cond x (record {
+    number = 0;
+    second = 0;
+    kept = keptMask (performed (j .old) (j .done)) (variables (j .new));
+    table =
+        table (performed (j .old) (j .done));
+  }) (slicedStopped (ran j .number) (ran j .second))) e
 
   module _ (o : Outcome) (is : o ≡ first (lineRows j)) (t : Bool) (test : t ≡ eqb (o .number) 0) where
     pub slice-line : (r : Sliced) → not t ≡ true → r ≡ slicedStopped (o .number) (o .second) → r ≡ sliced j
@@ -40,13 +53,15 @@ module _ (j : Job) where
         ∙ sym (picked false (ap (λ (x : Ran). eqb (x .number) 0) (sym stop) ∙ no))
 
     pub lines-pass : not t ≡ false → LinesPass j
-    lines-pass passed = ap (λ (x : Outcome). x .number) (sym is) ∙ eqb-true (o .number) 0 (sym test ∙ not-false t passed)
+    lines-pass passed = ap (λ (x : Outcome). x .number) (sym is)
+        ∙ eqb-true (o .number) 0 (sym test ∙ not-false t passed)
 
   module _ (b : Begun) (w : List ℕ) (is : BegunOf j b w) (t : Bool) (test : t ≡ eqb (b .outcome .number) 0) where
     number-is : eqb (ran j .number) 0 ≡ t
     number-is = ap (λ (x : Outcome). eqb (x .number) 0) (sym (is .outcome-is)) ∙ sym test
 
-    pub slice-run : (r : Sliced) → not t ≡ true → r ≡ slicedStopped (b .outcome .number) (b .outcome .second) → r ≡ sliced j
+    pub slice-run : (r : Sliced) → not t ≡ true → r ≡ slicedStopped (b .outcome .number) (b .outcome .second)
+        → r ≡ sliced j
     slice-run r refused e =
         e
         ∙ ap (λ (x : Outcome). slicedStopped (x .number) (x .second)) (is .outcome-is)
@@ -58,14 +73,20 @@ module _ (j : Job) where
 
       -- the steps done
       pub occurrences-are : stepsIn (take (4 * length (j .done)) w) ≡ performed (j .old) (j .done)
-      occurrences-are = ap (λ (n : ℕ). stepsIn (take (4 * n) w)) (sym (length-performed (j .old) (j .done))) ∙ is .done-are ran-zero .steps-are
+      occurrences-are = ap (λ (n : ℕ). stepsIn (take (4 * n) w)) (sym (length-performed (j .old) (j .done)))
+          ∙ is .done-are ran-zero .steps-are
 
       done-few : length (j .done) ≤ 64
       done-few = ran-fits j ran-zero .done-fit
 
       module _ (end : ℕ) (stops : end ≡ 4 * length (j .done)) where
         pub occurrences-few : length (stepsIn (take end w)) ≤ 64
-        occurrences-few = rw stops (omega (arith, ap length occurrences-are, length-performed (j .old) (j .done), done-few))
+        occurrences-few = rw stops (omega (
+          arith,
+          ap length occurrences-are,
+          length-performed (j .old) (j .done),
+          done-few,
+        ))
 
         pub occurrences-room : length w ≡ 256 → end ≤ length w
         occurrences-room room = omega (arith, done-few)
@@ -80,7 +101,12 @@ module _ (j : Job) where
           → rows ≡ table (stepsIn (take (4 * length (j .done)) w))
           → record { number = 0; second = 0; kept = kept; table = rows } ≡ sliced j
       slice-kept vars kept rows v k r =
-          (λ i. record { number = 0; second = 0; kept = (k ∙ ap₂ keptMask occurrences-are v) i; table = (r ∙ ap table occurrences-are) i })
+          (λ i. record {
+            number = 0;
+            second = 0;
+            kept = (k ∙ ap₂ keptMask occurrences-are v) i;
+            table = (r ∙ ap table occurrences-are) i;
+          })
           ∙ sym (picked true (number-is ∙ not-false t passed))
 
 -- ---- both routes laid as numbers: what a list has past its 65th step changes nothing

@@ -1,5 +1,6 @@
--- The slice: the occurrences that matter to the new route. By 000, section 4.3, with its data dependence only: occurrences are told apart,
--- never steps. `l` is the list of the steps done, one for each occurrence; occurrence i + 1 of 01 stands at position i.
+-- The slice: the occurrences that matter to the new route. By 000, section 4.3, with its data dependence only:
+-- occurrences are told apart, never steps. `l` is the list of the steps done, one for each occurrence; occurrence i + 1
+-- of 01 stands at position i.
 use mathlib.Core.Path.{_≡_}
 use mathlib.Core.Bool.{Bool, true, false, cond}
 use mathlib.Core.List.{List, [], _∷_}
@@ -33,14 +34,15 @@ pub record Needs (l : List Step) (i j : ℕ) : Type 0 where
 unfoldable pub variables : List Step → ℕ
 variables steps = union (λ (s : Step). bitOr (s .reads) (s .writes)) steps
 
--- "Kept: the last writer in the done list of each new-route variable, and all that these need, over and over." `vars` is the mask of
--- the new route's variables
+-- "Kept: the last writer in the done list of each new-route variable, and all that these need, over and over." `vars`
+-- is the mask of the new route's variables
 pub data Kept (l : List Step) (vars : ℕ) : ℕ → Type 0 where
   final : {i : ℕ} (v : ℕ) → has vars v ≡ true → LastWriter l (length l) v i → Kept l vars i
   needed : {i j : ℕ} → Kept l vars i → Needs l i j → Kept l vars j
 
--- The kept occurrences as a mask, by one sweep from the last to the first: an occurrence is kept when it writes a variable that is live,
--- that is, whose value something kept later, or the new route at the end, still wants. `Kept` above is what it means.
+-- The kept occurrences as a mask, by one sweep from the last to the first: an occurrence is kept when it writes a
+-- variable that is live, that is, whose value something kept later, or the new route at the end, still wants. `Kept`
+-- above is what it means.
 pub record Sweep : Type 0 where
   pub live : ℕ
   pub kept : ℕ

@@ -1,5 +1,6 @@
--- An accepted list, replayed on the new route, leaves in every variable of the new route what the whole job left: the replay performs the
--- occurrences with their own reads and writes, and these are all of them in turn, or the kept in order.
+-- An accepted list, replayed on the new route, leaves in every variable of the new route what the whole job left: the
+-- replay performs the occurrences with their own reads and writes, and these are all of them in turn, or the kept in
+-- order.
 use mathlib.Core.Path.{_≡_, sym, ap, _∙_}
 use mathlib.Core.Logic.{inl, inr}
 use mathlib.Core.Bool.{true}
@@ -49,19 +50,23 @@ module _ (j : Job) (ok : Runs j) (o : List ℕ) (e : tried j o .number ≡ 0) {T
 
   replayed : (moved f j o .whole ≡ true) × (moved f j o .marking ≡ tried j o .marking .tokens)
   unfolding replay
-  replayed = replay-fires f (j .new) (nameAt j) (stepsDone j) (done-named j ok) (newStart j) (tried j o .marking .tokens) allBlank (positions o) (try-marking j ok o e)
+  replayed = replay-fires f (j .new) (nameAt j) (stepsDone j) (done-named j ok) (newStart j)
+      (tried j o .marking .tokens) allBlank (positions o) (try-marking j ok o e)
 
   turned : InTurn (j .new) (nameAt j) (newStart j) (positions o) (moved f j o .passed)
   unfolding replay
-  turned = replay-turns f (j .new) (nameAt j) (stepsDone j) (done-named j ok) (newStart j) (tried j o .marking .tokens) allBlank (positions o) (try-marking j ok o e)
+  turned = replay-turns f (j .new) (nameAt j) (stepsDone j) (done-named j ok) (newStart j) (tried j o .marking .tokens)
+      allBlank (positions o) (try-marking j ok o e)
 
   moved-store : moved f j o .store ≡ performAll f (stepAt (stepsDone j)) (positions o) allBlank
   unfolding replay
-  moved-store = replay-store f (j .new) (nameAt j) (stepAt (stepsDone j)) (newStart j) allBlank (positions o) own (replayed .0)
+  moved-store = replay-store f (j .new) (nameAt j) (stepAt (stepsDone j)) (newStart j) allBlank (positions o) own
+      (replayed .0)
     where
       own : (i : ℕ) (s : Step) → 0 < times i (positions o) → lookup (nameAt j i) (j .new) ≡ some s
           → SameData s (stepAt (stepsDone j) i)
-      own i s n h = same-data (j .new) (stepAt (stepsDone j) i) s (fit-same (newStart j) (j .new) (stepsDone j) (positions o) fits i n) (rw (done-named j ok i) h)
+      own i s n h = same-data (j .new) (stepAt (stepsDone j) i) s
+          (fit-same (newStart j) (j .new) (stepsDone j) (positions o) fits i n) (rw (done-named j ok i) h)
 
   pub carried : Carried f j o
   carried =
@@ -70,5 +75,8 @@ module _ (j : Job) (ok : Runs j) (o : List ℕ) (e : tried j o .number ≡ 0) {T
         turns = turned;
         marking = replayed .1;
         job = whole-job j ok f .0;
-        values = λ v w. ap (λ (σ : Store T). σ v) moved-store ∙ fit-values (newStart j) (j .new) (stepsDone j) f (positions o) fits v w ∙ ap (λ (n : ℕ). performAll f (stepAt (stepsDone j)) (inTurn 0 n) allBlank v) (done-length j) ∙ sym (ap (λ (σ : Store T). σ v) (whole-store j ok f));
+        values = λ v w. ap (λ (σ : Store T). σ v) moved-store
+            ∙ fit-values (newStart j) (j .new) (stepsDone j) f (positions o) fits v w
+            ∙ ap (λ (n : ℕ). performAll f (stepAt (stepsDone j)) (inTurn 0 n) allBlank v) (done-length j)
+            ∙ sym (ap (λ (σ : Store T). σ v) (whole-store j ok f));
       }

@@ -1,5 +1,5 @@
--- Try answers 0 exactly when the list is fit. Rows 10 to 12 ask what every fit list has; then the straight list is accepted at once, and
--- for any other the rows ask in turn for each part of being fit.
+-- Try answers 0 exactly when the list is fit. Rows 10 to 12 ask what every fit list has; then the straight list is
+-- accepted at once, and for any other the rows ask in turn for each part of being fit.
 use mathlib.Core.Path.{_≡_, refl, sym, ap, ap₂, _∙_}
 use mathlib.Core.Logic.{_↔_, inl, inr}
 use mathlib.Core.Bool.{Bool, true, false, cond, _&&_, true≢false}
@@ -48,7 +48,8 @@ sameList-refl (x ∷ a) = ap₂ (λ (s t : Bool). s && t) (eq-eqb x x refl) (sam
 
 pub positions-suc : (p : List ℕ) → positions (map suc p) ≡ p
 positions-suc [] = refl
-positions-suc (i ∷ p) = let own : suc i - 1 ≡ i = omega arith in ap₂ (λ (x : ℕ) (l : List ℕ). x ∷ l) own (positions-suc p)
+positions-suc (i ∷ p) = let own : suc i - 1 ≡ i =
+    omega arith in ap₂ (λ (x : ℕ) (l : List ℕ). x ∷ l) own (positions-suc p)
 
 -- ---- all rows
 
@@ -69,13 +70,15 @@ module _ (from : ℕ) (new l : List Step) (o : List ℕ) where
         fits = record { positions = straight; numbered = e; fits = inl (record { whole = refl; runs = h }) };
         second = refl;
         fires =
-            ap (fireAll new from) (ap (λ (x : List ℕ). stepsOn l (positions x)) e ∙ ap (stepsOn l) (positions-suc straight) ∙ stepsOn-inTurn l)
+            ap (fireAll new from) (ap (λ (x : List ℕ). stepsOn l (positions x)) e
+            ∙ ap (stepsOn l) (positions-suc straight) ∙ stepsOn-inTurn l)
             ∙ straight-fires from new l h;
       }
 
   -- rows 16 to 18
   abbrev byRows : Tried
-  byRows = cond (eqb (listRow (keptOf new l) 0 1 o .number) 0) (tryFrom new l from 1 (positions o)) (tryStopped (listRow (keptOf new l) 0 1 o .number) (listRow (keptOf new l) 0 1 o .second))
+  byRows = cond (eqb (listRow (keptOf new l) 0 1 o .number) 0) (tryFrom new l from 1 (positions o))
+      (tryStopped (listRow (keptOf new l) 0 1 o .number) (listRow (keptOf new l) 0 1 o .second))
 
   rows-taken : KeptPass from new l → byRows .number ≡ 0 → Taken from new l o byRows
   unfolding isSome
@@ -85,7 +88,19 @@ module _ (from : ℕ) (new l : List Step) (o : List ℕ) where
       let a = tryFrom-elim new l from 1 (positions o) (rw is at e) in
       rw is
       (record {
-        fits = record { positions = positions o; numbered = n; fits = inr (record { once = c; order = a .order; same = allOf-stepsOn-intro (sameStep new) l (positions o) (λ i h. k .same i (eachOnce-has (keptOf new l) (positions o) c i h)); fires = rw (a .fires); limit = k .limit }) };
+        fits = record {
+          positions = positions o;
+          numbered = n;
+          fits = inr (record {
+            once = c;
+            order = a .order;
+            same = allOf-stepsOn-intro (sameStep new) l (positions o)
+                (λ i h. k .same i (eachOnce-has (keptOf new l) (positions o) c i h));
+            fires = rw (a .fires);
+            limit =
+                k .limit;
+          });
+        };
         second = a .second;
         fires = a .fires;
       })
@@ -97,15 +112,18 @@ module _ (from : ℕ) (new l : List Step) (o : List ℕ) where
       go : (t : Bool) → (runsStraight from new l && sameList o (map suc straight)) ≡ t
           → cond t (tryAccepted (endOf from new l)) byRows .number ≡ 0
           → Taken from new l o (cond t (tryAccepted (endOf from new l)) byRows)
-      go true h e = let (a, b) = both (runsStraight from new l) (sameList o (map suc straight)) h in straight-taken a (sameList-elim o (map suc straight) b)
+      go true h e = let (a, b) = both (runsStraight from new l) (sameList o (map suc straight)) h in straight-taken a
+          (sameList-elim o (map suc straight) b)
       go false h e = rows-taken k e
 
   taken-rows : (p : List ℕ) → o ≡ map suc p → KeptFit from new l p → byRows .number ≡ 0
   taken-rows p e f =
       let own : positions o ≡ p = ap positions e ∙ positions-suc p in
-      let row : listRow (keptOf new l) 0 1 o .number ≡ 0 = listRow-intro (keptOf new l) o (e ∙ ap (map suc) (sym own)) (rw own (f .once)) in
+      let row : listRow (keptOf new l) 0 1 o .number ≡ 0 =
+      listRow-intro (keptOf new l) o (e ∙ ap (map suc) (sym own)) (rw own (f .once)) in
       let runs = tryFrom-intro new l from 1 _ p (f .order) (fit-fires from new l p (inr f)) in
-      ap (λ (t : Tried). t .number) (cond-zero (listRow (keptOf new l) 0 1 o .number) _ _ row ∙ ap (tryFrom new l from 1) own ∙ runs)
+      ap (λ (t : Tried). t .number) (cond-zero (listRow (keptOf new l) 0 1 o .number) _ _ row
+      ∙ ap (tryFrom new l from 1) own ∙ runs)
 
   taken-list : Fit from new l o → tryList from new l o .number ≡ 0
   unfolding tryList
@@ -114,7 +132,9 @@ module _ (from : ℕ) (new l : List Step) (o : List ℕ) where
       go : (t : Bool) → (runsStraight from new l && sameList o (map suc straight)) ≡ t
           → FitAt from new l (f .positions) → cond t (tryAccepted (endOf from new l)) byRows .number ≡ 0
       go true h a = refl
-      go false h (inl s) = let is : o ≡ map suc straight = f .numbered ∙ ap (map suc) (s .whole) in absurd (true≢false (sym (ap₂ (λ (x y : Bool). x && y) (s .runs) (rw is (sameList-refl (map suc straight)))) ∙ h))
+      go false h (inl s) = let is : o ≡ map suc straight =
+          f .numbered ∙ ap (map suc) (s .whole) in absurd
+          (true≢false (sym (ap₂ (λ (x y : Bool). x && y) (s .runs) (rw is (sameList-refl (map suc straight)))) ∙ h))
       go false h (inr k) = taken-rows (f .positions) (f .numbered) k
 
   module _ (short : length l ≤ 64) (line : ℕ) where
@@ -126,7 +146,8 @@ module _ (from : ℕ) (new l : List Step) (o : List ℕ) where
 
     taken-try : Fit from new l o → tryRows line from new l o .number ≡ 0
     unfolding tryRows
-    taken-try f = rw (cond-zero (keptRows line from new l .number) _ _ (keptRows-intro from new l short line (fit-pass from new l (f .positions) (f .fits)))) (taken-list f)
+    taken-try f = rw (cond-zero (keptRows line from new l .number) _ _
+        (keptRows-intro from new l short line (fit-pass from new l (f .positions) (f .fits)))) (taken-list f)
 
 -- ---- the operation
 
@@ -140,11 +161,16 @@ module _ (j : Job) (ok : Runs j) (o : List ℕ) where
 
   taken : tried j o .number ≡ 0 → Taken (newStart j) (j .new) (stepsDone j) o (tried j o)
   unfolding rest
-  taken e = rw tried-rest (try-taken (newStart j) (j .new) (stepsDone j) o (steps-short j ok) (jobLine j) (rw tried-rest at e))
+  taken e = rw tried-rest (try-taken (newStart j) (j .new) (stepsDone j) o (steps-short j ok) (jobLine j)
+      (rw tried-rest at e))
 
   pub try-fit : (tried j o .number ≡ 0) ↔ FitFor j o
   unfolding rest
-  try-fit = (λ e. taken e .fits, λ f. rw tried-rest (taken-try (newStart j) (j .new) (stepsDone j) o (steps-short j ok) (jobLine j) f))
+  try-fit = (
+    λ e. taken e .fits,
+    λ f. rw tried-rest
+        (taken-try (newStart j) (j .new) (stepsDone j) o (steps-short j ok) (jobLine j) f),
+  )
 
   pub try-second : tried j o .number ≡ 0 → tried j o .second ≡ 0
   try-second e = taken e .second

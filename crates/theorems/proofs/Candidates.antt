@@ -1,5 +1,5 @@
--- Candidates are numbered in the rising order of their positions. So a list of candidates and the list of their positions have the same
--- counts and the same dictionary order.
+-- Candidates are numbered in the rising order of their positions. So a list of candidates and the list of their
+-- positions have the same counts and the same dictionary order.
 use mathlib.Core.Path.{_≡_, refl, sym, ap₂, _∙_}
 use mathlib.Core.Bool.{Bool, true, false, cond}
 use mathlib.Core.List.{List, [], _∷_, map}
@@ -24,7 +24,8 @@ entry-at (x ∷ o) (suc k) h = let n : 0 < times (getD o k 0) o = entry-at o k (
 pub at-entry : (o : List ℕ) (i : ℕ) → 0 < times i o → (k : ℕ) × (k < length o) × (getD o k 0 ≡ i)
 unfolding times
 at-entry [] i n = absurd (omega arith)
-at-entry (x ∷ o) i n = times-cons-elim (λ i. (k : ℕ) × (k < suc (length o)) × (getD (x ∷ o) k 0 ≡ i)) x o (0, omega arith, refl) (λ i n. let (k, h, e) = at-entry o i n in (suc k, omega arith, e)) i n
+at-entry (x ∷ o) i n = times-cons-elim (λ i. (k : ℕ) × (k < suc (length o)) × (getD (x ∷ o) k 0 ≡ i)) x o
+    (0, omega arith, refl) (λ i n. let (k, h, e) = at-entry o i n in (suc k, omega arith, e)) i n
 
 -- every entry is below n
 abbrev pub Below : ℕ → List ℕ → Type 0
@@ -34,7 +35,8 @@ Below n o = (k : ℕ) → 0 < times k o → k < n
 pub map-entry : (f : ℕ → ℕ) (o : List ℕ) (i : ℕ) → 0 < times i (map f o) → (x : ℕ) × (0 < times x o) × (f x ≡ i)
 unfolding times
 map-entry f [] i n = absurd (omega arith)
-map-entry f (x ∷ o) i n = times-cons-elim (λ i. (y : ℕ) × (0 < times y (x ∷ o)) × (f y ≡ i)) (f x) (map f o) (x, times-head x (times x o), refl) (λ i n. let (y, h, e) = map-entry f o i n in (y, omega arith, e)) i n
+map-entry f (x ∷ o) i n = times-cons-elim (λ i. (y : ℕ) × (0 < times y (x ∷ o)) × (f y ≡ i)) (f x) (map f o)
+    (x, times-head x (times x o), refl) (λ i n. let (y, h, e) = map-entry f o i n in (y, omega arith, e)) i n
 
 -- ---- rising lists
 
@@ -89,7 +91,8 @@ module _ (ks : List ℕ) (up : Rises ks) where
   pub times-at : (o : List ℕ) → Below (length ks) o → (k : ℕ) → k < length ks → times (at k) (map at o) ≡ times k o
   unfolding times
   times-at [] b k h = refl
-  times-at (x ∷ o) b k h = ap₂ (λ (t : Bool) (n : ℕ). cond t 1 0 + n) (go (ℕ-discrete x k)) (times-at o (λ x n. b x (omega arith)) k h)
+  times-at (x ∷ o) b k h = ap₂ (λ (t : Bool) (n : ℕ). cond t 1 0 + n) (go (ℕ-discrete x k))
+      (times-at o (λ x n. b x (omega arith)) k h)
     where
       go : Dec (x ≡ k) → eqb (at x) (at k) ≡ eqb x k
       go (yes e) = rw e (eq-eqb (at k) (at k) refl ∙ sym (eq-eqb k k refl))

@@ -1,5 +1,5 @@
--- Two occurrences that do not clash commute: neither writes what the other reads, so both read the same either way, and no variable is
--- written by both.
+-- Two occurrences that do not clash commute: neither writes what the other reads, so both read the same either way, and
+-- no variable is written by both.
 use mathlib.Core.Path.{_≡_, refl, sym, _∙_, fun-ext}
 use mathlib.Core.Bool.{Bool, true, false, _&&_, _||_, or-true, or-comm}
 use Prim.Native.Nat.{ℕ}
@@ -13,7 +13,8 @@ use Rattle.theorems.proofs.Perform.{unwritten, perform-agree}
 
 pub clash-comm : (s t : Step) → clash s t ≡ clash t s
 unfolding clash
-clash-comm s t = or-comm (meets (s .writes) (bitOr (t .reads) (t .writes))) (meets (t .writes) (bitOr (s .reads) (s .writes)))
+clash-comm s t = or-comm (meets (s .writes) (bitOr (t .reads) (t .writes)))
+    (meets (t .writes) (bitOr (s .reads) (s .writes)))
 
 -- s writes nothing that t reads or writes
 record Spares (s t : Step) : Type 0 where
@@ -22,7 +23,10 @@ record Spares (s t : Step) : Type 0 where
 
 spares : (s t : Step) → clash s t ≡ false → Spares s t
 unfolding clash
-spares s t h = record { read = λ v r. free v (has-or (t .reads) (t .writes) v ∙ rw r); written = λ v w. free v (has-or (t .reads) (t .writes) v ∙ rw w (or-true (has (t .reads) v))) }
+spares s t h = record {
+  read = λ v r. free v (has-or (t .reads) (t .writes) v ∙ rw r);
+  written = λ v w. free v (has-or (t .reads) (t .writes) v ∙ rw w (or-true (has (t .reads) v)));
+}
   where
     left : (x y : Bool) → (x || y) ≡ false → x ≡ false
     left true y e = e
@@ -33,7 +37,10 @@ spares s t h = record { read = λ v r. free v (has-or (t .reads) (t .writes) v �
     table false y e k = refl
 
     free : (v : ℕ) → has (bitOr (t .reads) (t .writes)) v ≡ true → has (s .writes) v ≡ false
-    free v = table (has (s .writes) v) (has (bitOr (t .reads) (t .writes)) v) (meets-none (s .writes) (bitOr (t .reads) (t .writes)) (left (meets (s .writes) (bitOr (t .reads) (t .writes))) (meets (t .writes) (bitOr (s .reads) (s .writes))) h) v)
+    free v = table (has (s .writes) v) (has (bitOr (t .reads) (t .writes)) v)
+        (meets-none (s .writes) (bitOr (t .reads) (t .writes))
+        (left (meets (s .writes) (bitOr (t .reads) (t .writes))) (meets (t .writes) (bitOr (s .reads) (s .writes))) h)
+        v)
 
 module _ {T : Type 0} (f : Work T) where
   -- in a variable that s does not write
@@ -41,7 +48,8 @@ module _ {T : Type 0} (f : Work T) where
       → perform f i s (perform f j t σ) v ≡ perform f j t (perform f i s σ) v
   commute-at i j s t σ v p w =
       unwritten f i s (perform f j t σ) v w
-      ∙ sym (perform-agree f j t (perform f i s σ) σ v (λ u r. unwritten f i s σ u (p .read u r)) (λ e. unwritten f i s σ v w))
+      ∙ sym (perform-agree f j t (perform f i s σ) σ v (λ u r. unwritten f i s σ u (p .read u r))
+      (λ e. unwritten f i s σ v w))
 
   pub commute : (i j : ℕ) (s t : Step) (σ : Store T) → clash s t ≡ false
       → perform f i s (perform f j t σ) ≡ perform f j t (perform f i s σ)

@@ -1,5 +1,5 @@
--- Demand 3 is put together: acceptance from try's rows, judge's own order from its being fit, values from the replay of a fit list, and
--- places from the toggles.
+-- Demand 3 is put together: acceptance from try's rows, judge's own order from its being fit, values from the replay of
+-- a fit list, and places from the toggles.
 use mathlib.Core.Path.{_≡_, refl, sym, ap, ap₂, _∙_}
 use mathlib.Core.Logic.{_↔_}
 use mathlib.Core.List.{List, [], _∷_, map}
@@ -37,16 +37,29 @@ same-places : (j j′ : Job) (o o′ : List ℕ) → j .newPlaces ≡ j′ .newP
     → ((n : ℕ) → times n (map (nameAt j) (positions o)) ≡ times n (map (nameAt j′) (positions o′)))
     → tried j o .marking .tokens ≡ tried j′ o′ .marking .tokens
 same-places j j′ o o′ places new ok ok′ a a′ c =
-    same-marking (j .new) (newStart j) (tried j o .marking .tokens) (tried j′ o′ .marking .tokens) (stepsOn (stepsDone j) (positions o)) (stepsOn (stepsDone j′) (positions o′))
+    same-marking (j .new) (newStart j) (tried j o .marking .tokens) (tried j′ o′ .marking .tokens)
+    (stepsOn (stepsDone j) (positions o)) (stepsOn (stepsDone j′) (positions o′))
     (try-marking j ok o (a .0))
-    (ap₂ (λ (n : ℕ) (s : List Step). fireAll s (start n s) (stepsOn (stepsDone j′) (positions o′))) places new ∙ try-marking j′ ok′ o′ (a′ .0))
+    (ap₂ (λ (n : ℕ) (s : List Step). fireAll s (start n s) (stepsOn (stepsDone j′) (positions o′))) places new
+    ∙ try-marking j′ ok′ o′ (a′ .0))
     (λ n. ap (times n) (names-on j ok (positions o)) ∙ c n ∙ sym (ap (times n) (names-on j′ ok′ (positions o′))))
 
 own-accepted : (j : Job) (room : ℕ) → Runs j → judged j room .number ≡ 0 → Own j room
 own-accepted j room ok e =
     let a = accepted-fit j (ordered j room) ok .1 (judge-given j room ok e .fit) in
-    let same : tried j (ordered j room) .marking .tokens ≡ judged j room .marking .tokens = Option·some-injective _ _ (sym (try-marking j ok (ordered j room) (a .0)) ∙ judge-marking j room ok e) in
-    record { accepted = a; marking = same; replayed = λ T f. let r = carried j ok (ordered j room) (a .0) f in (r .whole, r .marking ∙ same) }
+    let same : tried j (ordered j room) .marking .tokens ≡ judged j room .marking .tokens =
+    Option·some-injective _ _ (sym (try-marking j ok (ordered j room) (a .0)) ∙ judge-marking j room ok e) in
+    record {
+      accepted = a;
+      marking = same;
+      replayed = λ T f.
+          let r = carried j ok (ordered j room) (a .0) f in (r .whole, r .marking ∙ same);
+    }
 
 pub demand3 : Demand3
-demand3 = record { fit = accepted-fit; own = own-accepted; values = λ j o ok a T f. carried j ok o (a .0) f; places = same-places }
+demand3 = record {
+  fit = accepted-fit;
+  own = own-accepted;
+  values = λ j o ok a T f. carried j ok o (a .0) f;
+  places = same-places;
+}

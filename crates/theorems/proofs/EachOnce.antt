@@ -1,4 +1,5 @@
--- A list whose entries go into a set one by one: where each is new, every entry is counted once, and the other way round.
+-- A list whose entries go into a set one by one: where each is new, every entry is counted once, and the other way
+-- round.
 use mathlib.Core.Path.{_≡_, refl, sym}
 use mathlib.Core.Bool.{Bool, true, false, not, _&&_}
 use mathlib.Core.List.{List, [], _∷_}
@@ -43,7 +44,8 @@ fresh-times (x ∷ o) seen h i =
 
 -- an entry isn't in the set yet
 pub fresh-out : (o : List ℕ) (seen : ℕ) → fresh seen o ≡ true → (i : ℕ) → 0 < times i o → has seen i ≡ false
-fresh-out o seen h i n = one-same (has seen i) false (omega (arith, fresh-times o seen h i, one-most (has (marks seen o) i)))
+fresh-out o seen h i n = one-same (has seen i) false
+    (omega (arith, fresh-times o seen h i, one-most (has (marks seen o) i)))
 
 -- what is in the set stays
 pub marks-old : (o : List ℕ) (seen : ℕ) → fresh seen o ≡ true → (i : ℕ) → has seen i ≡ true
@@ -57,7 +59,8 @@ pub times-fresh : (o : List ℕ) (seen m : ℕ) → ((i : ℕ) → one (has seen
 unfolding fresh marks times
 times-fresh [] seen m h = (refl, has-ext seen m (λ i. one-same (has seen i) (has m i) (omega (arith, h i))))
 times-fresh (x ∷ o) seen m h =
-    let new : has seen x ≡ false = one-same (has seen x) false (omega (arith, h x, times-head x (times x o), one-most (has m x))) in
+    let new : has seen x ≡ false = one-same (has seen x) false
+    (omega (arith, h x, times-head x (times x o), one-most (has m x))) in
     let (a, b) = times-fresh o (bitOr seen (bit x)) m (λ i. omega (arith, one-more seen x i new, h i)) in
     (rw (new, a), b)
 
@@ -75,7 +78,11 @@ unfolding fresh marks times
 fresh-count w [] seen h low = omega arith
 fresh-count w (x ∷ o) seen h low =
     let (a, b) = both (not (has seen x)) (fresh (bitOr seen (bit x)) o) h in
-    omega (arith, count-new w seen x (low x (times-head x (times x o))) (not-true (has seen x) a), fresh-count w o (bitOr seen (bit x)) b (λ i n. low i (omega arith)))
+    omega (
+      arith,
+      count-new w seen x (low x (times-head x (times x o))) (not-true (has seen x) a),
+      fresh-count w o (bitOr seen (bit x)) b (λ i n. low i (omega arith)),
+    )
 
 -- a list that holds each member once has as many entries as there are members
 pub length-eachOnce : (w m : ℕ) (o : List ℕ) → ((i : ℕ) → has m i ≡ true → i < w) → EachOnce m o → length o ≡ count w m

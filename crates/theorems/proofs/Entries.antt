@@ -54,7 +54,8 @@ pub allOf-stepsOn-intro : (t : Step → Bool) (l : List Step) (o : List ℕ)
     → ((i : ℕ) → 0 < times i o → t (getD l i blank) ≡ true) → allOf t (stepsOn l o) ≡ true
 unfolding allOf stepsOn times
 allOf-stepsOn-intro t l [] h = refl
-allOf-stepsOn-intro t l (x ∷ o) h = ap₂ (λ (a b : Bool). a && b) (h x (times-head x (times x o))) (allOf-stepsOn-intro t l o (λ i n. h i (omega arith)))
+allOf-stepsOn-intro t l (x ∷ o) h = ap₂ (λ (a b : Bool). a && b) (h x (times-head x (times x o)))
+    (allOf-stepsOn-intro t l o (λ i n. h i (omega arith)))
 
 -- the steps of all positions in turn
 pub stepsOn-inTurn : (l : List Step) → stepsOn l (inTurn 0 (length l)) ≡ l
@@ -72,7 +73,8 @@ noneOf-elim t (x ∷ o) h i n =
 pub noneOf-intro : (t : ℕ → Bool) (o : List ℕ) → ((i : ℕ) → 0 < times i o → t i ≡ false) → noneOf t o ≡ true
 unfolding noneOf times
 noneOf-intro t [] h = refl
-noneOf-intro t (x ∷ o) h = ap₂ (λ (x y : Bool). not x && y) (h x (times-head x (times x o))) (noneOf-intro t o (λ i n. h i (omega arith)))
+noneOf-intro t (x ∷ o) h = ap₂ (λ (x y : Bool). not x && y) (h x (times-head x (times x o)))
+    (noneOf-intro t o (λ i n. h i (omega arith)))
 
 pub noneOf-mono : (t : ℕ → Bool) (o k : List ℕ) → ((i : ℕ) → times i k ≤ times i o) → noneOf t o ≡ true
     → noneOf t k ≡ true

@@ -52,12 +52,14 @@ module _ (new l : List Step) where
           → ((m′ : ℕ) → tryFrom new l m′ (at + 1) p .number ≡ 0 → InTurn m′ p (tryFrom new l m′ (at + 1) p))
           → InTurn m (i ∷ p) (cond b fired (tryStopped 17 at))
       go true n e ih =
-          let f = ifFires-elim (λ (t : Tried). t .number ≡ 0) m q (tryStopped 18 at) (tryStopped 18 at) next (λ x. omega arith) (λ x. omega arith) e in
+          let f = ifFires-elim (λ (t : Tried). t .number ≡ 0) m q (tryStopped 18 at) (tryStopped 18 at) next
+          (λ x. omega arith) (λ x. omega arith) e in
           let r = ih (fire m (f .step)) (f .onward) in
           let on : fired ≡ next (f .step) (fire m (f .step)) = ifFires-can m q _ _ next (f .step) (f .there) (f .can) in
           record {
             second = ap (λ (t : Tried). t .second) on ∙ r .second;
             order = ap₂ (λ (x y : Bool). x && y) n (r .order);
-            fires = ifFires-can m q none none _ (f .step) (f .there) (f .can) ∙ r .fires ∙ ap (λ (t : Tried). some (t .marking .tokens)) (sym on);
+            fires = ifFires-can m q none none _ (f .step) (f .there) (f .can) ∙ r .fires
+                ∙ ap (λ (t : Tried). some (t .marking .tokens)) (sym on);
           }
       go false n e ih = absurd (omega arith)

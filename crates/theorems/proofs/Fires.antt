@@ -17,9 +17,11 @@ use Rattle.theorems.specs.Demand3.{InTurn}
 pub fireAll-cons : (steps : List Step) (m e : ℕ) (s : Step) (l : List Step) → fireAll steps m (s ∷ l) ≡ some e
     → Fires m (lookup (s .name) steps) (λ t m′. fireAll steps m′ l) (λ (r : Option ℕ). r ≡ some e)
 unfolding fireAll
-fireAll-cons steps m e s l = ifFires-elim (λ (r : Option ℕ). r ≡ some e) m (lookup (s .name) steps) none none _ (Option·none-ne-some e) (Option·none-ne-some e)
+fireAll-cons steps m e s l = ifFires-elim (λ (r : Option ℕ). r ≡ some e) m (lookup (s .name) steps) none none _
+    (Option·none-ne-some e) (Option·none-ne-some e)
 
-module _ {T : Type 0} (f : Work T) (steps : List Step) (name : ℕ → ℕ) (l : List Step) (named : (i : ℕ) → getD l i blank .name ≡ name i) where
+module _ {T : Type 0} (f : Work T) (steps : List Step) (name : ℕ → ℕ) (l : List Step)
+    (named : (i : ℕ) → getD l i blank .name ≡ name i) where
   pub replay-fires : (m e : ℕ) (σ : Store T) (o : List ℕ) → fireAll steps m (stepsOn l o) ≡ some e
       → (replayFrom f steps name m σ o .whole ≡ true) × (replayFrom f steps name m σ o .marking ≡ e)
   unfolding fireAll stepsOn replayFrom ifFires
@@ -37,4 +39,7 @@ module _ {T : Type 0} (f : Work T) (steps : List Step) (name : ℕ → ℕ) (l :
   replay-turns m e σ (i ∷ o) h =
       let r = fireAll-cons steps m e (getD l i blank) (stepsOn l o) h in
       let there : lookup (name i) steps ≡ some (r .step) = ap (λ (n : ℕ). lookup n steps) (sym (named i)) ∙ r .there in
-      rw (there, r .can) (ifFires-can m (lookup (name i) steps) none none _ (r .step) there (r .can), replay-turns (fire m (r .step)) e (perform f i (r .step) σ) o (r .onward))
+      rw (there, r .can) (
+        ifFires-can m (lookup (name i) steps) none none _ (r .step) there (r .can),
+        replay-turns (fire m (r .step)) e (perform f i (r .step) σ) o (r .onward),
+      )

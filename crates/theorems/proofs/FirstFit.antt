@@ -1,10 +1,11 @@
--- What the search finds is the first fit list of the kept. The lists of candidates that it may find are those whose positions are a fit
--- list, and candidates keep the dictionary order of their positions.
+-- What the search finds is the first fit list of the kept. The lists of candidates that it may find are those whose
+-- positions are a fit list, and candidates keep the dictionary order of their positions.
 use mathlib.Core.Path.{_≡_, refl, sym, ap, _∙_}
 use mathlib.Core.Logic.{inr}
 use mathlib.Core.Bool.{Bool, true, false, cond, true≢false}
 use mathlib.Core.List.{List, map}
-use mathlib.Core.Option.{Option, none, some, Option·map, Option·none-ne-some, Option·some-ne-none, Option·some-injective}
+use mathlib.Core.Option.{Option, none, some, Option·map, Option·none-ne-some, Option·some-ne-none}
+use mathlib.Core.Option.{Option·some-injective}
 use Prim.Native.Nat.{ℕ, _+_, _≤_, _<_}
 use native.Mathlib.Omega.{arith}
 use native.Mathlib.Decide.{decLt}
@@ -58,17 +59,20 @@ module _ (from : ℕ) (new l : List Step) (short : length l ≤ 64) where
     where
       each : (k : ℕ) → k < length ks → times k o ≡ 1
       each k h =
-          let full : has (marks 0 o) k ≡ true = count-full (length ks) (marks 0 o) (omega (arith, fresh-count (length ks) o 0 f b, count-none (length ks))) k h in
+          let full : has (marks 0 o) k ≡ true = count-full (length ks) (marks 0 o)
+          (omega (arith, fresh-count (length ks) o 0 f b, count-none (length ks))) k h in
           let own : one (has (marks 0 o) k) ≡ 1 = rw full in
           let zero : one (has 0 k) ≡ 0 = rw (has-zero k) in
           omega (arith, fresh-times o 0 f k)
 
       none : has (keptOf new l) i ≡ false → Dec (0 < times i (map at o)) → times i (map at o) ≡ 0
-      none h (yes n) = let (x, m, is) = map-entry at o i n in absurd (true≢false (sym (kept-at x (b x m)) ∙ ap (has (keptOf new l)) is ∙ h))
+      none h (yes n) = let (x, m, is) = map-entry at o i n in absurd
+          (true≢false (sym (kept-at x (b x m)) ∙ ap (has (keptOf new l)) is ∙ h))
       none h (no n) = omega arith
 
       go : (t : Bool) → has (keptOf new l) i ≡ t → times i (map at o) ≡ cond t 1 0
-      go true h = let (k, low, is) = at-kept i h in rw (← is) (times-at ks (members-rise 64 (keptOf new l)) o b k low ∙ each k low)
+      go true h = let (k, low, is) = at-kept i h in rw (← is)
+          (times-at ks (members-rise 64 (keptOf new l)) o b k low ∙ each k low)
       go false h = none h (decLt 0 (times i (map at o)))
 
   pub first-fits : KeptPass from new l → (p : List ℕ) → firstFit from new l ≡ some p → KeptFit from new l p
@@ -78,7 +82,15 @@ module _ (from : ℕ) (new l : List Step) (short : length l ≤ 64) where
       let (a, len) = search-sound (placeNext new l ks) (length ks) (length ks) 0 from o f in
       let r = allowed-placed new l ks (members-rise 64 (keptOf new l)) a in
       let c = all-once o (r .low) (r .each) len in
-      rw is (record { once = c; order = r .order; same = allOf-stepsOn-intro (sameStep new) l (map at o) (λ i n. pass .same i (eachOnce-has (keptOf new l) (map at o) c i n)); fires = rw (r .fires); limit = pass .limit })
+      rw is (record {
+        once = c;
+        order = r .order;
+        same = allOf-stepsOn-intro (sameStep new) l (map at o)
+            (λ i n. pass .same i (eachOnce-has (keptOf new l) (map at o) c i n));
+        fires = rw (r .fires);
+        limit =
+            pass .limit;
+      })
 
   -- a fit list of the kept is that of a list of candidates, which the search may find
   record Found (q : List ℕ) : Type 0 where
@@ -93,13 +105,21 @@ module _ (from : ℕ) (new l : List Step) (short : length l ≤ 64) where
   may-find q k =
       let up = members-rise 64 (keptOf new l) in
       let (c, is, low) = find-at ks up q (λ i n. omega (arith, k .once i, all-kept new l short i)) in
-      let rest : (v : ℕ) → v < length ks → one (has 0 v) + times v c ≡ 1 = λ v h. rest-of c (rw is at (k .once)) low v h in
+      let rest : (v : ℕ) → v < length ks → one (has 0 v) + times v c ≡ 1 =
+      λ v h. rest-of c (rw is at (k .once)) low v h in
       record {
         list = c;
         is = is;
         low = low;
-        allowed = placed-allowed new l ks up c 0 from _ low rest (rw is at (k .order)) (ap (λ (o : List ℕ). fireAll new from (stepsOn l o)) (sym is) ∙ fit-fires from new l q (inr k));
-        whole = omega (arith, length-eachOnce 64 (keptOf new l) q (λ i h. omega (arith, kept-short new l i h)) (k .once), ap length is, length-map c at);
+        allowed = placed-allowed new l ks up c 0 from _ low rest (rw is at (k .order))
+            (ap (λ (o : List ℕ). fireAll new from (stepsOn l o)) (sym is) ∙ fit-fires from new l q (inr k));
+        whole = omega (
+          arith,
+          length-eachOnce 64 (keptOf new l) q (λ i h. omega (arith, kept-short new l i h))
+              (k .once),
+          ap length is,
+          length-map c at,
+        );
       }
     where
       rest-of : (c : List ℕ) → EachOnce (keptOf new l) (map at c) → Below (length ks) c → (v : ℕ) → v < length ks
@@ -114,7 +134,8 @@ module _ (from : ℕ) (new l : List Step) (short : length l ≤ 64) where
   first-least p e q k =
       let (o, f, is) = map-some (map at) found p e in
       let r = may-find q k in
-      let least : NotAfter o (r .list) = search-least (placeNext new l ks) (length ks) o (r .allowed) (rw (r .whole) f) in
+      let least : NotAfter o (r .list) = search-least (placeNext new l ks) (length ks) o (r .allowed) (rw (r .whole) f)
+      in
       rw (is, r .is) (notAfter-map at (λ x y h n. members-rise 64 (keptOf new l) x y h (r .low y n)) least)
 
   pub first-none : firstFit from new l ≡ none → (q : List ℕ) → KeptFit from new l q → ⊥

@@ -1,5 +1,5 @@
--- What every fit list has: its steps are in the new route with the same reads and writes, and they fire from the new start. A straight
--- list is the whole list, of which that is asked; of a list of the kept it is asked itself.
+-- What every fit list has: its steps are in the new route with the same reads and writes, and they fire from the new
+-- start. A straight list is the whole list, of which that is asked; of a list of the kept it is asked itself.
 use mathlib.Core.Path.{_≡_, refl, sym, ap, _∙_}
 use mathlib.Core.Logic.{inl, inr}
 use mathlib.Core.Bool.{true, false, true≢false}
@@ -43,7 +43,8 @@ module _ (from : ℕ) (new l : List Step) where
 
   pub fit-fires : (p : List ℕ) → FitAt from new l p
       → fireAll new from (stepsOn l p) ≡ some (endOf from new (stepsOn l p))
-  fit-fires p (inl s) = let all : stepsOn l p ≡ l = ap (stepsOn l) (s .whole) ∙ stepsOn-inTurn l in rw all (straight-fires (s .runs))
+  fit-fires p (inl s) = let all : stepsOn l p ≡ l =
+      ap (stepsOn l) (s .whole) ∙ stepsOn-inTurn l in rw all (straight-fires (s .runs))
   fit-fires p (inr k) = some-of (fireAll new from (stepsOn l p)) (k .fires)
 
   -- in a job that doesn't run straight only a list of the kept is fit

@@ -1,5 +1,5 @@
--- Rows 10 to 12 pass exactly when the limit holds and every kept occurrence is in the new route with the same reads and writes: the rows
--- ask this of the kept in turn, and these are all the kept.
+-- Rows 10 to 12 pass exactly when the limit holds and every kept occurrence is in the new route with the same reads and
+-- writes: the rows ask this of the kept in turn, and these are all the kept.
 use mathlib.Core.Path.{_≡_, refl, sym, ap, _∙_}
 use mathlib.Core.Logic.{inl, inr}
 use mathlib.Core.Bool.{Bool, true, false, _||_, true≢false}
@@ -40,7 +40,8 @@ same-row : (new : List Step) (line : ℕ) (s : Step) → sameStep new s ≡ true
 unfolding keptRow sameStep sameData isSome
 same-row new line s h =
     ap (λ (o : Outcome). o .number)
-    (row-passes (isSome (lookup (s .name) new)) 11 line _ (there (lookup (s .name) new) h) ∙ row-passes (sameStep new s) 12 line [] h ∙ rows-end)
+    (row-passes (isSome (lookup (s .name) new)) 11 line _ (there (lookup (s .name) new) h)
+    ∙ row-passes (sameStep new s) 12 line [] h ∙ rows-end)
   where
     there : (q : Option Step) → sameData s q ≡ true → isSome q ≡ true
     there none h = h
@@ -53,7 +54,9 @@ same-lines : (new l : List Step) (line : ℕ) (o : List ℕ)
 unfolding keptLines first times
 same-lines new l line [] h = refl
 same-lines new l line (x ∷ o) h =
-    rw (cond-zero (keptRow new (line + x) (getD l x blank) .number) (first (keptLines new l line o)) (keptRow new (line + x) (getD l x blank)) (same-row new (line + x) (getD l x blank) (h x (times-head x (times x o)))))
+    rw (cond-zero (keptRow new (line + x) (getD l x blank) .number) (first (keptLines new l line o))
+    (keptRow new (line + x) (getD l x blank))
+    (same-row new (line + x) (getD l x blank) (h x (times-head x (times x o)))))
     (same-lines new l line o (λ i n. h i (omega arith)))
 
 -- ---- all rows
@@ -74,13 +77,15 @@ row-short new line s =
 lines-short : (new l : List Step) (line : ℕ) (o : List ℕ) → first (keptLines new l line o) .number ≤ 12
 unfolding keptLines
 lines-short new l line [] = none-short
-lines-short new l line (x ∷ o) = first-number UpTo12 _ (keptLines new l line o) (row-short new (line + x) (getD l x blank)) (lines-short new l line o)
+lines-short new l line (x ∷ o) = first-number UpTo12 _ (keptLines new l line o)
+    (row-short new (line + x) (getD l x blank)) (lines-short new l line o)
 
 -- no other number comes from these rows
 pub keptRows-most : (line from : ℕ) (new l : List Step) → keptRows line from new l .number ≤ 12
 unfolding keptRows
 keptRows-most line from new l =
-    first-number UpTo12 _ _ (unless-number UpTo12 _ 10 line (omega arith) (omega arith)) (lines-short new l (line + 1) (members 64 (keptOf new l)))
+    first-number UpTo12 _ _ (unless-number UpTo12 _ 10 line (omega arith) (omega arith))
+    (lines-short new l (line + 1) (members 64 (keptOf new l)))
 
 -- only occurrences are kept
 pub kept-short : (new l : List Step) (i : ℕ) → has (keptOf new l) i ≡ true → i < length l
@@ -89,8 +94,14 @@ kept-short new l = kept-below l (variables new)
 
 -- a fit list passes rows 10 to 12
 pub fit-pass : (from : ℕ) (new l : List Step) (p : List ℕ) → FitAt from new l p → KeptPass from new l
-fit-pass from new l p (inl s) = record { limit = λ e. absurd (true≢false (sym (s .runs) ∙ e)); same = λ i h. straight-same from new l (s .runs) i (kept-short new l i h) }
-fit-pass from new l p (inr k) = record { limit = k .limit; same = λ i h. fit-same from new l p (inr k) i (has-eachOnce (keptOf new l) p (k .once) i h) }
+fit-pass from new l p (inl s) = record {
+  limit = λ e. absurd (true≢false (sym (s .runs) ∙ e));
+  same = λ i h. straight-same from new l (s .runs) i (kept-short new l i h);
+}
+fit-pass from new l p (inr k) = record {
+  limit = k .limit;
+  same = λ i h. fit-same from new l p (inr k) i (has-eachOnce (keptOf new l) p (k .once) i h);
+}
 
 or-holds : (x y : Bool) → (x ≡ false → y ≡ true) → (x || y) ≡ true
 or-holds true y h = refl
@@ -108,11 +119,15 @@ module _ (from : ℕ) (new l : List Step) (short : length l ≤ 64) where
   keptRows-elim line e =
       record {
         limit = limit-holds line from new l e;
-        same = λ i h. let (k, low, is) = at-entry (members 64 (keptOf new l)) i (has-eachOnce (keptOf new l) (members 64 (keptOf new l)) (all-kept new l short) i h) in rw is at (members-same line from new l e k low);
+        same = λ i h. let (k, low, is) = at-entry (members 64 (keptOf new l)) i
+            (has-eachOnce (keptOf new l) (members 64 (keptOf new l)) (all-kept new l short) i h) in rw is at
+            (members-same line from new l e k low);
       }
 
   pub keptRows-intro : (line : ℕ) → KeptPass from new l → keptRows line from new l .number ≡ 0
   unfolding keptRows
   keptRows-intro line p =
-      ap (λ (o : Outcome). o .number) (row-passes (runsStraight from new l || limited) 10 line _ (or-holds (runsStraight from new l) limited (λ h. le-leb (count 64 (keptOf new l)) 16 (p .limit h))))
-      ∙ same-lines new l (line + 1) (members 64 (keptOf new l)) (λ i n. p .same i (eachOnce-has (keptOf new l) (members 64 (keptOf new l)) (all-kept new l short) i n))
+      ap (λ (o : Outcome). o .number) (row-passes (runsStraight from new l || limited) 10 line _
+      (or-holds (runsStraight from new l) limited (λ h. le-leb (count 64 (keptOf new l)) 16 (p .limit h))))
+      ∙ same-lines new l (line + 1) (members 64 (keptOf new l))
+      (λ i n. p .same i (eachOnce-has (keptOf new l) (members 64 (keptOf new l)) (all-kept new l short) i n))

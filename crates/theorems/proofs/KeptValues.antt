@@ -1,5 +1,5 @@
--- The theorem on values: any order of the kept that is in order leaves in each wanted variable what the whole done list left. It leaves
--- what the kept in their own order leave, and these leave what the whole list leaves.
+-- The theorem on values: any order of the kept that is in order leaves in each wanted variable what the whole done list
+-- left. It leaves what the kept in their own order leave, and these leave what the whole list leaves.
 use mathlib.Core.Path.{_≡_, ap, _∙_}
 use mathlib.Core.Bool.{true}
 use mathlib.Core.List.{List}
@@ -20,5 +20,7 @@ pub kept-values : {T : Type 0} (f : Work T) (l : List Step) (vars : ℕ) (o : Li
     → inOrder l o ≡ true → (v : ℕ) → has vars v ≡ true
     → performAll f (stepAt l) o allBlank v ≡ performAll f (stepAt l) (inTurn 0 (length l)) allBlank v
 kept-values {T} f l vars o c h v w =
-    ap (λ (σ : Store T). σ v) (reorder f l (keptMask l vars) o (members (length l) (keptMask l vars)) c (members-eachOnce (length l) (keptMask l vars) (kept-below l vars)) h (members-inOrder l (length l) (keptMask l vars)) allBlank)
+    ap (λ (σ : Store T). σ v) (reorder f l (keptMask l vars) o (members (length l) (keptMask l vars)) c
+    (members-eachOnce (length l) (keptMask l vars) (kept-below l vars)) h
+    (members-inOrder l (length l) (keptMask l vars)) allBlank)
     ∙ drop-unkept f l vars v w

@@ -95,4 +95,5 @@ module _ (l : List Step) (v : ℕ) where
     where
       go : (n : ℕ) → lastWriter v 0 l ≡ n → n ≡ 0
       go zero e = refl
-      go (suc i) e = let w = lastWriter-elim i e in absurd (let z : _≡_ {A = ℕ} 0 1 = cc (h i (w .earlier), w .writer) in omega arith)
+      go (suc i) e = let w = lastWriter-elim i e in absurd
+          (let z : _≡_ {A = ℕ} 0 1 = cc (h i (w .earlier), w .writer) in omega arith)

@@ -1,5 +1,5 @@
--- Values: the order does not matter, and neither does what is not kept. Try and judge: what they accept and give. Bytes: what print leaves
--- and what comes back. Main states it all.
+-- Values: the order does not matter, and neither does what is not kept. Try and judge: what they accept and give.
+-- Bytes: what print leaves and what comes back. Main states it all.
 pub mod Perform
 pub mod Drop
 pub mod Entries

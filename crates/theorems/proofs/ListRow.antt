@@ -1,5 +1,5 @@
--- Row 16 passes exactly when the list holds occurrence numbers, and their positions go into the empty set one by one, each new, until it
--- is the set of the kept.
+-- Row 16 passes exactly when the list holds occurrence numbers, and their positions go into the empty set one by one,
+-- each new, until it is the set of the kept.
 use mathlib.Core.Path.{_≡_, refl, ap₂}
 use mathlib.Core.Bool.{Bool, true, false, not, cond, _&&_}
 use mathlib.Core.List.{List, [], _∷_, map}
@@ -34,7 +34,8 @@ module _ (kept : ℕ) where
       go : (t : Bool) → eqb seen kept ≡ t → cond t pass (refuse 16 at) .number ≡ 0 → Listed seen []
       go true h e = record { numbered = refl; new = refl; all = eqb-true seen kept h }
       go false h e = absurd (omega arith)
-  row-lists seen at (b ∷ o) e = go (isKept kept b && not (has seen (b - 1))) refl e (row-lists (bitOr seen (bit (b - 1))) (at + 1) o)
+  row-lists seen at (b ∷ o) e = go (isKept kept b && not (has seen (b - 1))) refl e
+      (row-lists (bitOr seen (bit (b - 1))) (at + 1) o)
     where
       go : (t : Bool) → (isKept kept b && not (has seen (b - 1))) ≡ t
           → cond t (listRow kept (bitOr seen (bit (b - 1))) (at + 1) o) (refuse 16 at) .number ≡ 0
@@ -45,7 +46,11 @@ module _ (kept : ℕ) where
           let (k, n) = both (isKept kept b) (not (has seen (b - 1))) h in
           let low : 1 ≤ b = leb-true 1 b (both (leb 1 b) (has kept (b - 1)) k .0) in
           let own : b ≡ suc (b - 1) = omega arith in
-          record { numbered = ap₂ (λ (x : ℕ) (l : List ℕ). x ∷ l) own (r .numbered); new = ap₂ (λ (x y : Bool). x && y) n (r .new); all = r .all }
+          record {
+            numbered = ap₂ (λ (x : ℕ) (l : List ℕ). x ∷ l) own (r .numbered);
+            new = ap₂ (λ (x y : Bool). x && y) n (r .new);
+            all = r .all;
+          }
       go false h e ih = absurd (omega arith)
 
   lists-row : (seen at : ℕ) (o : List ℕ) → Listed seen o → listRow kept seen at o .number ≡ 0
@@ -55,8 +60,10 @@ module _ (kept : ℕ) where
       let own : b ≡ suc (b - 1) = cc (r .numbered) in
       let rest : Numbered o = cc (r .numbered) in
       let (n, f) = both (not (has seen (b - 1))) (fresh (bitOr seen (bit (b - 1))) (positions o)) (r .new) in
-      let k : has kept (b - 1) ≡ true = rw (← r .all) (marks-old (positions o) (bitOr seen (bit (b - 1))) f (b - 1) (has-new seen (b - 1))) in
-      rw (le-leb 1 b (omega arith), k, n) (lists-row (bitOr seen (bit (b - 1))) (at + 1) o (record { numbered = rest; new = f; all = r .all }))
+      let k : has kept (b - 1) ≡ true = rw (← r .all)
+      (marks-old (positions o) (bitOr seen (bit (b - 1))) f (b - 1) (has-new seen (b - 1))) in
+      rw (le-leb 1 b (omega arith), k, n) (lists-row (bitOr seen (bit (b - 1))) (at + 1) o
+      (record { numbered = rest; new = f; all = r .all }))
 
   pub listRow-elim : (o : List ℕ) → listRow kept 0 1 o .number ≡ 0 → Numbered o × EachOnce kept (positions o)
   listRow-elim o e = let r = row-lists 0 1 o e in (r .numbered, eachOnce-intro (positions o) kept (r .new) (r .all))

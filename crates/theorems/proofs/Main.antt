@@ -1,6 +1,6 @@
--- The whole promise on one page, in 01's order: the sheet, its bytes both ways, slice and precedence, fit orders, what judge gives and its
--- listing shows, and demand 3. Each is proved in the file that its name is cited from. Code meets it through the contracts, which are
--- equalities with the definitions that these theorems speak of.
+-- The whole promise on one page, in 01's order: the sheet, its bytes both ways, slice and precedence, fit orders, what
+-- judge gives and its listing shows, and demand 3. Each is proved in the file that its name is cited from. Code meets
+-- it through the contracts, which are equalities with the definitions that these theorems speak of.
 use mathlib.Core.Path.{_≡_}
 use mathlib.Core.Logic.{_↔_}
 use mathlib.Core.Bool.{true, false}
@@ -48,9 +48,11 @@ use Rattle.theorems.specs.Shows.{Shows}
 use Rattle.theorems.specs.RoundTrip.{bytesWritten, WritesBytes, countsRead, jobInto, ReadsInto}
 use Rattle.theorems.proofs.KeptValues.{kept-values}
 use Rattle.theorems.proofs.Accepts.{try-fit, try-second, try-marking}
-use Rattle.theorems.proofs.Judge.{judge-moves, judge-second, judge-given, judge-marking, judge-refuses, given-one}
+use Rattle.theorems.proofs.Judge.{judge-moves, judge-second, judge-given, judge-marking, judge-refuses}
+use Rattle.theorems.proofs.Judge.{given-one}
 use Rattle.theorems.proofs.Shown.{judge-shows}
-use Rattle.theorems.proofs.Printed.{print-answer, print-leaves, print-moves, print-refuses, print-shows, try-sheet}
+use Rattle.theorems.proofs.Printed.{print-answer, print-leaves, print-moves, print-refuses, print-shows}
+use Rattle.theorems.proofs.Printed.{try-sheet}
 use Rattle.ops.proofs.ListingLength.{listing-length}
 use Rattle.theorems.proofs.RoundTrip.{read-then-write, write-then-read-lent, read-lent, read-then-write-lent}
 use Rattle.theorems.proofs.Demand3.{demand3}
@@ -101,7 +103,8 @@ records-are-their-own = records-own
 pub read-is-written : (s out : List ℕ) → readOf s .number ≡ 0 → length s ≤ length out → WritesBytes (jobOn s) s out
 read-is-written = read-then-write
 
--- the same over lent lists: what is written is read back into any lists long enough, and "entries past those filled keep their contents"
+-- the same over lent lists: what is written is read back into any lists long enough, and "entries past those filled
+-- keep their contents"
 pub written-is-read-into-lists : (j : Job) (out : List ℕ) → wrote j (length out) .number ≡ 0
     → (old new : List Step) (done : List ℕ) → length (j .old) ≤ length old → length (j .new) ≤ length new
     → length (j .done) ≤ length done → ReadsInto (bytesWritten j out) (asRecords j) old new done
@@ -132,7 +135,8 @@ table-is-precedence = row-exact
 -- the kept in any order that precedence allows leave in each wanted variable what all leave in their own order
 pub kept-carry-the-values : (T : Type 0) (f : Work T) (l : List Step) (vars : ℕ) (o : List ℕ)
     → EachOnce (keptMask l vars) o → inOrder l o ≡ true → (v : ℕ) → has vars v ≡ true
-    → performAll f (λ i. getD l i blank) o allBlank v ≡ performAll f (λ i. getD l i blank) (inTurn 0 (length l)) allBlank v
+    → performAll f (λ i. getD l i blank) o allBlank v
+    ≡ performAll f (λ i. getD l i blank) (inTurn 0 (length l)) allBlank v
 kept-carry-the-values T = kept-values
 
 -- ---- "Accepted: try answers it with 0, 0."
@@ -152,15 +156,18 @@ try-gives-the-end = try-marking
 pub try-on-bytes-accepts-the-fit : (s o : List ℕ) → (triedSheet s o .number ≡ 0) ↔ SheetRuns s × FitFor (jobOn s) o
 try-on-bytes-accepts-the-fit = try-sheet
 
--- ---- "The engine gives the straight list if there is one; else, of all fit lists, the first in dictionary order of occurrence numbers."
+-- ---- "The engine gives the straight list if there is one; else, of all fit lists, the first in dictionary order of
+-- occurrence numbers."
 
--- with room enough judge moves a job exactly when a fit list exists, and answers 13 exactly when the rows to 12 pass and none does
+-- with room enough judge moves a job exactly when a fit list exists, and answers 13 exactly when the rows to 12 pass
+-- and none does
 pub judge-moves-where-one-fits : (j : Job) (room : ℕ) → Runs j → 8192 ≤ room
     → (judged j room .number ≡ 0) ↔ ((o : List ℕ) × FitFor j o)
 judge-moves-where-one-fits = judge-moves
 
 pub judge-refuses-where-none-fits : (j : Job) (room : ℕ) → Runs j → 8192 ≤ room
-    → (judged j room .number ≡ 13) ↔ (keptRows (jobLine j) (newStart j) (j .new) (stepsDone j) .number ≡ 0) × ((o : List ℕ) → FitFor j o → ⊥)
+    → (judged j room .number ≡ 13) ↔ (keptRows (jobLine j) (newStart j) (j .new) (stepsDone j) .number ≡ 0)
+    × ((o : List ℕ) → FitFor j o → ⊥)
 judge-refuses-where-none-fits = judge-refuses
 
 pub judge-moves-with-0 : (j : Job) (room : ℕ) → Runs j → judged j room .number ≡ 0 → judged j room .second ≡ 0
@@ -174,7 +181,8 @@ judge-gives-the-only = given-one
 
 -- with the marking at the end of its firing
 pub judge-gives-the-end : (j : Job) (room : ℕ) → Runs j → judged j room .number ≡ 0
-    → fireAll (j .new) (newStart j) (stepsOn (stepsDone j) (positions (ordered j room))) ≡ some (judged j room .marking .tokens)
+    → fireAll (j .new) (newStart j) (stepsOn (stepsDone j) (positions (ordered j room)))
+    ≡ some (judged j room .marking .tokens)
 judge-gives-the-end = judge-marking
 
 -- ---- "A success gives 0, 0 and the facts that the listing shows"
@@ -184,7 +192,8 @@ judge-shows-the-facts = judge-shows
 
 -- ---- "For print, a refusal up to 13 is itself the listing and counts as success; success returns the bytes written."
 
--- with a work slice of 8,192 bytes and room for it, print leaves the listing at the front of the out slice, and the rest as it was
+-- with a work slice of 8,192 bytes and room for it, print leaves the listing at the front of the out slice, and the
+-- rest as it was
 pub print-counts-the-listing : (s out : List ℕ) (work : ℕ) → 8192 ≤ work → length (listingOf s) ≤ length out
     → printed s work (length out) ≡ record { number = 0; second = 0; written = length (listingOf s) }
 print-counts-the-listing = print-answer
@@ -197,8 +206,8 @@ print-leaves-the-listing = print-leaves
 pub no-listing-is-longer : (s : List ℕ) → length (listingOf s) ≤ 7053
 no-listing-is-longer = listing-length
 
--- demand 2 from bytes to bytes: it begins `(moved` exactly when the sheet reads, its old route runs its job and a fit order exists, and
--- else `(refused`
+-- demand 2 from bytes to bytes: it begins `(moved` exactly when the sheet reads, its old route runs its job and a fit
+-- order exists, and else `(refused`
 pub print-moves-where-one-fits : (s out : List ℕ) (work : ℕ) → 8192 ≤ work → length (listingOf s) ≤ length out
     → Moved (outPrinted s work out) ↔ Movable s
 print-moves-where-one-fits = print-moves
@@ -217,7 +226,8 @@ print-shows-the-facts = print-shows
 pub every-example : AllPrint table
 every-example = examples
 
--- ---- "All this is a single claim about the whole order, for all routes, done lists and functions, and not one for each firing."
+-- ---- "All this is a single claim about the whole order, for all routes, done lists and functions, and not one for
+-- each firing."
 
 pub demand-3 : Demand3
 demand-3 = demand3

@@ -1,5 +1,5 @@
--- A marking after any list that fires is the marking before it, toggled by each step of the list. Toggles may come in any order, so two
--- lists that hold the same names equally often end on the same marking.
+-- A marking after any list that fires is the marking before it, toggled by each step of the list. Toggles may come in
+-- any order, so two lists that hold the same names equally often end on the same marking.
 use mathlib.Core.Path.{_≡_, refl, sym, ap, _∙_}
 use mathlib.Core.List.{List, [], _∷_}
 use mathlib.Core.Option.{Option, none, some, Option·some-injective}
@@ -44,7 +44,9 @@ module _ (steps : List Step) where
   put-toggles : {x : ℕ} {r k : List ℕ} → Insertion x r k → toggles k ≡ bitXor (toggleOf (lookup x steps)) (toggles r)
   unfolding toggles
   put-toggles here = refl
-  put-toggles {x = x} (there {y = y} {r = r} p) = ap (bitXor (toggleOf (lookup y steps))) (put-toggles p) ∙ swap (toggleOf (lookup y steps)) (toggleOf (lookup x steps)) (toggles r)
+  put-toggles {x = x} (there {y = y} {r = r} p) =
+      ap (bitXor (toggleOf (lookup y steps))) (put-toggles p)
+      ∙ swap (toggleOf (lookup y steps)) (toggleOf (lookup x steps)) (toggles r)
 
   same-toggles : (a b : List ℕ) → ((n : ℕ) → times n a ≡ times n b) → toggles a ≡ toggles b
   unfolding toggles times
@@ -52,8 +54,10 @@ module _ (steps : List Step) where
   same-toggles [] (y ∷ b) c = absurd (omega (arith, c y, times-head y (times y b)))
   same-toggles (x ∷ a) b c =
       let (r, p) = take-out x b (omega (arith, c x, times-head x (times x a))) in
-      ap (bitXor (toggleOf (lookup x steps))) (same-toggles a r (λ i. omega (arith, c i, insertion-times p i))) ∙ sym (put-toggles p)
+      ap (bitXor (toggleOf (lookup x steps))) (same-toggles a r (λ i. omega (arith, c i, insertion-times p i)))
+      ∙ sym (put-toggles p)
 
   pub same-marking : (m e e′ : ℕ) (a b : List Step) → fireAll steps m a ≡ some e → fireAll steps m b ≡ some e′
       → ((n : ℕ) → times n (names a) ≡ times n (names b)) → e ≡ e′
-  same-marking m e e′ a b h k c = fires-toggle m e a h ∙ ap (bitXor m) (same-toggles (names a) (names b) c) ∙ sym (fires-toggle m e′ b k)
+  same-marking m e e′ a b h k c = fires-toggle m e a h ∙ ap (bitXor m) (same-toggles (names a) (names b) c)
+      ∙ sym (fires-toggle m e′ b k)

@@ -1,5 +1,5 @@
--- The kept in their own order are one of the orders asked for: the members of a mask rise, so that each stands once and none stands before
--- one that it comes after.
+-- The kept in their own order are one of the orders asked for: the members of a mask rise, so that each stands once and
+-- none stands before one that it comes after.
 use mathlib.Core.Path.{_≡_, refl, ap₂, _∙_}
 use mathlib.Core.Bool.{Bool, true, false, cond, _&&_}
 use mathlib.Core.List.{List, [], _∷_}
@@ -29,7 +29,8 @@ count-own i v false o h z = z
 none-below : (k v m i : ℕ) → i < v → times i (membersFrom v k m) ≡ 0
 unfolding times membersFrom
 none-below zero v m i h = refl
-none-below (suc k) v m i h = count-other i v (has m v) (membersFrom (suc v) k m) (omega arith) ∙ none-below k (suc v) m i (omega arith)
+none-below (suc k) v m i h = count-other i v (has m v) (membersFrom (suc v) k m) (omega arith)
+    ∙ none-below k (suc v) m i (omega arith)
 
 once-from : (k v m i : ℕ) → v ≤ i → (has m i ≡ true → i < v + k) → times i (membersFrom v k m) ≡ cond (has m i) 1 0
 unfolding times membersFrom

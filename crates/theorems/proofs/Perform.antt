@@ -1,4 +1,5 @@
--- What performing an occurrence depends on: it sees of a store only the variables that it reads, and leaves alone what it does not write.
+-- What performing an occurrence depends on: it sees of a store only the variables that it reads, and leaves alone what
+-- it does not write.
 use mathlib.Core.Path.{_≡_, refl, ap, ap₂}
 use mathlib.Core.Bool.{Bool, true, false, cond}
 use mathlib.Core.List.{List, _∷_, map}
@@ -25,7 +26,8 @@ module _ {T : Type 0} where
   map-members (suc k) w m σ τ a = go (has m w) refl (map-members k (suc w) m σ τ a)
     where
       go : (t : Bool) → has m w ≡ t → map σ (membersFrom (suc w) k m) ≡ map τ (membersFrom (suc w) k m)
-          → map σ (cond t (w ∷ membersFrom (suc w) k m) (membersFrom (suc w) k m)) ≡ map τ (cond t (w ∷ membersFrom (suc w) k m) (membersFrom (suc w) k m))
+          → map σ (cond t (w ∷ membersFrom (suc w) k m) (membersFrom (suc w) k m))
+          ≡ map τ (cond t (w ∷ membersFrom (suc w) k m) (membersFrom (suc w) k m))
       go true h ih = ap₂ (λ (x : Option T) (y : List (Option T)). x ∷ y) (a w h) ih
       go false h ih = ih
 

@@ -1,5 +1,5 @@
--- A list of candidates is allowed in turn exactly when each is new and their positions are in order and fire: a candidate may be put next
--- when all that it comes after are placed, and what is placed is what stands before it.
+-- A list of candidates is allowed in turn exactly when each is new and their positions are in order and fire: a
+-- candidate may be put next when all that it comes after are placed, and what is placed is what stands before it.
 use mathlib.Core.Path.{_≡_, refl, sym, ap, ap₂, _∙_}
 use mathlib.Core.Bool.{Bool, true, false, not, cond, _&&_, false≢true}
 use mathlib.Core.List.{List, [], _∷_, map}
@@ -34,7 +34,8 @@ use Rattle.theorems.proofs.Candidates.{Below, Rises, map-entry, times-a
 next-fires : (m m′ : ℕ) (q : Option Step) (next : ℕ → Option ℕ) → fireNext m q ≡ some m′
     → ifFires m q none none (λ s. next) ≡ next m′
 next-fires m m′ q next e =
-    let f = ifFires-elim (λ (r : Option ℕ). r ≡ some m′) m q none none _ (Option·none-ne-some m′) (Option·none-ne-some m′) e in
+    let f = ifFires-elim (λ (r : Option ℕ). r ≡ some m′) m q none none _ (Option·none-ne-some m′)
+    (Option·none-ne-some m′) e in
     ifFires-can m q none none _ (f .step) (f .there) (f .can)
     ∙ ap next (Option·some-injective (fire m (f .step)) m′ (f .onward))
 
@@ -61,7 +62,8 @@ module _ (new l : List Step) (ks : List ℕ) (up : Rises ks) where
     where
       go : (t : Bool) → (not (has placed k) && within (before l ks k) placed) ≡ t
           → cond t (fireNext m (stepOf k)) none ≡ some m′ → Next placed m k m′
-      go true h e = let (a, b) = both (not (has placed k)) (within (before l ks k) placed) h in record { fresh-one = not-true (has placed k) a; after = b; fires = e }
+      go true h e = let (a, b) = both (not (has placed k)) (within (before l ks k) placed) h in record
+          { fresh-one = not-true (has placed k) a; after = b; fires = e }
       go false h e = absurd (Option·none-ne-some m′ e)
 
   one-next : (placed m k m′ : ℕ) → Next placed m k m′ → placeNext new l ks placed m k ≡ some m′
@@ -79,7 +81,8 @@ module _ (new l : List Step) (ks : List ℕ) (up : Rises ks) where
   -- none of those that stand after k are placed when k is, so k comes after none of them
   none-after : (placed m k m′ : ℕ) (o : List ℕ) → Next placed m k m′ → Below (length ks) o
       → fresh (bitOr placed (bit k)) o ≡ true → noneOf (comesAfter l (at k)) (map at o) ≡ true
-  none-after placed m k m′ o r b f = noneOf-intro (comesAfter l (at k)) (map at o) (λ i n. let (x, h, e) = map-entry at o i n in rw (← e) (go x h (comesAfter l (at k) (at x)) refl))
+  none-after placed m k m′ o r b f = noneOf-intro (comesAfter l (at k)) (map at o)
+      (λ i n. let (x, h, e) = map-entry at o i n in rw (← e) (go x h (comesAfter l (at k) (at x)) refl))
     where
       go : (x : ℕ) → 0 < times x o → (t : Bool) → comesAfter l (at k) (at x) ≡ t → t ≡ false
       go x h true e =
@@ -92,7 +95,13 @@ module _ (new l : List Step) (ks : List ℕ) (up : Rises ks) where
   pub allowed-placed : {placed m : ℕ} {o : List ℕ} → Allowed (placeNext new l ks) (length ks) placed m o
       → Placed placed m o
   unfolding fresh inOrder fireAll stepsOn times
-  allowed-placed {placed} {m} done = record { low = λ k n. absurd (omega arith); each = refl; order = refl; end = m; fires = refl }
+  allowed-placed {placed} {m} done = record {
+    low = λ k n. absurd (omega arith);
+    each = refl;
+    order = refl;
+    end = m;
+    fires = refl;
+  }
   allowed-placed {placed} {m} (then {k = k} {m′ = m′} {o = o} low a r) =
       let p = allowed-placed r in
       let s = next-one placed m k m′ a in
@@ -111,10 +120,13 @@ module _ (new l : List Step) (ks : List ℕ) (up : Rises ks) where
   -- those that k comes after don't stand after it, so they are placed
   all-before : (placed k : ℕ) (q : List ℕ) → Below (length ks) q → Rest placed (k ∷ q)
       → noneOf (comesAfter l (at k)) (map at q) ≡ true → within (before l ks k) placed ≡ true
-  all-before placed k q b rest h = all-within (before l ks k) placed (λ v e. let (a, c) = both (ltb v (length ks)) (comesAfter l (at k) (at v)) (sym (has-before k v) ∙ e) in go v (ltb-true v (length ks) a) c (decLt 0 (times v (k ∷ q))))
+  all-before placed k q b rest h = all-within (before l ks k) placed
+      (λ v e. let (a, c) = both (ltb v (length ks)) (comesAfter l (at k) (at v)) (sym (has-before k v) ∙ e) in go v
+      (ltb-true v (length ks) a) c (decLt 0 (times v (k ∷ q))))
     where
       none : (v : ℕ) → 0 < times v (k ∷ q) → comesAfter l (at k) (at v) ≡ false
-      none = times-cons-elim (λ v. comesAfter l (at k) (at v) ≡ false) k q (comesAfter-le l (at k) (at k) (omega arith)) (λ v n. noneOf-elim (comesAfter l (at k)) (map at q) h (at v) (rw (times-at ks up q b v (b v n)) n))
+      none = times-cons-elim (λ v. comesAfter l (at k) (at v) ≡ false) k q (comesAfter-le l (at k) (at k) (omega arith))
+          (λ v n. noneOf-elim (comesAfter l (at k)) (map at q) h (at v) (rw (times-at ks up q b v (b v n)) n))
 
       go : (v : ℕ) → v < length ks → comesAfter l (at k) (at v) ≡ true → Dec (0 < times v (k ∷ q)) → has placed v ≡ true
       go v a c (yes n) = absurd (false≢true (sym (none v n) ∙ c))
@@ -130,6 +142,14 @@ module _ (new l : List Step) (ks : List ℕ) (up : Rises ks) where
       let r = fireAll-cons new m e (getD l (at k) blank) (stepsOn l (map at q)) f in
       let low : k < length ks = b k (times-head k (times k q)) in
       let below : Below (length ks) q = λ x c. b x (omega arith) in
-      let out : has placed k ≡ false = one-same (has placed k) false (omega (arith, rest k low, times-head k (times k q))) in
-      let s : Next placed m k (fire m (r .step)) = record { fresh-one = out; after = all-before placed k q below rest n; fires = ifFires-can m (stepOf k) none none _ (r .step) (r .there) (r .can) } in
-      then low (one-next placed m k (fire m (r .step)) s) (placed-allowed q (bitOr placed (bit k)) (fire m (r .step)) e below (λ v c. omega (arith, rest v c, one-more placed k v out)) i (r .onward))
+      let out : has placed k ≡ false = one-same (has placed k) false
+      (omega (arith, rest k low, times-head k (times k q))) in
+      let s : Next placed m k (fire m (r .step)) =
+      record {
+        fresh-one = out;
+        after = all-before placed k q below rest n;
+        fires = ifFires-can m (stepOf k) none none _ (r .step) (r .there) (r .can);
+      } in
+      then low (one-next placed m k (fire m (r .step)) s)
+      (placed-allowed q (bitOr placed (bit k)) (fire m (r .step)) e below
+      (λ v c. omega (arith, rest v c, one-more placed k v out)) i (r .onward))

@@ -1,5 +1,5 @@
--- From bytes to bytes: print leaves the listing, which begins `(moved` exactly where the sheet's job can be moved, and else `(refused`. The
--- C form of try accepts exactly its fit orders.
+-- From bytes to bytes: print leaves the listing, which begins `(moved` exactly where the sheet's job can be moved, and
+-- else `(refused`. The C form of try accepts exactly its fit orders.
 use mathlib.Core.Path.{_≡_, refl, ap}
 use mathlib.Core.Logic.{_↔_}
 use mathlib.Core.Bool.{Bool, true, false, cond}
@@ -37,7 +37,8 @@ module _ (a : Judged) (r : List ℕ) where
   listing-moved : (Moved (listing a ++ r)) ↔ (a .number ≡ 0)
   unfolding listing movedText movedLine refusedLine line codes
   listing-moved = (
-    split (λ (t : Bool). Moved (cond t (movedText a) (refusedLine (a .number) (a .second)) ++ r) → a .number ≡ 0) (eqb (a .number) 0)
+    split (λ (t : Bool). Moved (cond t (movedText a) (refusedLine (a .number) (a .second)) ++ r) → a .number ≡ 0)
+        (eqb (a .number) 0)
         (λ e m. eqb-true (a .number) 0 e)
         (λ e m. absurd (let z : _≡_ {A = ℕ} 114 109 = ap (λ (s : List ℕ). getD s 1 0) m in omega arith)),
     λ e. rw (eq-eqb (a .number) 0 e),
@@ -46,7 +47,8 @@ module _ (a : Judged) (r : List ℕ) where
   listing-refused : (Refused (listing a ++ r)) ↔ (a .number ≡ 0 → ⊥)
   unfolding listing movedText movedLine refusedLine line codes
   listing-refused = (
-    split (λ (t : Bool). Refused (cond t (movedText a) (refusedLine (a .number) (a .second)) ++ r) → a .number ≡ 0 → ⊥) (eqb (a .number) 0)
+    split (λ (t : Bool). Refused (cond t (movedText a) (refusedLine (a .number) (a .second)) ++ r) → a .number ≡ 0 → ⊥)
+        (eqb (a .number) 0)
         (λ e m. absurd (let z : _≡_ {A = ℕ} 109 114 = ap (λ (s : List ℕ). getD s 1 0) m in omega arith))
         (λ e m. eqb-false (a .number) 0 e),
     λ n. rw (ne-eqb (a .number) 0 n),
@@ -71,7 +73,8 @@ unfolding judged
 judge-runs j room e = go (leb 8192 room) _ e
   where
     go : (t : Bool) (rows : Judged)
-        → cond t (cond (eqb (ran j .number) 0) rows (judgeStopped (ran j .number) (ran j .second))) (judgeStopped 14 0) .number ≡ 0
+        → cond t (cond (eqb (ran j .number) 0) rows (judgeStopped (ran j .number) (ran j .second))) (judgeStopped 14 0)
+        .number ≡ 0
         → Runs j
     go true rows e = cond-zero-elim (λ (r : Judged). r .number) (ran j .number) rows _ refl e .0
     go false rows e = absurd (omega arith)
@@ -84,12 +87,17 @@ module _ (s : List ℕ) where
   answer-runs : sheetAnswer s .number ≡ 0 → SheetRuns s
   unfolding sheetAnswer
   answer-runs e =
-      let (z, is) = cond-zero-elim (λ (r : Judged). r .number) (readOf s .number) (judged (jobOn s) 8192) (judgeStopped (readOf s .number) (readOf s .second)) refl e in
+      let (z, is) = cond-zero-elim (λ (r : Judged). r .number) (readOf s .number) (judged (jobOn s) 8192)
+      (judgeStopped (readOf s .number) (readOf s .second)) refl e in
       (z, judge-runs (jobOn s) 8192 (rw is at e))
 
   answer-moves : (sheetAnswer s .number ≡ 0) ↔ Movable s
   answer-moves = (
-    λ e. let runs = answer-runs e in (runs, judge-moves (jobOn s) 8192 (runs .1) (omega arith) .0 (rw (answer-is (runs .0)) at e)),
+    λ e. let runs = answer-runs e in (
+      runs,
+      judge-moves (jobOn s) 8192 (runs .1) (omega arith) .0
+          (rw (answer-is (runs .0)) at e),
+    ),
     λ m. rw (answer-is (m .0 .0)) (judge-moves (jobOn s) 8192 (m .0 .1) (omega arith) .1 (m .1)),
   )
 
@@ -105,8 +113,10 @@ module _ (s out : List ℕ) (work : ℕ) (enough : 8192 ≤ work) (room : length
   unfolding listingOf
   print-refuses =
       let leaves = print-leaves s out work enough room in
-      let begins = listing-refused (sheetAnswer s) (drop (length (listingOf s)) out) in
-      (λ r m. begins .0 (rw leaves at r) (answer-moves s .1 m), λ n. rw leaves (begins .1 (λ e. n (answer-moves s .0 e))))
+      let begins = listing-refused (sheetAnswer s) (drop (length (listingOf s)) out) in (
+        λ r m. begins .0 (rw leaves at r) (answer-moves s .1 m),
+        λ n. rw leaves (begins .1 (λ e. n (answer-moves s .0 e))),
+      )
 
   -- a `(moved` listing shows what 01 says
   pub print-shows : Moved (outPrinted s work out) → Shows (jobOn s) (sheetAnswer s)
@@ -119,7 +129,8 @@ module _ (s out : List ℕ) (work : ℕ) (enough : 8192 ≤ work) (room : length
 
 try-runs : (j : Job) (o : List ℕ) → tried j o .number ≡ 0 → Runs j
 unfolding tried
-try-runs j o e = cond-zero-elim (λ (t : Tried). t .number) (ran j .number) _ (tryStopped (ran j .number) (ran j .second)) refl e .0
+try-runs j o e = cond-zero-elim (λ (t : Tried). t .number) (ran j .number) _
+    (tryStopped (ran j .number) (ran j .second)) refl e .0
 
 pub try-sheet : (s o : List ℕ) → (triedSheet s o .number ≡ 0) ↔ SheetRuns s × FitFor (jobOn s) o
 unfolding triedSheet triedFacts
@@ -128,7 +139,8 @@ try-sheet s o = (
       let (z, is) = cond-zero-elim (λ (t : Tried). t .number) (readOf s .number) (tried (jobOn s) o) refused refl e in
       let runs = try-runs (jobOn s) o (rw is at e) in
       ((z, runs), try-fit (jobOn s) runs o .0 (rw is at e)),
-  λ h. rw (cond-zero (readOf s .number) (tried (jobOn s) o) refused (h .0 .0)) (try-fit (jobOn s) (h .0 .1) o .1 (h .1)),
+  λ h. rw (cond-zero (readOf s .number) (tried (jobOn s) o) refused (h .0 .0))
+      (try-fit (jobOn s) (h .0 .1) o .1 (h .1)),
 )
   where
     refused : Tried

@@ -1,6 +1,6 @@
--- Two lists in order that hold the same occurrences leave the same store. The first of the one stands in the other behind occurrences that
--- it clashes with none of, since one of the two orders would be broken. So it comes to the front there too, and the rest goes on the same
--- way.
+-- Two lists in order that hold the same occurrences leave the same store. The first of the one stands in the other
+-- behind occurrences that it clashes with none of, since one of the two orders would be broken. So it comes to the
+-- front there too, and the rest goes on the same way.
 use mathlib.Core.Path.{_≡_, refl, sym, ap, ap₂, _∙_}
 use mathlib.Core.Bool.{Bool, true, false, not, _&&_}
 use mathlib.Core.List.{List, [], _∷_}
@@ -24,7 +24,8 @@ unfolding inOrder
 put-order l {x = x} (here {r = r}) h = inOrder-cons l x r h .1
 put-order l (there {y = y} {r = r} {k = k} p) h =
     let o = inOrder-cons l y k h in
-    ap₂ (λ (a b : Bool). a && b) (noneOf-mono (comesAfter l y) k r (λ i. omega (arith, insertion-times p i)) (o .0)) (put-order l p (o .1))
+    ap₂ (λ (a b : Bool). a && b) (noneOf-mono (comesAfter l y) k r (λ i. omega (arith, insertion-times p i)) (o .0))
+    (put-order l p (o .1))
 
 module _ {T : Type 0} (f : Work T) (l : List Step) where
   -- of two occurrences neither comes after the other
@@ -35,7 +36,8 @@ module _ {T : Type 0} (f : Work T) (l : List Step) where
     where
       go : (a b : Bool) → ltb y x ≡ a → ltb x y ≡ b → (a && clash (stepAt l x) (stepAt l y)) ≡ false
           → (b && clash (stepAt l y) (stepAt l x)) ≡ false
-          → perform f x (stepAt l x) (perform f y (stepAt l y) σ) ≡ perform f y (stepAt l y) (perform f x (stepAt l x) σ)
+          → perform f x (stepAt l x) (perform f y (stepAt l y) σ)
+          ≡ perform f y (stepAt l y) (perform f x (stepAt l x) σ)
       go true b d e p q = commute f x y (stepAt l x) (stepAt l y) σ p
       go false true d e p q = commute f x y (stepAt l x) (stepAt l y) σ (clash-comm (stepAt l x) (stepAt l y) ∙ q)
       go false false d e p q = let same : x ≡ y = omega (arith, ltb-false y x d, ltb-false x y e) in rw same
@@ -49,7 +51,8 @@ module _ {T : Type 0} (f : Work T) (l : List Step) where
       let o = inOrder-cons l y k h in
       let a = both (not (comesAfter l x y)) (noneOf (comesAfter l x) r) n in
       to-front p (a .1) (o .1) (perform f y (stepAt l y) σ)
-      ∙ ap (performAll f (stepAt l) r) (swap x y σ (not-true (comesAfter l x y) (a .0)) (noneOf-elim (comesAfter l y) k (o .0) x (insertion-in p)))
+      ∙ ap (performAll f (stepAt l) r) (swap x y σ (not-true (comesAfter l x y) (a .0))
+      (noneOf-elim (comesAfter l y) k (o .0) x (insertion-in p)))
 
   -- equal counts are enough
   same-times : (o k : List ℕ) → ((i : ℕ) → times i o ≡ times i k) → inOrder l o ≡ true → inOrder l k ≡ true

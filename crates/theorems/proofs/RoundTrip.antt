@@ -1,4 +1,5 @@
--- The round trip over lent lists: a sheet that is read as a job fills lists long enough with it, and write gives the sheet back.
+-- The round trip over lent lists: a sheet that is read as a job fills lists long enough with it, and write gives the
+-- sheet back.
 use mathlib.Core.Path.{_≡_, refl, sym, ap, _∙_}
 use mathlib.Core.List.{List, _++_}
 use Prim.Native.Nat.{ℕ, _-_, _≤_}
@@ -36,7 +37,8 @@ module _ (s : List ℕ) (k : Job) (is : readOf s ≡ sheetOf k) (old new : List 
       → ReadsInto s k old new done
   unfolding filled
   reads-into a b c =
-      let n = ap (λ (y : Sheet). counted y (length old) (length new) (length done)) is ∙ sym (count-all (sheetOf k) (length old) (length new) (length done) refl a b c) in
+      let n = ap (λ (y : Sheet). counted y (length old) (length new) (length done)) is
+      ∙ sym (count-all (sheetOf k) (length old) (length new) (length done) refl a b c) in
       record {
         counts = n;
         oldList = (λ i. laid (n i .«old_len») (is i .old .steps) old) ∙ laid-front (k .old) _ old;
@@ -48,10 +50,13 @@ module _ (s : List ℕ) (k : Job) (is : readOf s ≡ sheetOf k) (old new : List 
   filled-job r =
       λ i. record {
         oldPlaces = r .counts i .«old_places»;
-        old = ((λ i. take (r .counts i .«old_len») (r .oldList i)) ∙ take-append-seam (k .old) (drop (length (k .old)) old)) i;
+        old = ((λ i. take (r .counts i .«old_len») (r .oldList i))
+            ∙ take-append-seam (k .old) (drop (length (k .old)) old)) i;
         newPlaces = r .counts i .«new_places»;
-        new = ((λ i. take (r .counts i .«new_len») (r .newList i)) ∙ take-append-seam (k .new) (drop (length (k .new)) new)) i;
-        done = ((λ i. take (r .counts i .«done_len») (r .doneList i)) ∙ take-append-seam (k .done) (drop (length (k .done)) done)) i;
+        new = ((λ i. take (r .counts i .«new_len») (r .newList i))
+            ∙ take-append-seam (k .new) (drop (length (k .new)) new)) i;
+        done = ((λ i. take (r .counts i .«done_len») (r .doneList i))
+            ∙ take-append-seam (k .done) (drop (length (k .done)) done)) i;
       }
 
 -- ---- what is written is read back
@@ -61,13 +66,15 @@ pub write-then-read-lent : (j : Job) (out : List ℕ) → wrote j (length out) .
     → length (j .done) ≤ length done → ReadsInto (bytesWritten j out) (asRecords j) old new done
 unfolding asRecords
 write-then-read-lent j out ok old new done a b c =
-    reads-into (bytesWritten j out) (asRecords j) (write-reads j out ok) old new done (omega (arith, length-map (j .old) asRecord)) (omega (arith, length-map (j .new) asRecord)) c
+    reads-into (bytesWritten j out) (asRecords j) (write-reads j out ok) old new done
+    (omega (arith, length-map (j .old) asRecord)) (omega (arith, length-map (j .new) asRecord)) c
 
 -- ---- what is read is written back
 
 pub read-then-write : (s out : List ℕ) → readOf s .number ≡ 0 → length s ≤ length out
     → WritesBytes (jobRead (readOf s)) s out
-read-then-write s out z room = let (answer, leaves) = read-writes s out z room in record { answer = answer; leaves = leaves }
+read-then-write s out z room = let (answer, leaves) =
+    read-writes s out z room in record { answer = answer; leaves = leaves }
 
 -- a success of read: the sheet reads, and the lists are long enough
 record Took (y : Sheet) (a b d : ℕ) : Type 0 where
@@ -79,12 +86,18 @@ record Took (y : Sheet) (a b d : ℕ) : Type 0 where
 took : (y : Sheet) (a b d : ℕ) → counted y a b d .number ≡ 0 → Took y a b d
 unfolding counted counts readRow
 took y a b d ok =
-    let (zero-is, _) = cond-zero-elim (λ (n : Counts). n .number) (readRow y a b d .number) _ (noCounts (readRow y a b d .number) (readRow y a b d .second)) refl ok in
+    let (zero-is, _) = cond-zero-elim (λ (n : Counts). n .number) (readRow y a b d .number) _
+    (noCounts (readRow y a b d .number) (readRow y a b d .second)) refl ok in
     let at-read = head-passed _ _ (eq-eqb (readRow y a b d .number) 0 zero-is) in
     let at-old = row-passed (leb (y .old .len) a) 15 (y .old .len) _ refl (at-read .1) in
     let at-new = row-passed (leb (y .new .len) b) 15 (y .new .len) _ refl (at-old .1) in
     let at-done = row-passed (leb (y .«done_len») d) 15 (y .«done_len») _ refl (at-new .1) in
-    record { reads = eqb-true (y .number) 0 (at-read .0); old = leb-true _ _ (at-old .0); new = leb-true _ _ (at-new .0); done = leb-true _ _ (at-done .0) }
+    record {
+      reads = eqb-true (y .number) 0 (at-read .0);
+      old = leb-true _ _ (at-old .0);
+      new = leb-true _ _ (at-new .0);
+      done = leb-true _ _ (at-done .0);
+    }
 
 module _ (s : List ℕ) (old new : List Step) (done : List ℕ) (ok : countsRead s old new done .number ≡ 0) where
   success : Took (readOf s) (length old) (length new) (length done)
@@ -103,4 +116,5 @@ module _ (s : List ℕ) (old new : List Step) (done : List ℕ) (ok : countsRead
       (omega (arith, success .done, ap (λ (y : Sheet). y .«done_len») sheet-is))
 
   pub read-then-write-lent : (out : List ℕ) → length s ≤ length out → WritesBytes (jobInto s old new done) s out
-  read-then-write-lent out room = rw (filled-job s (jobRead (readOf s)) sheet-is old new done read-lent) (read-then-write s out (success .reads) room)
+  read-then-write-lent out room = rw (filled-job s (jobRead (readOf s)) sheet-is old new done read-lent)
+      (read-then-write s out (success .reads) room)

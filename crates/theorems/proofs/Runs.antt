@@ -1,5 +1,5 @@
--- What a job has that no row to 9 refuses: a done list of at most 64 known names, which fires on the old route from its start. So the
--- whole job comes to its end, and leaves what performing the steps done leaves.
+-- What a job has that no row to 9 refuses: a done list of at most 64 known names, which fires on the old route from its
+-- start. So the whole job comes to its end, and leaves what performing the steps done leaves.
 use mathlib.Core.Path.{_≡_, refl, sym, ap, _∙_}
 use mathlib.Core.Bool.{true}
 use mathlib.Core.List.{List, [], _∷_}
@@ -35,7 +35,9 @@ module _ (steps : List Step) where
   run-fires m line [] e = refl
   run-fires m line (n ∷ d) e =
       let r = first-fires steps m line n d e in
-      let own : lookup (Option·getD (lookup n steps) blank .name) steps ≡ some (r .step) = ap (λ (q : Option Step). lookup (Option·getD q blank .name) steps) (r .there) ∙ ap (λ (x : ℕ). lookup x steps) (lookup-name n steps (r .step) (r .there)) ∙ r .there in
+      let own : lookup (Option·getD (lookup n steps) blank .name) steps ≡ some (r .step) =
+      ap (λ (q : Option Step). lookup (Option·getD q blank .name) steps) (r .there)
+      ∙ ap (λ (x : ℕ). lookup x steps) (lookup-name n steps (r .step) (r .there)) ∙ r .there in
       rw (own, r .there, r .can) (run-fires (fire m (r .step)) (line + 1) d (r .onward))
 
 -- ---- the job
@@ -59,13 +61,16 @@ module _ (j : Job) (ok : Runs j) where
   pub whole-job : {T : Type 0} (f : Work T)
       → (wholeJob f j .whole ≡ true) × (wholeJob f j .marking ≡ ran j .marking .tokens)
   unfolding replay
-  whole-job f = replay-fires f (j .old) (nameAt j) (stepsDone j) done-named (oldStart j) (ran j .marking .tokens) allBlank (inTurn 0 (length (j .done))) (ap (fireAll (j .old) (oldStart j)) (rw (← done-length j) (stepsOn-inTurn (stepsDone j))) ∙ done-fires)
+  whole-job f = replay-fires f (j .old) (nameAt j) (stepsDone j) done-named (oldStart j) (ran j .marking .tokens)
+      allBlank (inTurn 0 (length (j .done))) (ap (fireAll (j .old) (oldStart j))
+      (rw (← done-length j) (stepsOn-inTurn (stepsDone j))) ∙ done-fires)
 
   -- and leaves what performing the steps done leaves
   pub whole-store : {T : Type 0} (f : Work T)
       → wholeJob f j .store ≡ performAll f (stepAt (stepsDone j)) (inTurn 0 (length (j .done))) allBlank
   unfolding replay
-  whole-store f = replay-store f (j .old) (nameAt j) (stepAt (stepsDone j)) (oldStart j) allBlank (inTurn 0 (length (j .done))) own (whole-job f .0)
+  whole-store f = replay-store f (j .old) (nameAt j) (stepAt (stepsDone j)) (oldStart j) allBlank
+      (inTurn 0 (length (j .done))) own (whole-job f .0)
     where
       own : (i : ℕ) (s : Step) → 0 < times i (inTurn 0 (length (j .done))) → lookup (nameAt j i) (j .old) ≡ some s
           → SameData s (stepAt (stepsDone j) i)

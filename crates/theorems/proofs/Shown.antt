@@ -1,4 +1,5 @@
--- An answer 0 of judge shows what 01 says: kept and dropped, what comes after what, the order, the marking and the last writers.
+-- An answer 0 of judge shows what 01 says: kept and dropped, what comes after what, the order, the marking and the last
+-- writers.
 use mathlib.Core.Path.{_≡_, refl, sym, ap, _∙_}
 use mathlib.Core.Logic.{_↔_, _⊎_, inl, inr}
 use mathlib.Core.Bool.{Bool, true, false, cond, _&&_}
@@ -31,7 +32,8 @@ use Rattle.theorems.specs.Shows.{Shows}
 use Rattle.theorems.proofs.Runs.{done-length, steps-short}
 use Rattle.theorems.proofs.KeptRows.{kept-short}
 use Rattle.theorems.proofs.Judge.{Gives, gives, judge-given, judge-marking}
-use Rattle.theorems.proofs.LastWriter.{lastWriter-elim, lastWriter-none-elim, lastWriter-intro, lastWriter-none-intro}
+use Rattle.theorems.proofs.LastWriter.{lastWriter-elim, lastWriter-none-elim, lastWriter-intro}
+use Rattle.theorems.proofs.LastWriter.{lastWriter-none-intro}
 
 -- a row shows exactly the kept that a kept one comes after
 has-afterOf : (l : List Step) (kept i j : ℕ)
@@ -46,7 +48,8 @@ has-afterOf l kept i j = go (has kept i)
     swap false false = refl
 
     go : (t : Bool) → has (cond t (bitAnd (row l i) kept) 0) j ≡ (t && (has kept j && comesAfter l i j))
-    go true = has-and (row l i) kept j ∙ ap (λ (b : Bool). b && has kept j) (row-exact l i j) ∙ swap (comesAfter l i j) (has kept j)
+    go true = has-and (row l i) kept j ∙ ap (λ (b : Bool). b && has kept j) (row-exact l i j)
+        ∙ swap (comesAfter l i j) (has kept j)
     go false = has-zero j
 
 module _ (new l : List Step) where
@@ -58,7 +61,8 @@ module _ (new l : List Step) where
   writer-iff : (v n : ℕ) → (writerOf new l v ≡ suc n) ↔ (has (variables new) v ≡ true) × LastWriter l (length l) v n
   unfolding writerOf
   writer-iff v n = (
-    split (λ (t : Bool). cond t (lastWriter v 0 l) 0 ≡ suc n → (t ≡ true) × LastWriter l (length l) v n) (has (variables new) v)
+    split (λ (t : Bool). cond t (lastWriter v 0 l) 0 ≡ suc n → (t ≡ true) × LastWriter l (length l) v n)
+        (has (variables new) v)
         (λ h e. (refl, lastWriter-elim l v n e))
         (λ h e. absurd (omega arith)),
     λ w. rw (w .0) (lastWriter-intro l v n (w .1)),
@@ -94,14 +98,18 @@ module _ (new l : List Step) where
         go : Dec (i < 64) → getD (map (afterOf l kept) (inTurn 0 64)) i 0 ≡ afterOf l kept i
         go (yes h) = getD-map-inTurn (afterOf l kept) 0 64 i h ∙ ap (afterOf l kept) (omega arith)
         go (no h) =
-            List·getD-eq-default (map (afterOf l kept) (inTurn 0 64)) 0 (omega (arith, length-map (inTurn 0 64) (afterOf l kept), length-inTurn 0 64))
-            ∙ split (λ (t : Bool). _≡_ {A = ℕ} 0 (cond t (bitAnd (row l i) kept) 0)) (has kept i) (λ e. absurd (h (low i e))) (λ e. refl)
+            List·getD-eq-default (map (afterOf l kept) (inTurn 0 64)) 0
+            (omega (arith, length-map (inTurn 0 64) (afterOf l kept), length-inTurn 0 64))
+            ∙ split (λ (t : Bool). _≡_ {A = ℕ} 0 (cond t (bitAnd (row l i) kept) 0)) (has kept i)
+            (λ e. absurd (h (low i e))) (λ e. refl)
 
     after-iff : (i k : ℕ)
-        → (has (getD (map (afterOf l kept) (inTurn 0 64)) i 0) k ≡ true) ↔ (has kept i ≡ true) × (has kept k ≡ true) × (comesAfter l i k ≡ true)
+        → (has (getD (map (afterOf l kept) (inTurn 0 64)) i 0) k ≡ true) ↔ (has kept i ≡ true) × (has kept k ≡ true)
+        × (comesAfter l i k ≡ true)
     after-iff i k =
         let is = ap (λ (m : ℕ). has m k) (after-at i) ∙ has-afterOf l kept i k in (
-          λ e. let (a, rest) = both (has kept i) _ (sym is ∙ e) in let (b, c) = both (has kept k) (comesAfter l i k) rest in (a, b, c),
+          λ e. let (a, rest) = both (has kept i) _ (sym is ∙ e) in let (b, c) =
+              both (has kept k) (comesAfter l i k) rest in (a, b, c),
           λ h. is ∙ rw (h .0, h .1, h .2),
         )
 
@@ -136,8 +144,13 @@ module _ (j : Job) (room : ℕ) (ok : Runs j) (moves : judged j room .number ≡
         all = λ s i.
             let e = ap (λ (m : ℕ). has m i) (kept-is ∙ given .all s) ∙ has-below (length l) i in
             (λ h. omega (arith, ltb-true i (length l) (sym e ∙ h)), λ h. e ∙ lt-ltb i (length l) (omega arith));
-        kept = λ n i. let e = ap (λ (m : ℕ). has m i) (kept-is ∙ given .sliced n) in rw e (kept-iff l (variables (j .new)) i);
-        counts = omega (arith, ap (λ (r : Judged). count 64 (r .kept) + r .dropped) is, count-few 64 kept (length l) kept-below);
+        kept = λ n i. let e = ap (λ (m : ℕ). has m i) (kept-is ∙ given .sliced n) in rw e
+            (kept-iff l (variables (j .new)) i);
+        counts = omega (
+          arith,
+          ap (λ (r : Judged). count 64 (r .kept) + r .dropped) is,
+          count-few 64 kept (length l) kept-below,
+        );
         after = λ i k. rw is (after-iff (j .new) l kept (λ i h. omega (arith, kept-below i h, steps-short j ok)) i k);
         order = judge-given j room ok moves;
         marking = judge-marking j room ok moves;

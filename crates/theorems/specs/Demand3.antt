@@ -66,8 +66,9 @@ InTurn steps name m [] (m′ ∷ ms) = ⊥
 InTurn steps name m (i ∷ o) [] = ⊥
 InTurn steps name m (i ∷ o) (m′ ∷ ms) = FiresTo m (lookup (name i) steps) m′ × InTurn steps name m′ o ms
 
--- "replaying any accepted order on the new route from its start leaves in every variable of the new route the value, or the blank, that the
--- whole job left on the old route". Both replays come to the end of their lists, and that of the order ends on the marking that try gives
+-- "replaying any accepted order on the new route from its start leaves in every variable of the new route the value, or
+-- the blank, that the whole job left on the old route". Both replays come to the end of their lists, and that of the
+-- order ends on the marking that try gives
 pub record Carried {T : Type 0} (f : Work T) (j : Job) (o : List ℕ) : Type 0 where
   pub whole : moved f j o .whole ≡ true
   pub turns : InTurn (j .new) (nameAt j) (newStart j) (positions o) (moved f j o .passed)
@@ -75,14 +76,17 @@ pub record Carried {T : Type 0} (f : Work T) (j : Job) (o : List ℕ) : Type 0 w
   pub job : wholeJob f j .whole ≡ true
   pub values : (v : ℕ) → has (variables (j .new)) v ≡ true → moved f j o .store v ≡ wholeJob f j .store v
 
--- "When judge answers 0, 0, try accepts the order that judge gives, and both give the marking at the end of its replay on the new route."
+-- "When judge answers 0, 0, try accepts the order that judge gives, and both give the marking at the end of its replay
+-- on the new route."
 pub record Own (j : Job) (room : ℕ) : Type 1 where
   pub accepted : Accepted j (ordered j room)
   pub marking : tried j (ordered j room) .marking .tokens ≡ judged j room .marking .tokens
   pub replayed : (T : Type 0) (f : Work T)
-      → (moved f j (ordered j room) .whole ≡ true) × (moved f j (ordered j room) .marking ≡ judged j room .marking .tokens)
+      → (moved f j (ordered j room) .whole ≡ true)
+      × (moved f j (ordered j room) .marking ≡ judged j room .marking .tokens)
 
--- "All this is a single claim about the whole order, for all routes, done lists and functions, and not one for each firing."
+-- "All this is a single claim about the whole order, for all routes, done lists and functions, and not one for each
+-- firing."
 pub record Demand3 : Type 1 where
   -- "Whatever order of done steps anybody hands in for such a job, it is accepted exactly when it is fit"
   pub fit : (j : Job) (o : List ℕ) → Runs j → Accepted j o ↔ FitFor j o
@@ -90,8 +94,8 @@ pub record Demand3 : Type 1 where
   pub own : (j : Job) (room : ℕ) → Runs j → judged j room .number ≡ 0 → Own j room
   -- "Whichever function each done step computes from what it reads, even another one each time it is done"
   pub values : (j : Job) (o : List ℕ) → Runs j → Accepted j o → (T : Type 0) (f : Work T) → Carried f j o
-  -- "Whichever two accepted orders hold the same done steps, each as often, they end on the same places." "Done steps are counted by name,
-  -- and the two orders may be of two jobs with the same new route."
+  -- "Whichever two accepted orders hold the same done steps, each as often, they end on the same places." "Done steps
+  -- are counted by name, and the two orders may be of two jobs with the same new route."
   pub places : (j j′ : Job) (o o′ : List ℕ) → j .newPlaces ≡ j′ .newPlaces → j .new ≡ j′ .new → Runs j → Runs j′
       → Accepted j o → Accepted j′ o′
       → ((n : ℕ) → times n (map (nameAt j) (positions o)) ≡ times n (map (nameAt j′) (positions o′)))

@@ -16,7 +16,8 @@ use Rattle.lent.specs.declared.Counts.{Counts}
 abbrev pub bytesWritten : Job → List ℕ → List ℕ
 bytesWritten j out = take (wrote j (length out) .written) (outAfter j out)
 
--- write gives the bytes s: it answers 0, 0 and their count, and leaves them at the front of the slice, and the rest as it was
+-- write gives the bytes s: it answers 0, 0 and their count, and leaves them at the front of the slice, and the rest as
+-- it was
 pub record WritesBytes (j : Job) (s out : List ℕ) : Type 0 where
   pub answer : wrote j (length out) ≡ record { number = 0; second = 0; written = length s }
   pub leaves : outAfter j out ≡ s ++ drop (length s) out

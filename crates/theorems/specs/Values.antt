@@ -16,8 +16,8 @@ Store T = ℕ → Option T
 unfoldable pub allBlank : {T : Type 0} → Store T
 allBlank v = none
 
--- "Each occurrence has, for each variable, a function, any at all, from the list of what it read to a value." The occurrence is given by
--- its position
+-- "Each occurrence has, for each variable, a function, any at all, from the list of what it read to a value." The
+-- occurrence is given by its position
 abbrev pub Work : Type 0 → Type 0
 Work T = ℕ → ℕ → List (Option T) → T
 
@@ -25,11 +25,13 @@ Work T = ℕ → ℕ → List (Option T) → T
 unfoldable pub readings : {T : Type 0} → ℕ → Store T → List (Option T)
 readings m σ = map σ (members 32 m)
 
--- "It reads first. Then each variable that it writes gets what the occurrence's function for it gives from that list; the others stay."
+-- "It reads first. Then each variable that it writes gets what the occurrence's function for it gives from that list;
+-- the others stay."
 unfoldable pub perform : {T : Type 0} → Work T → ℕ → Step → Store T → Store T
 perform f i s σ v = cond (has (s .writes) v) (some (f i v (readings (s .reads) σ))) (σ v)
 
--- where a replay ends: its marking, its store, the markings that it passed, one after each entry, and whether it came to the end of the list
+-- where a replay ends: its marking, its store, the markings that it passed, one after each entry, and whether it came
+-- to the end of the list
 pub record End (T : Type 0) : Type 0 where
   pub marking : ℕ
   pub store : Store T
@@ -44,15 +46,16 @@ after m e = record { marking = e .marking; store = e .store; passed = m ∷ e .p
 abbrev pub ended : {T : Type 0} → ℕ → Store T → End T
 ended m σ = record { marking = m; store = σ; passed = []; whole = false }
 
--- "takes the occurrences in turn. For each, the route's step of its name fires. Where the route has no such step, or it can't fire, the
--- replay ends there." `name` gives an occurrence's name
+-- "takes the occurrences in turn. For each, the route's step of its name fires. Where the route has no such step, or it
+-- can't fire, the replay ends there." `name` gives an occurrence's name
 unfoldable pub replayFrom : {T : Type 0} → Work T → List Step → (ℕ → ℕ) → ℕ → Store T → List ℕ → End T
 replayFrom f steps name m σ [] = record { marking = m; store = σ; passed = []; whole = true }
 replayFrom f steps name m σ (i ∷ o) =
     ifFires m (lookup (name i) steps) (ended m σ) (ended m σ)
     (λ s m′. after m′ (replayFrom f steps name m′ (perform f i s σ) o))
 
--- "A replay of a list of occurrences on a route begins at the route's start with all 32 variables blank"; `from` is that start
+-- "A replay of a list of occurrences on a route begins at the route's start with all 32 variables blank"; `from` is
+-- that start
 unfoldable pub replay : {T : Type 0} → Work T → ℕ → List Step → (ℕ → ℕ) → List ℕ → End T
 replay f from steps name o = replayFrom f steps name from allBlank o
 

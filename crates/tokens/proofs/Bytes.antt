@@ -21,15 +21,18 @@ apart h = let z : _≡_ {A = ℕ} 0 1 = cc in omega arith
 
 module _ (v : Version) (s : List ℕ) (i : ℕ) (p : Point) (c : Line) (t : Lines) (h : Reading v s i p c t) where
   here : i < length s → parse v s ≡ run v p c t (getD s i 0 ∷ drop (i + 1) s)
-  here room = h .same ∙ ap (run v p c t) (drop-cons s i 0 room ∙ ap (λ (m : ℕ). getD s i 0 ∷ drop m s) (sym (add-one i)))
+  here room = h .same ∙ ap (run v p c t) (drop-cons s i 0 room
+      ∙ ap (λ (m : ℕ). getD s i 0 ∷ drop m s) (sym (add-one i)))
 
-  pub byte-on : i < length s → (q : Point) → next v p (getD s i 0) ≡ q → alive q ≡ true → Reading v s (i + 1) q (took p (getD s i 0) c) (keep p c t)
+  pub byte-on : i < length s → (q : Point) → next v p (getD s i 0) ≡ q → alive q ≡ true
+      → Reading v s (i + 1) q (took p (getD s i 0) c) (keep p c t)
   unfolding run
   byte-on room q e live =
       record {
         within = omega (arith, room);
         same = here room
-            ∙ ap (λ (x : Bool). cond x (run v (next v p (getD s i 0)) (took p (getD s i 0) c) (keep p c t) (drop (i + 1) s)) (Parsed.broken (getD s i 0 ∷ drop (i + 1) s))) (ap alive e ∙ live)
+            ∙ ap (λ (x : Bool). cond x (run v (next v p (getD s i 0)) (took p (getD s i 0) c) (keep p c t)
+            (drop (i + 1) s)) (Parsed.broken (getD s i 0 ∷ drop (i + 1) s))) (ap alive e ∙ live)
             ∙ ap (λ (x : Point). run v x (took p (getD s i 0) c) (keep p c t) (drop (i + 1) s)) e;
       }
 
@@ -39,7 +42,8 @@ module _ (v : Version) (s : List ℕ) (i : ℕ) (p : Point) (c : Line) (t : Line
       record {
         within = h .within;
         same = here room
-            ∙ ap (λ (x : Bool). cond x (run v (next v p (getD s i 0)) (took p (getD s i 0) c) (keep p c t) (drop (i + 1) s)) (Parsed.broken (getD s i 0 ∷ drop (i + 1) s))) (ap alive e)
+            ∙ ap (λ (x : Bool). cond x (run v (next v p (getD s i 0)) (took p (getD s i 0) c) (keep p c t)
+            (drop (i + 1) s)) (Parsed.broken (getD s i 0 ∷ drop (i + 1) s))) (ap alive e)
             ∙ ap Parsed.broken (sym (drop-cons s i 0 room ∙ ap (λ (m : ℕ). getD s i 0 ∷ drop m s) (sym (add-one i))));
       }
 
@@ -50,12 +54,14 @@ module _ (v : Version) (s : List ℕ) (i : ℕ) (p : Point) (c : Line) (t : Line
       record { within = h .within; same = h .same ∙ ap (run v p c t) none ∙ e ∙ ap Parsed.broken (sym none) }
 
 -- a break is passed on
-pub break-on : (v : Version) (s : List ℕ) (i : ℕ) (ok : Bool) (p q : Point) (c d : Line) (t u : Lines) → not ok ≡ true → Reached v s i ok p c t → Reached v s i false q d u
+pub break-on : (v : Version) (s : List ℕ) (i : ℕ) (ok : Bool) (p q : Point) (c d : Line) (t u : Lines) → not ok ≡ true
+    → Reached v s i ok p c t → Reached v s i false q d u
 unfolding Reached
 break-on v s i true p q c d t u e h = absurd (apart (sym e))
 break-on v s i false p q c d t u e h = h
 
-pub reached : (v : Version) (s : List ℕ) (i : ℕ) (ok : Bool) (p : Point) (c : Line) (t : Lines) → not ok ≡ false → Reached v s i ok p c t → Reading v s i p c t
+pub reached : (v : Version) (s : List ℕ) (i : ℕ) (ok : Bool) (p : Point) (c : Line) (t : Lines) → not ok ≡ false
+    → Reached v s i ok p c t → Reading v s i p c t
 unfolding Reached
 reached v s i true p c t e h = h
 reached v s i false p c t e h = absurd (apart e)

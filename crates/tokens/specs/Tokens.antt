@@ -44,13 +44,15 @@ Spells v s i p c t [] q d u = (p ≡ q) × ((c ≡ d) × (t ≡ u))
 Spells v s i p c t (b ∷ w) q d u =
     (alive (next v p b) ≡ true)
     × (((getD s i 0 ≡ b → ⊥) → next v p (getD s i 0) ≡ Stuck)
-    × ((length s ≤ i → atEnd p t ≡ Parsed.broken []) × (getD s i 0 ≡ b → Spells v s (i + 1) (next v p b) (took p b c) (keep p c t) w q d u)))
+    × ((length s ≤ i → atEnd p t ≡ Parsed.broken [])
+    × (getD s i 0 ≡ b → Spells v s (i + 1) (next v p b) (took p b c) (keep p c t) w q d u)))
 
 pub record TextOn (s : List ℕ) (from : ℕ) (ok : Bool) (w : List ℕ) (r : Cursor) : Type 0 where
   pub later : from ≤ r .at
   pub past : r .ok ≡ true → from + length w ≤ r .at
   pub within : r .at ≤ length s
-  pub goes : (v : Version) (p : Point) (c : Line) (t : Lines) (q : Point) (d : Line) (u : Lines) → Spells v s from p c t w q d u → Reached v s from ok p c t → Reached v s (r .at) (r .ok) q d u
+  pub goes : (v : Version) (p : Point) (c : Line) (t : Lines) (q : Point) (d : Line) (u : Lines)
+      → Spells v s from p c t w q d u → Reached v s from ok p c t → Reached v s (r .at) (r .ok) q d u
 
 -- the first n bytes from there are those of the text
 abbrev pub Agrees : List ℕ → ℕ → List ℕ → ℕ → Type 0
@@ -77,7 +79,8 @@ pub record NumberOn (v : Version) (s : List ℕ) (from : ℕ) (ok : Bool) (r : N
   pub later : from ≤ r .at
   pub within : r .at ≤ length s
   pub small : r .value < 10 ^ 10
-  pub goes : (w : Word) (q : Part) (c : Line) (t : Lines) → Reached v s from ok (Digit w q) c t → Reached v s (r .at) (r .ok) (Digits w q 0) (withNum (r .value) c) t
+  pub goes : (w : Word) (q : Part) (c : Line) (t : Lines) → Reached v s from ok (Digit w q) c t
+      → Reached v s (r .at) (r .ok) (Digits w q 0) (withNum (r .value) c) t
 
 -- ---- a list
 
@@ -121,4 +124,5 @@ pub record ListOn (v : Version) (s : List ℕ) (from : ℕ) (ok : Bool) (r : Lis
   pub within : r .at ≤ length s
   pub entries : List ℕ
   pub kept : r .entries ≡ along noEntries entries
-  pub goes : (w : Word) (q : Part) (c : Line) (t : Lines) → listWord w ≡ true → Reached v s from ok (Past w q) c t → Reached v s (r .at) (r .ok) (Closed w q) (withEntries w entries c) t
+  pub goes : (w : Word) (q : Part) (c : Line) (t : Lines) → listWord w ≡ true → Reached v s from ok (Past w q) c t
+      → Reached v s (r .at) (r .ok) (Closed w q) (withEntries w entries c) t

@@ -11,14 +11,16 @@ use Rattle.route.specs.declared.Step.{Step}
 use Rattle.job.specs.Job.{Job, jobLine, newStart}
 use Rattle.matching.specs.inner.Matched.{Ready, PreparedOf}
 use Rattle.matching.specs.declared.Prepared.{Prepared}
-use Rattle.matching.proofs.Preparation.{doneSteps, prepared-ready, prepared-rows, steps-few, kept-has, kept-done, numbers-done, numbers-matched}
+use Rattle.matching.proofs.Preparation.{doneSteps, prepared-ready, prepared-rows, steps-few, kept-has, kept-done}
+use Rattle.matching.proofs.Preparation.{numbers-done, numbers-matched}
 use Rattle.matching.proofs.KeptRows.{kept-same}
 use Rattle.trying.specs.Try.{tryList, tried}
 use Rattle.trying.specs.inner.Replayable.{TryReady}
 use Rattle.trying.specs.declared.Tried.{Tried}
 use Rattle.trying.proofs.TryRows.{tried-list}
 
-module _ (j : Job) (p : Prepared) (occurrences matches : List ℕ) (is : PreparedOf j p occurrences matches) (t : Bool) (test : t ≡ eqb (p .outcome .number) 0) (on : not t ≡ false) where
+module _ (j : Job) (p : Prepared) (occurrences matches : List ℕ) (is : PreparedOf j p occurrences matches) (t : Bool)
+    (test : t ≡ eqb (p .outcome .number) 0) (on : not t ≡ false) where
   -- the steps done and the new route's steps for them, as they are lent
   abbrev lent : List Step
   lent = stepsIn (take (4 * length (j .done)) occurrences)
@@ -39,8 +41,13 @@ module _ (j : Job) (p : Prepared) (occurrences matches : List ℕ) (is : Prepare
               kept-is = ready .kept-is;
               matches-are = numbers-matched j p occurrences matches is t test on _ refl;
               all-same = λ i h.
-                  kept-same (jobLine j) (newStart j) (j .new) (doneSteps j) (prepared-rows j p occurrences matches is t test on) i
-                  (omega (arith, steps-few j p occurrences matches is t test on, kept-done j p occurrences matches is t test on i h))
+                  kept-same (jobLine j) (newStart j) (j .new) (doneSteps j)
+                  (prepared-rows j p occurrences matches is t test on) i
+                  (omega (
+                    arith,
+                    steps-few j p occurrences matches is t test on,
+                    kept-done j p occurrences matches is t test on i h,
+                  ))
                   (kept-has j p occurrences matches is t test on i h);
             };
       }

@@ -27,24 +27,28 @@ length-numbers i (suc n) = ap suc (length-numbers (suc i) n)
 pub turn-length : (o : List ℕ) (len : ℕ) → (length o ≡ len → ⊥) → false ≡ sameList o (map suc (inTurn 0 len))
 turn-length o len h = sym (apart o (map suc (inTurn 0 len)) (λ e. h (e ∙ length-numbers 0 len)))
 
-module _ (o : List ℕ) (len i : ℕ) (whole : Bool) (inv : sameList (drop i o) (map suc (inTurn i (len - i))) ≡ whole) where
-  pub turn-end : length o ≤ i → len ≤ i → true ≡ whole
-  unfolding sameList inTurn
-  turn-end h k =
-      let none-left : 0 ≡ len - i = omega arith in
-      ap₂ (λ (x : List ℕ) (n : ℕ). sameList x (map suc (inTurn i n))) (sym (drop-of-length-le o {i = i} h)) none-left ∙ inv
-
-  module _ (h : i < length o) (k : i < len) where
-    on : (t : Bool) → eqb (getD o i 0) (suc i) ≡ t → (t && sameList (drop (suc i) o) (map suc (inTurn (suc i) (len - suc i)))) ≡ whole
+module _ (o : List ℕ) (len i : ℕ) (whole : Bool) (inv : sameList (drop i o) (map suc (inTurn i (len - i))) ≡ whole)
+  where
+    pub turn-end : length o ≤ i → len ≤ i → true ≡ whole
     unfolding sameList inTurn
-    on t e =
-        let one : suc (len - suc i) ≡ len - i = omega arith in
-        ap (λ (b : Bool). b && sameList (drop (suc i) o) (map suc (inTurn (suc i) (len - suc i)))) (sym e)
-        ∙ ap₂ (λ (x : List ℕ) (n : ℕ). sameList x (map suc (inTurn i n))) (sym (drop-cons o i 0 h)) one
+    turn-end h k =
+        let none-left : 0 ≡ len - i = omega arith in
+        ap₂ (λ (x : List ℕ) (n : ℕ). sameList x (map suc (inTurn i n))) (sym (drop-of-length-le o {i = i} h)) none-left
         ∙ inv
 
-    pub turn-off : (getD o i 0 ≡ i + 1 → ⊥) → false ≡ whole
-    turn-off far = on false (ne-eqb (getD o i 0) (suc i) (λ e. far (e ∙ sym (add-one i))))
+    module _ (h : i < length o) (k : i < len) where
+      on : (t : Bool) → eqb (getD o i 0) (suc i) ≡ t
+          → (t && sameList (drop (suc i) o) (map suc (inTurn (suc i) (len - suc i)))) ≡ whole
+      unfolding sameList inTurn
+      on t e =
+          let one : suc (len - suc i) ≡ len - i = omega arith in
+          ap (λ (b : Bool). b && sameList (drop (suc i) o) (map suc (inTurn (suc i) (len - suc i)))) (sym e)
+          ∙ ap₂ (λ (x : List ℕ) (n : ℕ). sameList x (map suc (inTurn i n))) (sym (drop-cons o i 0 h)) one
+          ∙ inv
 
-    pub turn-on : getD o i 0 ≡ i + 1 → sameList (drop (i + 1) o) (map suc (inTurn (i + 1) (len - (i + 1)))) ≡ whole
-    turn-on e = ap (λ (n : ℕ). sameList (drop n o) (map suc (inTurn n (len - n)))) (add-one i) ∙ on true (eq-eqb (getD o i 0) (suc i) (e ∙ add-one i))
+      pub turn-off : (getD o i 0 ≡ i + 1 → ⊥) → false ≡ whole
+      turn-off far = on false (ne-eqb (getD o i 0) (suc i) (λ e. far (e ∙ sym (add-one i))))
+
+      pub turn-on : getD o i 0 ≡ i + 1 → sameList (drop (i + 1) o) (map suc (inTurn (i + 1) (len - (i + 1)))) ≡ whole
+      turn-on e = ap (λ (n : ℕ). sameList (drop n o) (map suc (inTurn n (len - n)))) (add-one i)
+          ∙ on true (eq-eqb (getD o i 0) (suc i) (e ∙ add-one i))

@@ -1,32 +1,25 @@
--- Row 16, entry by entry: what a loop over the order meets. An entry that is kept and new leaves the row of those after it.
+-- Row 16, entry by entry: what a loop over the order meets. An entry that is kept and new leaves the row of those after
+-- it.
 use mathlib.Core.Path.{_≡_, refl, sym, ap, ap₂, _∙_}
 use mathlib.Core.Bool.{Bool, true, false, not, cond, _&&_, and-false}
 use mathlib.Core.List.{List, _∷_}
 use Prim.Native.Nat.{ℕ, suc, _+_, _-_, _^_, _≤_, _<_}
 use native.Mathlib.Omega.{arith}
 use native.Mathlib.Numerals.{add-one}
-use native.Mathlib.Nat.{mod-eq-of-lt}
 use lib.Dec.{eqb, leb}
-use lib.Bits.{bitOr, and-mask}
+use lib.Bits.{bitOr}
 use lib.ListN.{length, drop, getD, drop-of-length-le}
 use lib.Seq.{drop-cons}
-use borrow.Author.Tests.{eq-eqb, ne-eqb, leb-true, le-ltb, not-true}
-use Rattle.mask.specs.Mask.{has, bit, below, without}
-use Rattle.mask.proofs.Laws.{has-and, has-below, has-without}
+use borrow.Author.Tests.{eq-eqb, ne-eqb, leb-true, not-true}
+use Rattle.mask.specs.Mask.{has, bit, without}
+use Rattle.mask.proofs.Laws.{has-without}
+use Rattle.mask.proofs.Cut.{has-high}
 use Rattle.mask.proofs.Truth.{both}
 use Rattle.refusal.specs.Rows.{pass, refuse}
 use Rattle.refusal.specs.declared.Outcome.{Outcome}
 use Rattle.trying.specs.Try.{isKept, listRow}
 
 -- ---- one entry
-
--- a mask of w bits has no member from w on
-pub past : (w m v : ℕ) → m < 2 ^ w → w ≤ v → has m v ≡ false
-past w m v h k =
-    ap (λ (n : ℕ). has n v) (sym (and-mask m w ∙ mod-eq-of-lt h))
-    ∙ has-and m (below w) v
-    ∙ ap (λ (t : Bool). has m v && t) (has-below w v ∙ le-ltb v w k)
-    ∙ and-false (has m v)
 
 -- the test of an entry
 abbrev pub isFresh : ℕ → ℕ → ℕ → Bool
@@ -39,18 +32,21 @@ module _ (kept seen b : ℕ) where
 
   pub fresh-high : kept < 2 ^ 64 → 64 < b → false ≡ isFresh kept seen b
   unfolding isKept
-  fresh-high h k = ap (λ (t : Bool). t && not (has seen (b - 1))) (sym (ap (λ (t : Bool). leb 1 b && t) (past 64 kept (b - 1) h (omega arith)) ∙ and-false (leb 1 b)))
+  fresh-high h k = ap (λ (t : Bool). t && not (has seen (b - 1)))
+      (sym (ap (λ (t : Bool). leb 1 b && t) (has-high 64 kept (b - 1) h (omega arith)) ∙ and-false (leb 1 b)))
 
   pub fresh-is : leb 1 b ≡ true → has (without kept seen) (b - 1) ≡ isFresh kept seen b
   unfolding isKept
-  fresh-is e = has-without kept seen (b - 1) ∙ ap (λ (t : Bool). (t && has kept (b - 1)) && not (has seen (b - 1))) (sym e)
+  fresh-is e = has-without kept seen (b - 1) ∙ ap (λ (t : Bool). (t && has kept (b - 1)) && not (has seen (b - 1)))
+      (sym e)
 
 -- where a kept entry lies
 pub kept-range : (kept b : ℕ) → kept < 2 ^ 64 → isKept kept b ≡ true → (1 ≤ b) × (b - 1 < 64)
 unfolding isKept
 kept-range kept b h e =
     let (low, there) = both (leb 1 b) (has kept (b - 1)) e in
-    let high : 64 ≤ b - 1 → ⊥ = λ k. let z : _≡_ {A = ℕ} 0 1 = cc (there, past 64 kept (b - 1) h k) in omega arith in
+    let high : 64 ≤ b - 1 → ⊥ = λ k. let z : _≡_ {A = ℕ} 0 1 =
+    cc (there, has-high 64 kept (b - 1) h k) in omega arith in
     (leb-true 1 b low, omega arith)
 
 -- ---- a row that passes
@@ -61,25 +57,31 @@ pub record Passed (kept seen at b : ℕ) (o : List ℕ) : Type 0 where
   pub new : has seen (b - 1) ≡ false
   pub rest : listRow kept (bitOr seen (bit (b - 1))) (at + 1) o .number ≡ 0
 
-pub passed-entry : (kept seen at b : ℕ) (o : List ℕ) → listRow kept seen at (b ∷ o) .number ≡ 0 → Passed kept seen at b o
+pub passed-entry : (kept seen at b : ℕ) (o : List ℕ) → listRow kept seen at (b ∷ o) .number ≡ 0
+    → Passed kept seen at b o
 unfolding listRow
 passed-entry kept seen at b o e = go (isFresh kept seen b) refl e
   where
-    go : (t : Bool) → isFresh kept seen b ≡ t → cond t (listRow kept (bitOr seen (bit (b - 1))) (at + 1) o) (refuse 16 at) .number ≡ 0 → Passed kept seen at b o
-    go true h p = let (k, n) = both (isKept kept b) (not (has seen (b - 1))) h in record { entry = k; new = not-true (has seen (b - 1)) n; rest = p }
+    go : (t : Bool) → isFresh kept seen b ≡ t → cond t (listRow kept (bitOr seen (bit (b - 1))) (at + 1) o)
+        (refuse 16 at) .number ≡ 0 → Passed kept seen at b o
+    go true h p = let (k, n) = both (isKept kept b) (not (has seen (b - 1))) h in record
+        { entry = k; new = not-true (has seen (b - 1)) n; rest = p }
     go false h p = absurd (omega arith)
 
-pub passed-at : (kept seen i : ℕ) (o : List ℕ) → i < length o → listRow kept seen (i + 1) (drop i o) .number ≡ 0 → Passed kept seen (i + 1) (getD o i 0) (drop (i + 1) o)
+pub passed-at : (kept seen i : ℕ) (o : List ℕ) → i < length o → listRow kept seen (i + 1) (drop i o) .number ≡ 0
+    → Passed kept seen (i + 1) (getD o i 0) (drop (i + 1) o)
 passed-at kept seen i o h e =
     passed-entry kept seen (i + 1) (getD o i 0) (drop (i + 1) o)
-    (ap (λ (n : ℕ). listRow kept seen (i + 1) (getD o i 0 ∷ drop n o) .number) (add-one i) ∙ ap (λ (x : List ℕ). listRow kept seen (i + 1) x .number) (sym (drop-cons o i 0 h)) ∙ e)
+    (ap (λ (n : ℕ). listRow kept seen (i + 1) (getD o i 0 ∷ drop n o) .number) (add-one i)
+    ∙ ap (λ (x : List ℕ). listRow kept seen (i + 1) x .number) (sym (drop-cons o i 0 h)) ∙ e)
 
 -- ---- the loop
 
 module _ (kept seen i : ℕ) (o : List ℕ) (whole : Outcome) (inv : listRow kept seen (i + 1) (drop i o) ≡ whole) where
   ends : length o ≤ i → (t : Bool) → eqb seen kept ≡ t → cond t pass (refuse 16 (i + 1)) ≡ whole
   unfolding listRow
-  ends h t e = ap (λ (b : Bool). cond b pass (refuse 16 (i + 1))) (sym e) ∙ ap (listRow kept seen (i + 1)) (sym (drop-of-length-le o {i = i} h)) ∙ inv
+  ends h t e = ap (λ (b : Bool). cond b pass (refuse 16 (i + 1))) (sym e)
+      ∙ ap (listRow kept seen (i + 1)) (sym (drop-of-length-le o {i = i} h)) ∙ inv
 
   pub list-missing : length o ≤ i → (seen ≡ kept → ⊥) → refuse 16 (i + 1) ≡ whole
   list-missing h e = ends h false (ne-eqb seen kept e)
@@ -88,15 +90,20 @@ module _ (kept seen i : ℕ) (o : List ℕ) (whole : Outcome) (inv : listRow kep
   list-whole h e = ends h true (eq-eqb seen kept e)
 
   module _ (h : i < length o) (t : Bool) (is : t ≡ isFresh kept seen (getD o i 0)) where
-    on : cond t (listRow kept (bitOr seen (bit (getD o i 0 - 1))) (i + 1 + 1) (drop (suc i) o)) (refuse 16 (i + 1)) ≡ whole
+    on : cond t (listRow kept (bitOr seen (bit (getD o i 0 - 1))) (i + 1 + 1) (drop (suc i) o)) (refuse 16 (i + 1))
+        ≡ whole
     unfolding listRow
-    on = ap (λ (b : Bool). cond b (listRow kept (bitOr seen (bit (getD o i 0 - 1))) (i + 1 + 1) (drop (suc i) o)) (refuse 16 (i + 1))) is ∙ ap (listRow kept seen (i + 1)) (sym (drop-cons o i 0 h)) ∙ inv
+    on = ap (λ (b : Bool). cond b (listRow kept (bitOr seen (bit (getD o i 0 - 1))) (i + 1 + 1) (drop (suc i) o))
+        (refuse 16 (i + 1))) is ∙ ap (listRow kept seen (i + 1)) (sym (drop-cons o i 0 h)) ∙ inv
 
     pub list-refused : t ≡ false → refuse 16 (i + 1) ≡ whole
-    list-refused e = ap (λ (b : Bool). cond b (listRow kept (bitOr seen (bit (getD o i 0 - 1))) (i + 1 + 1) (drop (suc i) o)) (refuse 16 (i + 1))) (sym e) ∙ on
+    list-refused e = ap (λ (b : Bool). cond b (listRow kept (bitOr seen (bit (getD o i 0 - 1))) (i + 1 + 1)
+        (drop (suc i) o)) (refuse 16 (i + 1))) (sym e) ∙ on
 
-    pub list-on : t ≡ true → (own : ℕ) → own ≡ bit (getD o i 0 - 1) → listRow kept (bitOr seen own) (i + 1 + 1) (drop (i + 1) o) ≡ whole
+    pub list-on : t ≡ true → (own : ℕ) → own ≡ bit (getD o i 0 - 1)
+        → listRow kept (bitOr seen own) (i + 1 + 1) (drop (i + 1) o) ≡ whole
     list-on e own own-is =
         ap₂ (λ (x n : ℕ). listRow kept (bitOr seen x) (i + 1 + 1) (drop n o)) own-is (add-one i)
-        ∙ ap (λ (b : Bool). cond b (listRow kept (bitOr seen (bit (getD o i 0 - 1))) (i + 1 + 1) (drop (suc i) o)) (refuse 16 (i + 1))) (sym e)
+        ∙ ap (λ (b : Bool). cond b (listRow kept (bitOr seen (bit (getD o i 0 - 1))) (i + 1 + 1) (drop (suc i) o))
+        (refuse 16 (i + 1))) (sym e)
         ∙ on

@@ -37,26 +37,33 @@ use Rattle.trying.proofs.Entry.{Answers}
 
 -- ---- rows 16 to 18
 
-module _ (kept : ℕ) (o : List ℕ) (w : Outcome) (is : w ≡ listRow kept 0 1 o) (t : Bool) (test : t ≡ eqb (w .number) 0) where
+module _ (kept : ℕ) (o : List ℕ) (w : Outcome) (is : w ≡ listRow kept 0 1 o) (t : Bool)
+    (test : t ≡ eqb (w .number) 0) where
   pub list-passes : not t ≡ false → listRow kept 0 1 o .number ≡ 0
   list-passes on = ap (λ (x : Outcome). x .number) (sym is) ∙ eqb-true (w .number) 0 (sym test ∙ not-false t on)
 
   module _ (l matches : List Step) (m : ℕ) (r : Tried) where
-    picked : (new : List Step) → kept ≡ keptOf new l → (b : Bool) → t ≡ b → cond b (tryFrom new l m 1 (positions o)) (tryStopped (w .number) (w .second)) ≡ byRows new l m o
+    picked : (new : List Step) → kept ≡ keptOf new l → (b : Bool) → t ≡ b
+        → cond b (tryFrom new l m 1 (positions o)) (tryStopped (w .number) (w .second)) ≡ byRows new l m o
     unfolding byRows
     picked new kept-is b e =
         ap (λ (x : Bool). cond x (tryFrom new l m 1 (positions o)) (tryStopped (w .number) (w .second))) (sym e ∙ test)
-        ∙ ap (λ (x : Outcome). cond (eqb (x .number) 0) (tryFrom new l m 1 (positions o)) (tryStopped (x .number) (x .second))) (is ∙ ap (λ (n : ℕ). listRow n 0 1 o) kept-is)
+        ∙ ap (λ (x : Outcome). cond (eqb (x .number) 0) (tryFrom new l m 1 (positions o))
+        (tryStopped (x .number) (x .second))) (is ∙ ap (λ (n : ℕ). listRow n 0 1 o) kept-is)
 
-    pub rows-refused : not t ≡ true → r ≡ tryStopped (w .number) (w .second) → (new : List Step) → Replayable new l kept matches → r ≡ byRows new l m o
+    pub rows-refused : not t ≡ true → r ≡ tryStopped (w .number) (w .second) → (new : List Step)
+        → Replayable new l kept matches → r ≡ byRows new l m o
     rows-refused off e new ready = e ∙ picked new (ready .kept-is) false (not-true t off)
 
-    pub rows-tried : (rows : List ℕ) → not t ≡ false → rows ≡ table l → Answers o kept rows matches m r → (new : List Step) → Replayable new l kept matches → r ≡ byRows new l m o
-    rows-tried rows on rows-are answers new ready = answers new l ready rows-are ∙ picked new (ready .kept-is) true (not-false t on)
+    pub rows-tried : (rows : List ℕ) → not t ≡ false → rows ≡ table l → Answers o kept rows matches m r
+        → (new : List Step) → Replayable new l kept matches → r ≡ byRows new l m o
+    rows-tried rows on rows-are answers new ready =
+        answers new l ready rows-are ∙ picked new (ready .kept-is) true (not-false t on)
 
 -- ---- the straight list first
 
-module _ (l : List Step) (p : Prepared) (matches : List Step) (o : List ℕ) (n : ℕ) (count : n ≡ length l) (f : End) (is : f ≡ cond (sameList o (map suc (inTurn 0 n))) (p .straight) Stuck) where
+module _ (l : List Step) (p : Prepared) (matches : List Step) (o : List ℕ) (n : ℕ) (count : n ≡ length l) (f : End)
+    (is : f ≡ cond (sameList o (map suc (inTurn 0 n))) (p .straight) Stuck) where
   abbrev accepted : Marking → Tried
   accepted m = record { number = 0; second = 0; marking = m }
 
@@ -92,11 +99,15 @@ module _ (l : List Step) (p : Prepared) (matches : List Step) (o : List ℕ) (n 
         go false true q = refl
         go false false q = refl
 
-  pub list-straight : (m : Marking) → f ≡ At m → (from : ℕ) (new : List Step) → TryReady from new l p matches → accepted m ≡ tryList from new l o
+  pub list-straight : (m : Marking) → f ≡ At m → (from : ℕ) (new : List Step) → TryReady from new l p matches
+      → accepted m ≡ tryList from new l o
   list-straight m e from new ready = at-end from new ready m e
 
-  pub list-rows : (r : Tried) → f ≡ Stuck → ((new : List Step) → Replayable new l (p .kept) matches → r ≡ byRows new l (p .start .tokens) o) → (from : ℕ) (new : List Step) → TryReady from new l p matches → r ≡ tryList from new l o
-  list-rows r e by from new ready = by new (ready .kept-are) ∙ ap (λ (m : ℕ). byRows new l m o) (ready .start-is) ∙ at-rows from new ready e
+  pub list-rows : (r : Tried) → f ≡ Stuck → ((new : List Step) → Replayable new l (p .kept) matches
+      → r ≡ byRows new l (p .start .tokens) o) → (from : ℕ) (new : List Step) → TryReady from new l p matches
+      → r ≡ tryList from new l o
+  list-rows r e by from new ready = by new (ready .kept-are) ∙ ap (λ (m : ℕ). byRows new l m o) (ready .start-is)
+      ∙ at-rows from new ready e
 
 -- ---- the operation
 
@@ -115,7 +126,10 @@ module _ (j : Job) (o : List ℕ) where
       rowsBy : Bool → Outcome
       rowsBy t = cond t keptOutcome (refuse (ran j .number) (ran j .second))
 
-      go : (t : Bool) → eqb (ran j .number) 0 ≡ t → cond t (tryRows (jobLine j) (newStart j) (j .new) (performed (j .old) (j .done)) o) (tryStopped (ran j .number) (ran j .second)) ≡ cond (eqb (rowsBy t .number) 0) list (tryStopped (rowsBy t .number) (rowsBy t .second))
+      go : (t : Bool) → eqb (ran j .number) 0 ≡ t
+          → cond t (tryRows (jobLine j) (newStart j) (j .new) (performed (j .old) (j .done)) o)
+          (tryStopped (ran j .number) (ran j .second))
+          ≡ cond (eqb (rowsBy t .number) 0) list (tryStopped (rowsBy t .number) (rowsBy t .second))
       go true e = refl
       go false e = ap (λ (b : Bool). cond b list (tryStopped (ran j .number) (ran j .second))) (sym e)
 
@@ -126,20 +140,24 @@ module _ (j : Job) (o : List ℕ) where
         ∙ ap (λ (x : Outcome). cond (eqb (x .number) 0) list (tryStopped (x .number) (x .second))) is
         ∙ sym by-outcome
 
-    pub tried-refused : (r : Tried) → w ≡ rowsTo12 j → not t ≡ true → r ≡ tryStopped (w .number) (w .second) → r ≡ tried j o
+    pub tried-refused : (r : Tried) → w ≡ rowsTo12 j → not t ≡ true → r ≡ tryStopped (w .number) (w .second)
+        → r ≡ tried j o
     tried-refused r is off e = e ∙ by-row is false (not-true t off)
 
     pub tried-list : (r : Tried) → w ≡ rowsTo12 j → not t ≡ false → r ≡ list → r ≡ tried j o
     tried-list r is on e = e ∙ by-row is true (not-false t on)
 
     -- a line that is refused
-    pub tried-line : (r : Tried) → w ≡ first (lineRows j) → not t ≡ true → r ≡ tryStopped (w .number) (w .second) → r ≡ tried j o
+    pub tried-line : (r : Tried) → w ≡ first (lineRows j) → not t ≡ true → r ≡ tryStopped (w .number) (w .second)
+        → r ≡ tried j o
     unfolding tried
     tried-line r is off e =
         let stop = ran-line j w is t test _ off refl in
         e
         ∙ ap (λ (x : Ran). tryStopped (x .number) (x .second)) stop
-        ∙ ap (λ (b : Bool). cond b (tryRows (jobLine j) (newStart j) (j .new) (performed (j .old) (j .done)) o) (tryStopped (ran j .number) (ran j .second))) (sym (ap (λ (x : Ran). eqb (x .number) 0) (sym stop) ∙ sym test ∙ not-true t off))
+        ∙ ap (λ (b : Bool). cond b (tryRows (jobLine j) (newStart j) (j .new) (performed (j .old) (j .done)) o)
+        (tryStopped (ran j .number) (ran j .second)))
+        (sym (ap (λ (x : Ran). eqb (x .number) 0) (sym stop) ∙ sym test ∙ not-true t off))
 
 -- ---- both routes laid as numbers: what a list has past its 65th step changes nothing
 
@@ -153,4 +171,5 @@ pub tried-laid :
     → Laid (stepsOf new) m b
     → r ≡ tried (flatJob (old .places) (take n a) (new .places) (take m b) done) o
     → r ≡ tried (jobOf old new done) o
-tried-laid old new done o n a m b r p q e = e ∙ same-laid old new done n a m b p q (λ (j : Job). tried j o) (tried-alike o)
+tried-laid old new done o n a m b r p q e = e ∙ same-laid old new done n a m b p q (λ (j : Job). tried j o)
+    (tried-alike o)

@@ -40,18 +40,20 @@ sameList (x ∷ l) (y ∷ k) = eqb x y && sameList l k
 unfoldable pub isKept : ℕ → ℕ → Bool
 isKept kept b = leb 1 b && has kept (b - 1)
 
--- 16, over the whole list: an entry that is not kept, or repeated, at its position from 1; or some missing, at the length + 1. `seen` are
--- the positions of the entries passed, `at` is the position of the next
+-- 16, over the whole list: an entry that is not kept, or repeated, at its position from 1; or some missing, at the
+-- length + 1. `seen` are the positions of the entries passed, `at` is the position of the next
 unfoldable pub listRow : ℕ → ℕ → ℕ → List ℕ → Outcome
 listRow kept seen at [] = cond (eqb seen kept) pass (refuse 16 at)
-listRow kept seen at (b ∷ o) = cond (isKept kept b && not (has seen (b - 1))) (listRow kept (bitOr seen (bit (b - 1))) (at + 1) o) (refuse 16 at)
+listRow kept seen at (b ∷ o) = cond (isKept kept b && not (has seen (b - 1)))
+    (listRow kept (bitOr seen (bit (b - 1))) (at + 1) o) (refuse 16 at)
 
 -- 17: before one it comes after; 18: can't fire; each entry in turn
 unfoldable pub tryFrom : List Step → List Step → ℕ → ℕ → List ℕ → Tried
 tryFrom new l m at [] = tryAccepted m
 tryFrom new l m at (i ∷ o) =
     cond (noneOf (comesAfter l i) o)
-    (ifFires m (lookup (getD l i blank .name) new) (tryStopped 18 at) (tryStopped 18 at) (λ s m′. tryFrom new l m′ (at + 1) o))
+    (ifFires m (lookup (getD l i blank .name) new) (tryStopped 18 at) (tryStopped 18 at)
+    (λ s m′. tryFrom new l m′ (at + 1) o))
     (tryStopped 17 at)
 
 -- after row 12: the straight list first, then rows 16, 17 and 18

@@ -1,5 +1,5 @@
--- The limits of a version: a name can be written and stored, a number that was read is small, and 01's version keeps to them.
--- Assumes nothing.
+-- The limits of a version: a name can be written and stored, a number that was read is small, and 01's version keeps to
+-- them. Assumes nothing.
 use mathlib.Core.Path.{_≡_}
 use mathlib.Core.Bool.{true}
 use Prim.Native.Nat.{ℕ, _^_, _≤_, _<_}

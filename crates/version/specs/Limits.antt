@@ -12,7 +12,8 @@ scope = record { digits = 5; greatest = 65535 }
 unfoldable pub nameFits : Version → ℕ → Bool
 nameFits v n = leb 1 n && leb n (v .greatest)
 
--- Every place count and entry that passes row 2 can be written, and every name; a number that was read fits 64 bits, a name 32.
+-- Every place count and entry that passes row 2 can be written, and every name; a number that was read fits 64 bits, a
+-- name 32.
 pub record Limits (v : Version) : Type 0 where
   pub two : 2 ≤ v .digits
   pub ten : v .digits ≤ 10

@@ -32,11 +32,13 @@ module _ (j : Job) (o : Outcome) (is : o ≡ first (lineRows j)) where
 
     pub refused-answer : (n : ℕ) → record { number = o .number; second = o .second; written = 0 } ≡ wrote j n
     unfolding wrote
-    refused-answer n = sym (ap (answer (length (written j))) (row-refused n) ∙ (λ i. record { number = o .number; second = o .second; written = cond (fails i) (length (written j)) 0 }))
+    refused-answer n = sym (ap (answer (length (written j))) (row-refused n)
+        ∙ (λ i. record { number = o .number; second = o .second; written = cond (fails i) (length (written j)) 0 }))
 
     pub refused-out : (l : List ℕ) → l ≡ outAfter j l
     unfolding outAfter
-    refused-out l = sym (ap (left (written j) l) (row-refused (length l)) ∙ ap (λ (t : Bool). cond t (written j ++ drop (length (written j)) l) l) fails)
+    refused-out l = sym (ap (left (written j) l) (row-refused (length l))
+        ∙ ap (λ (t : Bool). cond t (written j ++ drop (length (written j)) l) l) fails)
 
   -- the lines pass
   module _ (passes : eqb (o .number) 0 ≡ true) (l : List ℕ) where
@@ -48,7 +50,8 @@ module _ (j : Job) (o : Outcome) (is : o ≡ first (lineRows j)) where
     module _ (n : ℕ) (long : n ≡ length (written j)) (short : length l < n) where
       row-short : writeRow j (length l) ≡ record { number = 15; second = n }
       unfolding first unless
-      row-short = row-last ∙ ap (λ (t : Bool). first (unless t 15 (length (written j)) ∷ [])) (lt-leb (length (written j)) (length l) (omega arith)) ∙ (λ i. record { number = 15; second = sym long i })
+      row-short = row-last ∙ ap (λ (t : Bool). first (unless t 15 (length (written j)) ∷ []))
+          (lt-leb (length (written j)) (length l) (omega arith)) ∙ (λ i. record { number = 15; second = sym long i })
 
       pub short-answer : record { number = 15; second = n; written = 0 } ≡ wrote j (length l)
       unfolding wrote
@@ -62,11 +65,13 @@ module _ (j : Job) (o : Outcome) (is : o ≡ first (lineRows j)) where
     module _ (n : ℕ) (long : n ≡ length (written j)) (room : n ≤ length l) where
       row-passed : writeRow j (length l) ≡ record { number = 0; second = 0 }
       unfolding first unless
-      row-passed = row-last ∙ ap (λ (t : Bool). first (unless t 15 (length (written j)) ∷ [])) (le-leb (length (written j)) (length l) (omega arith))
+      row-passed = row-last ∙ ap (λ (t : Bool). first (unless t 15 (length (written j)) ∷ []))
+          (le-leb (length (written j)) (length l) (omega arith))
 
       pub passed-answer : record { number = 0; second = 0; written = n } ≡ wrote j (length l)
       unfolding wrote
-      passed-answer = (λ i. record { number = 0; second = 0; written = long i }) ∙ sym (ap (answer (length (written j))) row-passed)
+      passed-answer = (λ i. record { number = 0; second = 0; written = long i })
+          ∙ sym (ap (answer (length (written j))) row-passed)
 
       pub passed-out : (p : List ℕ) → p ≡ written j ++ drop (length (written j)) l → p ≡ outAfter j l
       unfolding outAfter

@@ -1,6 +1,5 @@
--- "No sheet that reads is longer than 18,136 bytes": the longest step line has 130 bytes besides its name, a head 9, the job line 6, a done
--- line 8 besides its name.
--- Assumes nothing.
+-- "No sheet that reads is longer than 18,136 bytes": the longest step line has 130 bytes besides its name, a head 9,
+-- the job line 6, a done line 8 besides its name. Assumes nothing.
 use mathlib.Core.Path.{_≡_, refl, sym, ap, _∙_, subst}
 use mathlib.Core.Bool.{Bool, true, false, not, cond}
 use mathlib.Core.List.{List, [], _∷_}
@@ -19,7 +18,8 @@ use Rattle.version.proofs.Tens.{tenth}
 use Rattle.version.proofs.Limits.{scope-limits, name-short}
 use Rattle.job.specs.Lines.{lineRows}
 use Rattle.layout.specs.Words.{spelling}
-use Rattle.layout.specs.Text.{Form, Lines, digits, number, entries, listed, stepLine, wordLine, jobLine, stepLines, doneLines, jobText, text, Short, Shorts}
+use Rattle.layout.specs.Text.{Form, Lines, digits, number, entries, listed, stepLine, wordLine, jobLine, stepLines}
+use Rattle.layout.specs.Text.{doneLines, jobText, text, Short, Shorts}
 use Rattle.layout.specs.declared.Word.the-variants.{New, Job, In, Out, Read, Write}
 use Rattle.layout.proofs.Sound.{sound}
 use Rattle.facts.specs.Forms.{allBelow, rising, listFits, formFits, formLists}
@@ -38,7 +38,9 @@ unfolding digits
 long-digits zero k n s h = omega arith
 long-digits (suc f) k n s h = go (ltb n 10) refl k h (λ j r. long-digits f j (n / 10) ((48 + n % 10) ∷ s) r)
   where
-    go : (t : Bool) → ltb n 10 ≡ t → (k : ℕ) → n < 10 ^ suc k → ((j : ℕ) → n / 10 < 10 ^ suc j → length (digits f (n / 10) ((48 + n % 10) ∷ s)) ≤ suc j + suc (length s)) → length (cond t ((48 + n) ∷ s) (digits f (n / 10) ((48 + n % 10) ∷ s))) ≤ suc k + length s
+    go : (t : Bool) → ltb n 10 ≡ t → (k : ℕ) → n < 10 ^ suc k
+        → ((j : ℕ) → n / 10 < 10 ^ suc j → length (digits f (n / 10) ((48 + n % 10) ∷ s)) ≤ suc j + suc (length s))
+        → length (cond t ((48 + n) ∷ s) (digits f (n / 10) ((48 + n % 10) ∷ s))) ≤ suc k + length s
     go true e k b ih = omega arith
     go false e zero b ih = absurd (omega (arith, ltb-false n 10 e))
     go false e (suc k) b ih = omega (arith, ih k (tenth (suc k) n b))
@@ -56,7 +58,8 @@ two-digits : (n : ℕ) (s : List ℕ) → n < 100 → length (number n s) ≤ 2 
 unfolding number
 two-digits n s h = long-digits 20 1 n s h
 
-long-entries : (l : List ℕ) (n : ℕ) (s : List ℕ) → n ≤ 64 → allBelow n l ≡ true → length (entries l s) ≤ length l * 3 + length s
+long-entries : (l : List ℕ) (n : ℕ) (s : List ℕ) → n ≤ 64 → allBelow n l ≡ true
+    → length (entries l s) ≤ length l * 3 + length s
 unfolding entries allBelow
 long-entries [] n s h e = omega arith
 long-entries (m ∷ l) n s h e =
@@ -65,11 +68,17 @@ long-entries (m ∷ l) n s h e =
     omega (arith, two-digits m (entries l s) (omega arith), long-entries l n s h (parts .1))
 
 -- a list of at most eight entries
-long-list : (l : List ℕ) (n : ℕ) (s : List ℕ) → n ≤ 64 → allBelow n l ≡ true → listFits l ≡ true → length (entries l s) ≤ 24 + length s
+long-list : (l : List ℕ) (n : ℕ) (s : List ℕ) → n ≤ 64 → allBelow n l ≡ true → listFits l ≡ true
+    → length (entries l s) ≤ 24 + length s
 unfolding listFits
-long-list l n s h e f = omega (arith, long-entries l n s h e, leb-true (length l) 8 (both (leb (length l) 8) (rising 0 l) f .0))
+long-list l n s h e f = omega (
+  arith,
+  long-entries l n s h e,
+  leb-true (length l) 8 (both (leb (length l) 8) (rising 0 l) f .0),
+)
 
-long-step : (v : Version) → Limits v → (places : ℕ) (f : Form) (s : List ℕ) → places ≤ 64 → Fine v places f → length (stepLine f s) ≤ 130 + v .digits + length s
+long-step : (v : Version) → Limits v → (places : ℕ) (f : Form) (s : List ℕ) → places ≤ 64 → Fine v places f
+    → length (stepLine f s) ≤ 130 + v .digits + length s
 unfolding stepLine listed spelling formFits formLists
 long-step v limits places f s h fine =
     let a = both (nameFits v (f .name)) _ (fine .fits) in
@@ -87,19 +96,38 @@ long-step v limits places f s h fine =
     let x = long-list (f .reads) 32 (41 ∷ fourth) (omega arith) (d .0) (t .0) in
     let y = long-list (f .outs) places (41 ∷ third) h (c .0) (r .0) in
     let z = long-list (f .ins) places (41 ∷ second) h (b .0) (q .0) in
-    omega (arith, long-number v limits (f .name) (listed In (f .ins) second) (name-short v limits (f .name) (a .0)), w, x, y, z)
+    omega (
+      arith,
+      long-number v limits (f .name) (listed In (f .ins) second) (name-short v limits (f .name) (a .0)),
+      w,
+      x,
+      y,
+      z,
+    )
 
-long-steps : (v : Version) → Limits v → (l : List Form) (places : ℕ) (s : List ℕ) → places ≤ 64 → AllFine v places l → length (stepLines l s) ≤ length l * (130 + v .digits) + length s
+long-steps : (v : Version) → Limits v → (l : List Form) (places : ℕ) (s : List ℕ) → places ≤ 64 → AllFine v places l
+    → length (stepLines l s) ≤ length l * (130 + v .digits) + length s
 unfolding stepLines
 long-steps v limits [] places s h fine = omega arith
 long-steps v limits (f ∷ l) places s h fine =
-    omega (arith, long-step v limits places f (stepLines l s) h (fine .0), long-steps v limits l places s h (fine .1), suc-mul (length l) (130 + v .digits))
+    omega (
+      arith,
+      long-step v limits places f (stepLines l s) h (fine .0),
+      long-steps v limits l places s h (fine .1),
+      suc-mul (length l) (130 + v .digits),
+    )
 
-long-dones : (v : Version) → Limits v → (l s : List ℕ) → Shorts v l → length (doneLines l s) ≤ length l * (8 + v .digits) + length s
+long-dones : (v : Version) → Limits v → (l s : List ℕ) → Shorts v l
+    → length (doneLines l s) ≤ length l * (8 + v .digits) + length s
 unfolding doneLines wordLine spelling
 long-dones v limits [] s h = omega arith
 long-dones v limits (n ∷ l) s h =
-    omega (arith, long-number v limits n (41 ∷ 10 ∷ doneLines l s) (h .0), long-dones v limits l s (h .1), suc-mul (length l) (8 + v .digits))
+    omega (
+      arith,
+      long-number v limits n (41 ∷ 10 ∷ doneLines l s) (h .0),
+      long-dones v limits l s (h .1),
+      suc-mul (length l) (8 + v .digits),
+    )
 
 long-text : (v : Version) → Limits v → (x : Lines) → AllLines v x → length (text x) ≤ longest v
 unfolding text jobText jobLine wordLine spelling
@@ -125,12 +153,15 @@ long-text v limits x h =
 pub bounded : {v : Version} → Limits v → (s : List ℕ) → readBy v s .number ≡ 0 → length s ≤ longest v
 bounded {v} limits s z =
     let r = reads-as v s z in
-    subst (λ (l : List ℕ). length l ≤ longest v) (sym (sound v limits s (r .lines) (r .parsed) .same)) (long-text v limits (r .lines) (lines-fine v (r .lines) (r .passes)))
+    subst (λ (l : List ℕ). length l ≤ longest v) (sym (sound v limits s (r .lines) (r .parsed) .same))
+    (long-text v limits (r .lines) (lines-fine v (r .lines) (r .passes)))
 
 -- nor is a text that is written
 pub written-length : (j : J.Job) → Passes (lineRows j) → length (written j) ≤ longest scope
 unfolding written
 written-length j h =
     let (old, new) = rows-wide j h in
-    let passes : Passes (sheetRows scope (linesOf (asRecords j))) = ap (λ (rows : List Outcome). eqb (first rows .number) 0) (tie (asRecords j) old new ∙ rows-as-records j) ∙ h in
-    subst (λ (x : Lines). length (text x) ≤ longest scope) (lines-same j) (long-text scope scope-limits (linesOf (asRecords j)) (lines-fine scope (linesOf (asRecords j)) passes))
+    let passes : Passes (sheetRows scope (linesOf (asRecords j))) =
+    ap (λ (rows : List Outcome). eqb (first rows .number) 0) (tie (asRecords j) old new ∙ rows-as-records j) ∙ h in
+    subst (λ (x : Lines). length (text x) ≤ longest scope) (lines-same j)
+    (long-text scope scope-limits (linesOf (asRecords j)) (lines-fine scope (linesOf (asRecords j)) passes))

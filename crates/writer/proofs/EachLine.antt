@@ -29,16 +29,19 @@ module _ (r : Route) (full : length (r .steps) ≡ 64) (i : ℕ) (h : i < r .len
 
   next-steps : formLines (drop i (stepsOf r)) ≡ stepLine (formOf here) [] ++ formLines (drop (i + 1) (stepsOf r))
   unfolding stepLines
-  next-steps = ap formLines (steps-on r full i h (omega arith)) ∙ step-front (formOf here) (formLines (drop (i + 1) (stepsOf r)))
+  next-steps = ap formLines (steps-on r full i h (omega arith))
+      ∙ step-front (formOf here) (formLines (drop (i + 1) (stepsOf r)))
 
   module _ {o u o₀ : List ℕ} {n n₀ : ℕ} (left : Left (formLines (drop i (stepsOf r))) o n u o₀ n₀) where
     pub steps-room : Room (stepLine (formOf here) []) o n
     steps-room = left-room _ _ (left-as next-steps left)
 
-    pub steps-turn : {p : List ℕ} {m : ℕ} → Emits (stepLine (formOf here) []) o n p m → Left (formLines (drop (i + 1) (stepsOf r))) p m u o₀ n₀
+    pub steps-turn : {p : List ℕ} {m : ℕ} → Emits (stepLine (formOf here) []) o n p m
+        → Left (formLines (drop (i + 1) (stepsOf r))) p m u o₀ n₀
     steps-turn w = left-turn (left-as next-steps left) w
 
-pub steps-over : (r : Route) → length (r .steps) ≡ 64 → (i : ℕ) → r .len ≤ i → {o u o₀ : List ℕ} {n n₀ : ℕ} → Left (formLines (drop i (stepsOf r))) o n u o₀ n₀ → Emits u o₀ n₀ o n
+pub steps-over : (r : Route) → length (r .steps) ≡ 64 → (i : ℕ) → r .len ≤ i → {o u o₀ : List ℕ} {n n₀ : ℕ}
+    → Left (formLines (drop i (stepsOf r))) o n u o₀ n₀ → Emits u o₀ n₀ o n
 unfolding stepLines
 steps-over r full i h left = left-end (left-as (ap formLines (steps-end r full i h)) left)
 
@@ -59,7 +62,8 @@ module _ (l : List ℕ) (i : ℕ) where
     pub dones-room : i < length l → Room (wordLine Done (getD l i 0) []) o n
     dones-room h = left-room _ _ (left-as (next-names h) left)
 
-    pub dones-turn : {p : List ℕ} {m : ℕ} → i < length l → Emits (wordLine Done (getD l i 0) []) o n p m → Left (nameLines (drop (i + 1) l)) p m u o₀ n₀
+    pub dones-turn : {p : List ℕ} {m : ℕ} → i < length l → Emits (wordLine Done (getD l i 0) []) o n p m
+        → Left (nameLines (drop (i + 1) l)) p m u o₀ n₀
     dones-turn h w = left-turn (left-as (next-names h) left) w
 
     pub dones-end : length l ≤ i → Emits u o₀ n₀ o n

@@ -7,7 +7,8 @@ use Rattle.mask.specs.Mask.{members}
 use Rattle.mask.proofs.FromLowest.{members-narrow}
 use Rattle.emit.specs.Emit.{Emits}
 use Rattle.emit.specs.Numbers.{decimal, entry, over}
-use Rattle.emit.proofs.Chains.{parts, First, Second, Third, Fourth, Two, Three, Four, first-room, second-room, third-room, fourth-room, two-emits, three-emits, four-emits, emits-as, room-as}
+use Rattle.emit.proofs.Chains.{parts, First, Second, Third, Fourth, Two, Three, Four, first-room, second-room}
+use Rattle.emit.proofs.Chains.{third-room, fourth-room, two-emits, three-emits, four-emits, emits-as, room-as}
 use Rattle.emit.proofs.Over.{from-zero}
 use Rattle.route.specs.declared.Step.{Step}
 use Rattle.job.specs.Job.{Job}
@@ -18,7 +19,8 @@ use Rattle.layout.specs.declared.Word.the-variants as W
 use Rattle.facts.specs.Back.{formOf, linesOf}
 use Rattle.writer.specs.Written.{written}
 use Rattle.writer.specs.Parts.{opening, closing, lists, routeText}
-use Rattle.writer.proofs.TextsInFront.{number-is, entries-are, listed-front, lists-front, word-front, route-front}
+use Rattle.writer.proofs.TextsInFront.{number-is, entries-are, listed-front, lists-front, word-front}
+use Rattle.writer.proofs.TextsInFront.{route-front}
 
 -- `(` and a word
 module _ (w : Word) where
@@ -73,7 +75,8 @@ module _ (w : Word) (m : ℕ) where
     pub variables-room : First (listed w (members 32 m) []) (listed w (members 64 m) [])
     variables-room o n r = room-as r variables-are
 
-    pub variables-whole : (o p : List ℕ) (n k : ℕ) → Emits (listed w (members 64 m) []) o n p k → Emits (listed w (members 32 m) []) o n p k
+    pub variables-whole : (o p : List ℕ) (n k : ℕ) → Emits (listed w (members 64 m) []) o n p k
+        → Emits (listed w (members 32 m) []) o n p k
     variables-whole o p n k x = emits-as variables-are x
 
 -- a step
@@ -81,12 +84,15 @@ module _ (s : Step) where
   abbrev list : Word → List ℕ → List ℕ
   list w l = listed w l []
 
-  four-parts : lists (formOf s) [] ≡ parts (list W.In (members 64 (s .ins)) ∷ list W.Out (members 64 (s .outs)) ∷ list W.Read (members 32 (s .reads)) ∷ list W.Write (members 32 (s .writes)) ∷ [])
+  four-parts : lists (formOf s) [] ≡ parts (list W.In (members 64 (s .ins)) ∷ list W.Out (members 64 (s .outs))
+      ∷ list W.Read (members 32 (s .reads)) ∷ list W.Write (members 32 (s .writes)) ∷ [])
   unfolding formOf parts
   four-parts =
       listed-front W.In (members 64 (s .ins)) _ ∙ ap (λ (t : List ℕ). list W.In (members 64 (s .ins)) ++ t)
       (listed-front W.Out (members 64 (s .outs)) _ ∙ ap (λ (t : List ℕ). list W.Out (members 64 (s .outs)) ++ t)
-      (listed-front W.Read (members 32 (s .reads)) _ ∙ ap (λ (t : List ℕ). list W.Read (members 32 (s .reads)) ++ t) (sym (append-nil (list W.Write (members 32 (s .writes)))))))
+      (listed-front W.Read (members 32 (s .reads)) _
+      ∙ ap (λ (t : List ℕ). list W.Read (members 32 (s .reads)) ++ t)
+      (sym (append-nil (list W.Write (members 32 (s .writes)))))))
 
   pub four-first : First (lists (formOf s) []) (list W.In (members 64 (s .ins)))
   four-first = first-room _ _ _ four-parts
@@ -94,20 +100,24 @@ module _ (s : Step) where
   pub four-second : Second (lists (formOf s) []) (list W.In (members 64 (s .ins))) (list W.Out (members 64 (s .outs)))
   four-second = second-room _ _ _ _ four-parts
 
-  pub four-third : Third (lists (formOf s) []) (list W.In (members 64 (s .ins))) (list W.Out (members 64 (s .outs))) (list W.Read (members 32 (s .reads)))
+  pub four-third : Third (lists (formOf s) []) (list W.In (members 64 (s .ins))) (list W.Out (members 64 (s .outs)))
+      (list W.Read (members 32 (s .reads)))
   four-third = third-room _ _ _ _ _ four-parts
 
-  pub four-fourth : Fourth (lists (formOf s) []) (list W.In (members 64 (s .ins))) (list W.Out (members 64 (s .outs))) (list W.Read (members 32 (s .reads))) (list W.Write (members 32 (s .writes)))
+  pub four-fourth : Fourth (lists (formOf s) []) (list W.In (members 64 (s .ins))) (list W.Out (members 64 (s .outs)))
+      (list W.Read (members 32 (s .reads))) (list W.Write (members 32 (s .writes)))
   four-fourth = fourth-room _ _ _ _ _ _ four-parts
 
-  pub four-whole : Four (lists (formOf s) []) (list W.In (members 64 (s .ins))) (list W.Out (members 64 (s .outs))) (list W.Read (members 32 (s .reads))) (list W.Write (members 32 (s .writes)))
+  pub four-whole : Four (lists (formOf s) []) (list W.In (members 64 (s .ins))) (list W.Out (members 64 (s .outs)))
+      (list W.Read (members 32 (s .reads))) (list W.Write (members 32 (s .writes)))
   four-whole = four-emits _ _ _ _ _ four-parts
 
   step-parts : stepLine (formOf s) [] ≡ parts (opening W.Step ∷ entry (s .name) ∷ lists (formOf s) [] ∷ closing ∷ [])
   unfolding stepLine formOf entry parts
   step-parts =
       ap (λ (t : List ℕ). 40 ∷ (spelling W.Step ++ (32 ∷ t)))
-      (number-is (s .name) (lists (formOf s) closing) ∙ ap (λ (t : List ℕ). decimal (s .name) ++ t) (lists-front (formOf s) closing))
+      (number-is (s .name) (lists (formOf s) closing)
+      ∙ ap (λ (t : List ℕ). decimal (s .name) ++ t) (lists-front (formOf s) closing))
 
   pub step-first : First (stepLine (formOf s) []) (opening W.Step)
   step-first = first-room _ _ _ step-parts
@@ -190,7 +200,8 @@ module _ (j : Job) where
   unfolding written linesOf text parts
   text-parts =
       route-front W.Old (j .oldPlaces) (j .old) (routeText W.New (j .newPlaces) (j .new) (jobText (j .done)))
-      ∙ ap (λ (t : List ℕ). oldText ++ t) (route-front W.New (j .newPlaces) (j .new) (jobText (j .done)) ∙ ap (λ (t : List ℕ). newText ++ t) (sym (append-nil (jobText (j .done)))))
+      ∙ ap (λ (t : List ℕ). oldText ++ t) (route-front W.New (j .newPlaces) (j .new) (jobText (j .done))
+      ∙ ap (λ (t : List ℕ). newText ++ t) (sym (append-nil (jobText (j .done)))))
 
   pub text-first : First (written j) oldText
   text-first = first-room _ _ _ text-parts

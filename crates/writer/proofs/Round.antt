@@ -31,11 +31,14 @@ use Rattle.facts.proofs.Widths.{lines-same, rows-as-records, rows-wide}
 use Rattle.writer.specs.Written.{written}
 
 -- what reading accepts, writing gives back byte for byte
-pub read-then-write : {v : Version} → Limits v → (s : List ℕ) → readBy v s .number ≡ 0 → written (jobRead (readBy v s)) ≡ s
+pub read-then-write : {v : Version} → Limits v → (s : List ℕ) → readBy v s .number ≡ 0
+    → written (jobRead (readBy v s)) ≡ s
 unfolding written
 read-then-write {v} limits s z =
     let r = reads-as v s z in
-    ap (λ (y : Sheet). text (linesOf (jobRead y))) (r .facts) ∙ ap text (lines-back v (r .lines) (lines-fine v (r .lines) (r .passes))) ∙ sym (sound v limits s (r .lines) (r .parsed) .same)
+    ap (λ (y : Sheet). text (linesOf (jobRead y))) (r .facts)
+    ∙ ap text (lines-back v (r .lines) (lines-fine v (r .lines) (r .passes)))
+    ∙ sym (sound v limits s (r .lines) (r .parsed) .same)
 
 -- a sheet that reads is that of its own records
 pub read-sheetOf : (v : Version) (s : List ℕ) → readBy v s .number ≡ 0 → readBy v s ≡ sheetOf (jobRead (readBy v s))
@@ -51,13 +54,21 @@ read-sheetOf v s z = r .facts ∙ ap sheetOf (sym (ap jobRead (r .facts) ∙ sam
     fine : AllLines v x
     fine = lines-fine v x (r .passes)
 
-    same : jobRead (factsRecord x) ≡ record { oldPlaces = x .oldPlaces; old = map recordOf (x .old); newPlaces = x .newPlaces; new = map recordOf (x .new); done = x .done }
+    same : jobRead (factsRecord x) ≡ record {
+      oldPlaces = x .oldPlaces;
+      old = map recordOf (x .old);
+      newPlaces = x .newPlaces;
+      new = map recordOf (x .new);
+      done = x .done;
+    }
     same =
         λ i. record {
           oldPlaces = x .oldPlaces;
-          old = filled-steps (x .oldPlaces) (map recordOf (x .old)) (omega (arith, length-map (x .old) recordOf, fine .oldFew)) i;
+          old = filled-steps (x .oldPlaces) (map recordOf (x .old))
+              (omega (arith, length-map (x .old) recordOf, fine .oldFew)) i;
           newPlaces = x .newPlaces;
-          new = filled-steps (x .newPlaces) (map recordOf (x .new)) (omega (arith, length-map (x .new) recordOf, fine .newFew)) i;
+          new = filled-steps (x .newPlaces) (map recordOf (x .new))
+              (omega (arith, length-map (x .new) recordOf, fine .newFew)) i;
           done = take-append-seam (x .done) (replicate (64 - length (x .done)) 0) i;
         }
 
@@ -72,12 +83,22 @@ standing v x h = go (facts-stand v x)
     go (fails e q) = absurd (clash (sym e ∙ h))
 
 -- what is written of records whose lines a version allows, it reads back
-pub lines-then-read : {v : Version} → Limits v → (j : Job) → AllWide (j .old) → AllWide (j .new) → Passes (sheetRows v (linesOf j)) → readBy v (written j) ≡ sheetOf j
+pub lines-then-read : {v : Version} → Limits v → (j : Job) → AllWide (j .old) → AllWide (j .new)
+    → Passes (sheetRows v (linesOf j)) → readBy v (written j) ≡ sheetOf j
 unfolding written linesOf factsRecord
 lines-then-read {v} limits j old new passes =
-    read-is v (text (linesOf j)) (linesOf j) (complete v limits (linesOf j) (lines-short v limits (linesOf j) (lines-fine v (linesOf j) passes)))
+    read-is v (text (linesOf j)) (linesOf j) (complete v limits (linesOf j)
+    (lines-short v limits (linesOf j) (lines-fine v (linesOf j) passes)))
     ∙ standing v (linesOf j) passes
-    ∙ (λ i. record { number = 0; second = 0; old = filled (j .oldPlaces) (records-forms (j .old) old i); new = filled (j .newPlaces) (records-forms (j .new) new i); «done_len» = length (j .done); done = j .done ++ replicate (64 - length (j .done)) 0 })
+    ∙ (λ i. record {
+      number = 0;
+      second = 0;
+      old = filled (j .oldPlaces) (records-forms (j .old) old i);
+      new = filled (j .newPlaces) (records-forms (j .new) new i);
+      «done_len» = length (j .done);
+      done =
+          j .done ++ replicate (64 - length (j .done)) 0;
+    })
 
 -- what writing gives, reading takes back fact for fact
 pub write-then-read : (j : Job) → Passes (lineRows j) → readOf (written j) ≡ sheetOf (asRecords j)
@@ -85,4 +106,5 @@ unfolding written
 write-then-read j h =
     let (old, new) = rows-wide j h in
     ap (λ (x : Lines). readOf (text x)) (sym (lines-same j))
-    ∙ lines-then-read scope-limits (asRecords j) old new (ap (λ (rows : List Outcome). eqb (first rows .number) 0) (tie (asRecords j) old new ∙ rows-as-records j) ∙ h)
+    ∙ lines-then-read scope-limits (asRecords j) old new
+    (ap (λ (rows : List Outcome). eqb (first rows .number) 0) (tie (asRecords j) old new ∙ rows-as-records j) ∙ h)

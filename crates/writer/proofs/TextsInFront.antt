@@ -22,7 +22,8 @@ digits-are : (k n : ℕ) (s : List ℕ) → digits k n s ≡ N.digits k n ++ s
 unfolding digits N.digits
 digits-are zero n s = refl
 digits-are (suc k) n s =
-    split (λ (t : Bool). cond t ((48 + n) ∷ s) (digits k (n / 10) ((48 + n % 10) ∷ s)) ≡ cond t ((48 + n) ∷ []) (N.digits k (n / 10) ++ ((48 + n % 10) ∷ [])) ++ s) (ltb n 10)
+    split (λ (t : Bool). cond t ((48 + n) ∷ s) (digits k (n / 10) ((48 + n % 10) ∷ s))
+    ≡ cond t ((48 + n) ∷ []) (N.digits k (n / 10) ++ ((48 + n % 10) ∷ [])) ++ s) (ltb n 10)
     (λ e. refl)
     (λ e. digits-are k (n / 10) ((48 + n % 10) ∷ s) ∙ sym (append-assoc (N.digits k (n / 10)) ((48 + n % 10) ∷ []) s))
 
@@ -56,7 +57,8 @@ number-front n s = number-is n s ∙ ap (λ (t : List ℕ). t ++ s) (sym (number
 entries-front : (l : List ℕ) → Front (entries l)
 unfolding entries
 entries-front [] s = refl
-entries-front (n ∷ l) s = front-then (λ s. 32 ∷ s) (λ s. number n (entries l s)) (λ s. refl) (front-then (number n) (entries l) (number-front n) (entries-front l)) s
+entries-front (n ∷ l) s = front-then (λ s. 32 ∷ s) (λ s. number n (entries l s)) (λ s. refl)
+    (front-then (number n) (entries l) (number-front n) (entries-front l)) s
 
 pub listed-front : (w : Word) (l : List ℕ) → Front (listed w l)
 unfolding listed
@@ -69,12 +71,14 @@ pub lists-front : (f : Form) → Front (lists f)
 lists-front f =
     front-then (listed In (f .ins)) _ (listed-front In (f .ins))
     (front-then (listed Out (f .outs)) _ (listed-front Out (f .outs))
-    (front-then (listed Read (f .reads)) (listed Write (f .writes)) (listed-front Read (f .reads)) (listed-front Write (f .writes))))
+    (front-then (listed Read (f .reads)) (listed Write (f .writes)) (listed-front Read (f .reads))
+    (listed-front Write (f .writes))))
 
 pub step-front : (f : Form) → Front (stepLine f)
 unfolding stepLine
 step-front f =
-    front-then (λ s. 40 ∷ (spelling W.Step ++ s)) (λ s. 32 ∷ number (f .name) (lists f (41 ∷ 10 ∷ s))) (front-text (40 ∷ spelling W.Step))
+    front-then (λ s. 40 ∷ (spelling W.Step ++ s)) (λ s. 32 ∷ number (f .name) (lists f (41 ∷ 10 ∷ s)))
+    (front-text (40 ∷ spelling W.Step))
     (front-then (λ s. 32 ∷ s) (λ s. number (f .name) (lists f (41 ∷ 10 ∷ s))) (λ s. refl)
     (front-then (number (f .name)) (λ s. lists f (41 ∷ 10 ∷ s)) (number-front (f .name))
     (front-then (lists f) (λ s. 41 ∷ 10 ∷ s) (lists-front f) (λ s. refl))))

@@ -1,5 +1,5 @@
--- The round trips for the operations: what write leaves in a slice, read takes back; what read accepts, write gives back.
--- Assumes nothing.
+-- The round trips for the operations: what write leaves in a slice, read takes back; what read accepts, write gives
+-- back. Assumes nothing.
 use mathlib.Core.Path.{_≡_, refl, sym, ap, _∙_}
 use mathlib.Core.Bool.{Bool, true, cond}
 use mathlib.Core.List.{List, _++_}
@@ -49,10 +49,14 @@ module _ (j : Job) (o : List ℕ) (ok : wrote j (length o) .number ≡ 0) where
 
 -- write gives a sheet that reads back byte for byte, where there is room
 pub read-writes : (s o : List ℕ) → readOf s .number ≡ 0 → length s ≤ length o
-    → (wrote (jobRead (readOf s)) (length o) ≡ record { number = 0; second = 0; written = length s }) × (outAfter (jobRead (readOf s)) o ≡ s ++ drop (length s) o)
+    → (wrote (jobRead (readOf s)) (length o) ≡ record { number = 0; second = 0; written = length s })
+    × (outAfter (jobRead (readOf s)) o ≡ s ++ drop (length s) o)
 read-writes s o z room =
     let j : Job = jobRead (readOf s) in
     let same : written j ≡ s = read-then-write scope-limits s z in
     let rows : Passes (lineRows j) = eq-eqb _ 0 (read-lines s z) in
-    let long : length s ≡ length (written j) = ap length (sym same) in
-    (sym (passed-answer j _ refl rows o (length s) long room), sym (passed-out j _ refl rows o (length s) long room _ (ap (λ (t : List ℕ). t ++ drop (length t) o) (sym same))))
+    let long : length s ≡ length (written j) = ap length (sym same) in (
+      sym (passed-answer j _ refl rows o (length s) long room),
+      sym (passed-out j _ refl rows o (length s) long room _
+          (ap (λ (t : List ℕ). t ++ drop (length t) o) (sym same))),
+    )

@@ -20,7 +20,8 @@ use Rattle.writer.specs.Fits.{Fits}
 use Rattle.writer.proofs.Answers.{short-answer, short-out, passed-answer, passed-out}
 use Rattle.writer.proofs.Bound.{written-length}
 
-module _ (old new : Route) (done : List ℕ) (old-full : length (old .steps) ≡ 64) (new-full : length (new .steps) ≡ 64) where
+module _ (old new : Route) (done : List ℕ) (old-full : length (old .steps) ≡ 64)
+    (new-full : length (new .steps) ≡ 64) where
   pub fitting : Passes (lineRows (jobOf old new done)) → Fits old new done
   fitting h =
       let j : Job = jobOf old new done in
@@ -50,7 +51,8 @@ module _ (old new : Route) (done : List ℕ) (fits : Fits old new done) (o : Lis
     direct-answer = passed-answer job _ refl (fits .pass) o end (emits-end w) (omega (arith, end-fits))
 
     pub direct-out : p ≡ outAfter job o
-    direct-out = passed-out job _ refl (fits .pass) o end (emits-end w) (omega (arith, end-fits)) p (emits-whole any-room w)
+    direct-out = passed-out job _ refl (fits .pass) o end (emits-end w) (omega (arith, end-fits)) p
+        (emits-whole any-room w)
 
     -- it is copied to the caller's
     pub end-inside : end ≤ length p
@@ -76,7 +78,8 @@ module _ (old new : Route) (done : List ℕ) (fits : Fits old new done) (o : Lis
         pub copy-out : (q : List ℕ) (k : ℕ) → Emits (take end p) out 0 q k → q ≡ outAfter job out
         copy-out q k x =
             let same : take end p ≡ written job = emits-take any-room w in
-            passed-out job _ refl (fits .pass) out end (emits-end w) enough q (emits-whole copy-room x ∙ ap (λ (t : List ℕ). t ++ drop (length t) out) same)
+            passed-out job _ refl (fits .pass) out end (emits-end w) enough q
+            (emits-whole copy-room x ∙ ap (λ (t : List ℕ). t ++ drop (length t) out) same)
 
 -- the array that the text is written to apart
 pub apart-long : 18136 ≤ length (replicate {A = ℕ} 18136 0)

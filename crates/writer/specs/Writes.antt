@@ -16,7 +16,11 @@ unfoldable pub writeRow : Job → ℕ → Outcome
 writeRow j n = first (lineRows j ++ (unless (leb (length (written j)) n) 15 (length (written j)) ∷ []))
 
 unfoldable pub wrote : Job → ℕ → Wrote
-wrote j n = record { number = writeRow j n .number; second = writeRow j n .second; written = cond (eqb (writeRow j n .number) 0) (length (written j)) 0 }
+wrote j n = record {
+  number = writeRow j n .number;
+  second = writeRow j n .second;
+  written = cond (eqb (writeRow j n .number) 0) (length (written j)) 0;
+}
 
 -- the text and the bytes past it; all bytes where write refuses
 unfoldable pub outAfter : Job → List ℕ → List ℕ

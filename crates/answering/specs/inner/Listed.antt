@@ -15,7 +15,11 @@ use Rattle.answering.specs.declared.Judged.{Judged}
 -- a list of positions, and where its steps end on the new route
 abbrev pub placedOn : ℕ → List Step → List Step → List ℕ → Placed
 placedOn from new l o =
-    record { len = length o; order = padded 64 (map suc o); marking = record { tokens = Option·getD (fireAll new from (stepsOn l o)) 0 } }
+    record {
+      len = length o;
+      order = padded 64 (map suc o);
+      marking = record { tokens = Option·getD (fireAll new from (stepsOn l o)) 0 };
+    }
 
 -- it shows the list, with the table's rows, the new route's variables and the kept
 abbrev pub AnswersList : List ℕ → ℕ → ℕ → Placed → List Step → Judged → Type 0

@@ -1,5 +1,5 @@
--- `read` meets its contract: a walk of its MIR, by hand. The first records of each array are lent for a lifetime that is made for the call, and
--- the arrays come back with what reading put there.
+-- `read` meets its contract: a walk of its MIR, by hand. The first records of each array are lent for a lifetime that
+-- is made for the call, and the arrays come back with what reading put there.
 use mathlib.Core.Path.{_≡_, refl, sym, _∙_, ap, ap₂, subst}
 use Prim.Native.Nat.{ℕ, _<_, _≤_, _^_}
 use mathlib.Core.List.{List, [], _∷_, _++_}
@@ -17,9 +17,11 @@ use ghost.Atoms.{Atoms}
 use contract.Monad.{Fun}
 use contract.Running.{givenOf, tables, tablesOf}
 use sound.WpLaws.{FmC, fmOf}
-use types.Kit.{Given, Goal, Soaks, Item, Seq, ‵, raw, _⊛_, ⋆, _$_, _∵_, !, qed, by, move, keep, drop, use0, use1, split, join, group, rewrite, fsplit, fjoin, feqL, feqI, suffices, frame, done}
+use types.Kit.{Given, Goal, Soaks, Item, Seq, ‵, raw, _⊛_, ⋆, _$_, _∵_, !, qed, by, move, keep, drop, use0, use1, split}
+use types.Kit.{join, group, rewrite, fsplit, fjoin, feqL, feqI, suffices, frame, done}
 use types.Part.{whole, sub, look-in, agg}
-use types.Run.{look, init, stop, hop, fld, from, load, addr, of-opd, and-then, no-more, land, returns, enter, params1, pass1, pass0}
+use types.Run.{look, init, stop, hop, fld, from, load, addr, of-opd, and-then, no-more, land, returns, enter, params1}
+use types.Run.{pass1, pass0}
 use types.Tokens.{lft-new}
 use denote.Array.{Array, array-vals, array-tells, array-makes}
 use denote.Builtin.{u8, u32, usize}
@@ -58,7 +60,8 @@ use Rattle.arrays.proofs.Filled.Laws as F′
 use Rattle.arrays.proofs.together as together′
 use Rattle.arrays.proofs.together.Symbol as together-def
 use Rattle.arrays.proofs.together.Met as together-thm
-use Rattle.arrays.proofs.First.{hundred, mutTy, fits, first-long, typed-all, lentFirst, mutFirst, lends-mut, takes-mut-back}
+use Rattle.arrays.proofs.First.{hundred, mutTy, fits, first-long, typed-all, lentFirst, mutFirst, lends-mut}
+use Rattle.arrays.proofs.First.{takes-mut-back}
 use Rattle.arrays.proofs.Walks.{val, firstVal}
 use Rattle.arrays.proofs.read.Key.{name as #read}
 use Rattle.arrays.proofs.read as first

@@ -10,6 +10,5 @@ abbrev μ-loop : tie.MeasureT-loop
 μ-loop nums o₀ at₀ n₀ turns₀ o at n turns = turns
 
 pub answer-all-spec : {M : Type 1} → statement M
-answer-all-spec =
-    tie.close (tie.spec Inv-loop μ-loop (search needs) (search needs) (search needs) (search needs) (search needs)
-    (search needs) (search needs) (search needs) (search needs) (search needs))
+answer-all-spec = tie.close (tie.spec Inv-loop μ-loop (search needs) (search needs) (search needs) (search needs)
+    (search needs) (search needs) (search needs) (search needs) (search needs) (search needs))

@@ -1,4 +1,5 @@
--- `emit::digits`, the cycle of calls of one function: a short number, or the digits of the hundredth and two more. The measure is the number.
+-- `emit::digits`, the cycle of calls of one function: a short number, or the digits of the hundredth and two more. The
+-- measure is the number.
 use Prim.Native.Nat.{ℕ, _<_}
 use borrow.Author.Needs.{needs}
 use borrow.Fn.Kinds.{In}
@@ -44,4 +45,5 @@ returns-2 : (t : ℕ) → lts.Need-returns-2 (calls t) (at t) digits.Post
 returns-2 t c = search (needs, more-emits)
 
 pub +digits-spec : {M : Type 1} → statement M
-+digits-spec = close μ (λ t. lts.spec (calls t) (at t) digits.Post (short-requires t) (same-length t) (returns t) (digits-requires t) (pair-requires t) (same-length-2 t) (returns-2 t))
++digits-spec = close μ (λ t. lts.spec (calls t) (at t) digits.Post (short-requires t) (same-length t) (returns t)
+    (digits-requires t) (pair-requires t) (same-length-2 t) (returns-2 t))

@@ -19,16 +19,20 @@ abbrev numbered : ℕ → ℕ → List ℕ
 numbered first v = entry (first + v)
 
 abbrev Inv-loop : tie.InvT-loop
-Inv-loop out₀ at m first end₀ left₀ out end left = (left < 2 ^ 64) × ((length out ≡ length out₀) × Left (over (numbered first) (members 64 left)) out end (over (numbered first) (members 64 m)) out₀ at)
+Inv-loop out₀ at m first end₀ left₀ out end left =
+    (left < 2 ^ 64) × ((length out ≡ length out₀)
+    × Left (over (numbered first) (members 64 left)) out end (over (numbered first) (members 64 m)) out₀ at)
 
 abbrev μ-loop : tie.MeasureT-loop
 μ-loop out₀ at m first end₀ left₀ out end left = left
 
-module _ (first m : ℕ) {o u o₀ : List ℕ} {n n₀ : ℕ} (left : Left (over (numbered first) (members 64 m)) o n u o₀ n₀) where
+module _ (first m : ℕ) {o u o₀ : List ℕ} {n n₀ : ℕ}
+    (left : Left (over (numbered first) (members 64 m)) o n u o₀ n₀) where
   room : m < 2 ^ 64 → (m ≡ 0 → ⊥) → Room (entry (first + trailingZeros 64 m)) o n
   room = mask-room (numbered first) m left
 
-  turn : {p : List ℕ} {k : ℕ} → m < 2 ^ 64 → (m ≡ 0 → ⊥) → Emits (entry (first + trailingZeros 64 m)) o n p k → Left (over (numbered first) (members 64 (bitAnd m (m - 1)))) p k u o₀ n₀
+  turn : {p : List ℕ} {k : ℕ} → m < 2 ^ 64 → (m ≡ 0 → ⊥) → Emits (entry (first + trailingZeros 64 m)) o n p k
+      → Left (over (numbered first) (members 64 (bitAnd m (m - 1)))) p k u o₀ n₀
   turn = mask-turn (numbered first) m left
 
 -- the lowest member left is below 64
@@ -37,9 +41,6 @@ inside c = search (needs, lowest-lt)
 
 loop-holds : tie.Need-loop-holds Inv-loop μ-loop
 loop-holds c = (search needs, (search needs, search (needs, left-start)))
-
-sub-left : tie.Need-sub-left Inv-loop μ-loop
-sub-left c = search needs
 
 cast-entry : tie.Need-cast-entry Inv-loop μ-loop
 cast-entry c = omega (arith, inside (c .before))
@@ -56,11 +57,9 @@ loop-less c = search (needs, rest-less)
 loop-again : tie.Need-loop-again Inv-loop μ-loop
 loop-again c = (search (needs, rest-fits), (search needs, search (needs, turn)))
 
-same-length : tie.Need-same-length Inv-loop μ-loop
-same-length c = search needs
-
 returns : tie.Need-returns Inv-loop μ-loop
 returns c = search (needs, mask-end)
 
 pub entries-spec : {M : Type 1} → statement M
-entries-spec = tie.close (tie.spec Inv-loop μ-loop loop-holds sub-left cast-entry add-entry entry-requires loop-less loop-again same-length returns)
+entries-spec = tie.close (tie.spec Inv-loop μ-loop loop-holds (λ c. search needs) cast-entry add-entry entry-requires
+    loop-less loop-again (λ c. search needs) returns)

@@ -10,20 +10,15 @@ put-requires c κs = search (needs, entry-first)
 digits-requires : tie.Need-digits-requires
 digits-requires c κs = search (needs, entry-second)
 
-same-length : tie.Need-same-length
-same-length c = search needs
-
 returns : tie.Need-returns
 returns c = search (needs, entry-whole)
 
 short-requires : tie.Need-short-requires
 short-requires c κs = (search needs, search (needs, entry-second))
 
-same-length-2 : tie.Need-same-length-2
-same-length-2 c = search needs
-
 returns-2 : tie.Need-returns-2
 returns-2 c = search (needs, entry-whole)
 
 pub entry-spec : {M : Type 1} → statement M
-entry-spec = tie.close (tie.spec put-requires digits-requires same-length returns short-requires same-length-2 returns-2)
+entry-spec = tie.close (tie.spec put-requires digits-requires (λ c. search needs) returns short-requires
+    (λ c. search needs) returns-2)

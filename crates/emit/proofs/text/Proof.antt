@@ -10,7 +10,8 @@ use Rattle.emit.proofs.text.Statement.{statement}
 use Rattle.emit.proofs.text.Tie as tie
 
 abbrev Inv-loop : tie.InvT-loop
-Inv-loop out₀ at t end₀ i₀ out end i = (i ≤ length t) × ((length out ≡ length out₀) × Left (over (λ (b : ℕ). b ∷ []) (drop i t)) out end t out₀ at)
+Inv-loop out₀ at t end₀ i₀ out end i = (i ≤ length t)
+    × ((length out ≡ length out₀) × Left (over (λ (b : ℕ). b ∷ []) (drop i t)) out end t out₀ at)
 
 abbrev μ-loop : tie.MeasureT-loop
 μ-loop out₀ at t end₀ i₀ out end i = length t - i
@@ -18,26 +19,15 @@ abbrev μ-loop : tie.MeasureT-loop
 loop-holds : tie.Need-loop-holds Inv-loop μ-loop
 loop-holds c = (search needs, (search needs, search (needs, bytes-start)))
 
-shared-slice-read-put : tie.Need-shared-slice-read-put Inv-loop μ-loop
-shared-slice-read-put c = search needs
-
 put-requires : tie.Need-put-requires Inv-loop μ-loop
 put-requires c κs = search (needs, bytes-room)
 
-add-i : tie.Need-add-i Inv-loop μ-loop
-add-i c = search needs
-
-loop-less : tie.Need-loop-less Inv-loop μ-loop
-loop-less c = search needs
-
 loop-again : tie.Need-loop-again Inv-loop μ-loop
 loop-again c = (search needs, (search needs, search (needs, bytes-turn)))
-
-same-length : tie.Need-same-length Inv-loop μ-loop
-same-length c = search needs
 
 returns : tie.Need-returns Inv-loop μ-loop
 returns c = search (needs, bytes-end)
 
 pub text-spec : {M : Type 1} → statement M
-text-spec = tie.close (tie.spec Inv-loop μ-loop loop-holds shared-slice-read-put put-requires add-i loop-less loop-again same-length returns)
+text-spec = tie.close (tie.spec Inv-loop μ-loop loop-holds (λ c. search needs) put-requires (λ c. search needs)
+    (λ c. search needs) loop-again (λ c. search needs) returns)

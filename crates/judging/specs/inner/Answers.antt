@@ -1,4 +1,5 @@
--- An inner promise: what the functions of judge say to each other of an answer r. The steps done are l, and t the new route's steps for them.
+-- An inner promise: what the functions of judge say to each other of an answer r. The steps done are l, and t the new
+-- route's steps for them.
 use mathlib.Core.Path.{_≡_}
 use mathlib.Core.Bool.{cond}
 use mathlib.Core.List.{List}
@@ -31,7 +32,8 @@ AnswersStraight rows vars marking l r =
 -- it is that of the first fit list, or 13
 abbrev pub AnswersFirst : Prepared → List Step → List Step → Judged → Type 0
 AnswersFirst p l t r =
-    (k : Passing p l t) → r ≡ judgeFound (p .line) (p .start .tokens) (k .new) l (firstFit (p .start .tokens) (k .new) l)
+    (k : Passing p l t) → r ≡ judgeFound (p .line) (p .start .tokens) (k .new) l
+    (firstFit (p .start .tokens) (k .new) l)
 
 -- it is that of rows 10 to 13
 abbrev pub AnswersRows : Prepared → List Step → List Step → Judged → Type 0

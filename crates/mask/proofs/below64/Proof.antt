@@ -8,9 +8,6 @@ use Rattle.mask.proofs.Laws.{one-shifted}
 use Rattle.mask.proofs.below64.Statement.{statement}
 use Rattle.mask.proofs.below64.Tie as tie
 
-shl-result : tie.Need-shl-result
-shl-result c = search needs
-
 sub-result : tie.Need-sub-result
 sub-result c = omega (arith, one-shifted 64 (c .before .args .n) (c .if1 .taken), pow-pos (c .before .args .n))
 
@@ -23,4 +20,4 @@ returns-2 c =
     ap (λ (n : ℕ). 2 ^ n - 1) all
 
 pub below64-spec : {M : Type 1} → statement M
-below64-spec = tie.close (tie.spec shl-result sub-result returns returns-2)
+below64-spec = tie.close (tie.spec (λ c. search needs) sub-result returns returns-2)

@@ -4,14 +4,8 @@ use Rattle.mask.proofs.Laws.{one-shifted}
 use Rattle.mask.proofs.bit32.Statement.{statement}
 use Rattle.mask.proofs.bit32.Tie as tie
 
-cast-result : tie.Need-cast-result
-cast-result c = search needs
-
-shl-result : tie.Need-shl-result
-shl-result c = search needs
-
 returns : tie.Need-returns
 returns c = one-shifted 32 (c .args .v) (c .pre)
 
 pub bit32-spec : {M : Type 1} → statement M
-bit32-spec = tie.close (tie.spec cast-result shl-result returns)
+bit32-spec = tie.close (tie.spec (λ c. search needs) (λ c. search needs) returns)

@@ -4,11 +4,8 @@ use Rattle.mask.proofs.Laws.{one-shifted}
 use Rattle.mask.proofs.bit64.Statement.{statement}
 use Rattle.mask.proofs.bit64.Tie as tie
 
-shl-result : tie.Need-shl-result
-shl-result c = search needs
-
 returns : tie.Need-returns
 returns c = one-shifted 64 (c .args .v) (c .pre)
 
 pub bit64-spec : {M : Type 1} → statement M
-bit64-spec = tie.close (tie.spec shl-result returns)
+bit64-spec = tie.close (tie.spec (λ c. search needs) returns)

@@ -5,12 +5,9 @@ use Rattle.mask.specs.Mask.{has}
 use Rattle.mask.proofs.holds64.Statement.{statement}
 use Rattle.mask.proofs.holds64.Tie as tie
 
-shr-result : tie.Need-shr-result
-shr-result c = search needs
-
 returns : tie.Need-returns
 unfolding has
 returns c = refl
 
 pub holds64-spec : {M : Type 1} → statement M
-holds64-spec = tie.close (tie.spec shr-result returns)
+holds64-spec = tie.close (tie.spec (λ c. search needs) returns)

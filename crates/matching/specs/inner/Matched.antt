@@ -23,10 +23,11 @@ matched new l = performed new (names l)
 
 -- where the straight list ends, if there is one
 unfoldable pub straightEnd : ℕ → List Step → List Step → End
-straightEnd from new l = cond (runsStraight from new l) (At (record { tokens = Option·getD (fireAll new from l) 0 })) Stuck
+straightEnd from new l = cond (runsStraight from new l) (At (record { tokens = Option·getD (fireAll new from l) 0 }))
+    Stuck
 
--- a job whose done list l has run: l and the new route's steps for it as numbers, the new start, the straight list's end, the kept and the
--- new route's variables
+-- a job whose done list l has run: l and the new route's steps for it as numbers, the new start, the straight list's
+-- end, the kept and the new route's variables
 pub record Ready (from : ℕ) (new l : List Step) (p : Prepared) (occurrences matches : List ℕ) : Type 0 where
   pub done-are : Holds l occurrences
   pub matches-are : Holds (matched new l) matches

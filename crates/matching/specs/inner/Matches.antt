@@ -1,5 +1,5 @@
--- An inner promise: the occurrences l against the new route's steps for them, as numbers: what rows 10 to 12 and straight replay are found
--- from.
+-- An inner promise: the occurrences l against the new route's steps for them, as numbers: what rows 10 to 12 and
+-- straight replay are found from.
 use mathlib.Core.Path.{_≡_}
 use mathlib.Core.Bool.{Bool, true, false, cond}
 use mathlib.Core.List.{List}
@@ -21,7 +21,8 @@ use Rattle.matching.specs.declared.End.{End}
 use Rattle.matching.specs.declared.End.the-variants.{At, Stuck}
 use Rattle.matching.specs.declared.Prepared.{Prepared}
 
--- the numbers are those of the new route's steps for l. No occurrence has the name 0, so a match that has it isn't there
+-- the numbers are those of the new route's steps for l. No occurrence has the name 0, so a match that has it isn't
+-- there
 pub record MatchesOf (new l : List Step) (matches : List ℕ) : Type 0 where
   pub named : AllNamed (names l)
   pub steps-are : stepsIn matches ≡ matched new l

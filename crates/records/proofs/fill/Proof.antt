@@ -1,5 +1,5 @@
--- `fill` meets its contract: a walk of its MIR, by hand. The lent list is opened once, before the loop, and closed once, after it; in between,
--- its first i records are those of the array.
+-- `fill` meets its contract: a walk of its MIR, by hand. The lent list is opened once, before the loop, and closed
+-- once, after it; in between, its first i records are those of the array.
 use mathlib.Core.Path.{_≡_, refl, sym, subst}
 use Prim.Native.Nat.{ℕ, suc, _+_, _*_, _<_, _≤_, _^_}
 use native.Mathlib.Nat.{lt-irrefl}
@@ -21,9 +21,12 @@ use prog.Wp.{Heap, Out, Env, afterSeq, afterBlock, afterTurn, Calls, Loops, Wp, 
 use ghost.Atoms.{Atoms}
 use contract.Monad.{Fun}
 use contract.Running.{givenOf, tables, tablesOf}
-use types.Kit.{Given, Item, ‵, _⊛_, ⋆, anyQ, atRet, _$_, _∵_, !, qed, by, move, keep, use1, drop, split, join, rewrite, fsplit, fjoin, feqI, suffices, frame, done}
+use types.Kit.{Given, Item, ‵, _⊛_, ⋆, anyQ, atRet, _$_, _∵_, !, qed, by, move, keep, use1, drop, split, join, rewrite}
+use types.Kit.{fsplit, fjoin, feqI, suffices, frame, done}
 use types.Part.{whole, sub, look-in}
-use types.Run.{look, look-raw, store, store-raw, init, forget, stop, hop, fld, from, load, lit, unit-lit, of-opd, bin, addr, assigns, assigns-last, stays, leaves-loop, returns, enter, alloc1, alloc0, params1, pass1, pass0, exec}
+use types.Run.{look, look-raw, store, store-raw, init, forget, stop, hop, fld, from, load, lit, unit-lit, of-opd, bin}
+use types.Run.{addr, assigns, assigns-last, stays, leaves-loop, returns, enter, alloc1, alloc0, params1, pass1, pass0}
+use types.Run.{exec}
 use denote.RattleType.{owns}
 use denote.Laws.{Is, shows}
 use denote.Memory.{partOf, pointee, mem}
@@ -31,7 +34,8 @@ use denote.Plain.{uint-vals, uint-tells}
 use denote.Builtin.{usize}
 use denote.Ref.{RefT, now}
 use denote.Array.{Array, arrayVal, array-vals, array-tells}
-use denote.Slice.{sliceTy, sliceVal, MutSlice, Room, slice-vals, mut-slice-tells, codedHoleys, heres, finally, res-finally}
+use denote.Slice.{sliceTy, sliceVal, MutSlice, Room, slice-vals, mut-slice-tells, codedHoleys, heres, finally}
+use denote.Slice.{res-finally}
 use denote.Lend.{Held}
 use denote.Index.{place-is, row, elem-out, elem-back, elem-put, opens-slice, closes-slice}
 use denote.Steps.{owned, nothing}
@@ -62,7 +66,16 @@ slice = sliceTy (tyRef (named 0) mut (pointee (S .written)))
 
 -- the function, with its locals' types written out once
 abbrev function : Fn
-function = record { lifetimes = 1; outlives = []; params = 3; locals = local tyUnit valueLocal ∷ local slice valueLocal ∷ local word valueLocal ∷ local records valueLocal ∷ local records memorySlot ∷ local word valueLocal ∷ local tyBool valueLocal ∷ local word valueLocal ∷ local tyPtr valueLocal ∷ local tyPtr valueLocal ∷ local St′.mir valueLocal ∷ local word valueLocal ∷ local tyPtr valueLocal ∷ []; body = body.t-1 }
+function = record {
+  lifetimes = 1;
+  outlives = [];
+  params = 3;
+  locals = local tyUnit valueLocal ∷ local slice valueLocal ∷ local word valueLocal ∷ local records valueLocal
+      ∷ local records memorySlot ∷ local word valueLocal ∷ local tyBool valueLocal ∷ local word valueLocal
+      ∷ local tyPtr valueLocal ∷ local tyPtr valueLocal ∷ local St′.mir valueLocal ∷ local word valueLocal
+      ∷ local tyPtr valueLocal ∷ [];
+  body = body.t-1;
+}
 
 function-is : function ≡ code.function
 function-is = refl
@@ -202,7 +215,8 @@ module _ {M : Type 1} (𝓤 : URA M) (H : Heap 𝓤) (A : Atoms 𝓤) (W : Given
         move ! (1 ∷ 14 ∷ 15 ∷ 16 ∷ []) $ closes-slice ! tt S ys (copied ys xs n) (length-copied ys xs n) b o $
         returns ! (look ! 15 refl) $ forget ! 3 refl $ forget ! 4 refl $ forget ! 5 refl $ forget ! 12 refl $
         forget ! 13 refl $ forget ! 14 refl $ forget ! 15 refl $
-        move ! (15 ∷ 16 ∷ 12 ∷ 17 ∷ 13 ∷ 18 ∷ 14 ∷ 19 ∷ 3 ∷ 20 ∷ 4 ∷ 21 ∷ 5 ∷ 22 ∷ 6 ∷ 23 ∷ 7 ∷ 24 ∷ 8 ∷ 25 ∷ 9 ∷ 26 ∷ 10 ∷
+        move ! (15 ∷ 16 ∷ 12 ∷ 17 ∷ 13 ∷ 18 ∷ 14 ∷ 19 ∷ 3 ∷ 20 ∷ 4 ∷ 21 ∷ 5 ∷ 22 ∷ 6 ∷ 23 ∷ 7 ∷ 24 ∷ 8 ∷ 25 ∷ 9 ∷ 26
+        ∷ 10 ∷
         27 ∷ 11 ∷ 28 ∷ []) $ all-rooms ! _ $ keep ! (0 ∷ 2 ∷ []) $ by ! (exits (copied ys xs n)
         (copied-is ys xs n (omega (arith, array-long)) short) (length-copied ys xs n)))
 
@@ -235,7 +249,9 @@ module _ {M : Type 1} (𝓤 : URA M) (H : Heap 𝓤) (A : Atoms 𝓤) (W : Given
       split ! $ move ! (2 ∷ 3 ∷ 0 ∷ []) $
       opens-slice ! tt S ys b o $ move ! (21 ∷ []) $
       array-out ! 64 xs l₄ xv given $
-      keep ! (1 ∷ 0 ∷ 20 ∷ 18 ∷ 16 ∷ 14 ∷ 12 ∷ 10 ∷ 8 ∷ 6 ∷ 27 ∷ 25 ∷ 23 ∷ 29 ∷ 2 ∷ 3 ∷ 4 ∷ 30 ∷ 28 ∷ 26 ∷ 24 ∷ 22 ∷ 21 ∷ 19 ∷ 17 ∷ 15 ∷ 13 ∷ 11 ∷ 9 ∷ 7 ∷ []) $ by ! (loops 𝓣 g gn (few .0) (few .1) given l₀ l₁ l₂ l₃ l₄ l₅ l₆ l₇ l₈ l₉ l₁₀ l₁₁ l₁₂))))))))))))))
+      keep ! (1 ∷ 0 ∷ 20 ∷ 18 ∷ 16 ∷ 14 ∷ 12 ∷ 10 ∷ 8 ∷ 6 ∷ 27 ∷ 25 ∷ 23 ∷ 29 ∷ 2 ∷ 3 ∷ 4 ∷ 30 ∷ 28 ∷ 26 ∷ 24 ∷ 22 ∷ 21
+      ∷ 19 ∷ 17 ∷ 15 ∷ 13 ∷ 11 ∷ 9 ∷ 7 ∷ []) $ by !
+      (loops 𝓣 g gn (few .0) (few .1) given l₀ l₁ l₂ l₃ l₄ l₅ l₆ l₇ l₈ l₉ l₁₀ l₁₁ l₁₂))))))))))))))
 
 module _ {M : Type 1} (𝓤 : URA M) (H : Heap 𝓤) (A : Atoms 𝓤) (W : Given 𝓤 H A) (at-mem : Memory
     → SProp 𝓤) (run : Routine → Fun 𝓤) (𝓣 : Tables 𝓤 H) where

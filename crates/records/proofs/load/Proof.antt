@@ -1,5 +1,6 @@
--- `load` meets its contract: a walk of its MIR, by hand. Each turn has `record_at` copy one record out of the list (Reads). The array of 64 records
--- is taken apart into its records before the loop and put together after it: in between, i of them are copied.
+-- `load` meets its contract: a walk of its MIR, by hand. Each turn has `record_at` copy one record out of the list
+-- (Reads). The array of 64 records is taken apart into its records before the loop and put together after it: in
+-- between, i of them are copied.
 use mathlib.Core.Path.{_≡_, refl, sym, _∙_, subst}
 use Prim.Native.Nat.{ℕ, zero, suc, _+_, _*_, _<_, _≤_, _^_}
 use native.Mathlib.Nat.{lt-irrefl}
@@ -22,9 +23,12 @@ use ghost.Atoms.{Atoms}
 use contract.Monad.{Fun}
 use contract.Running.{givenOf, tables, tablesOf}
 use sound.WpLaws.{fmOf}
-use types.Kit.{Given, Item, ‵, _⊛_, ⋆, anyQ, atRet, _$_, _∵_, !, qed, by, move, keep, use1, drop, split, join, rewrite, fsplit, fjoin, suffices, frame, done}
+use types.Kit.{Given, Item, ‵, _⊛_, ⋆, anyQ, atRet, _$_, _∵_, !, qed, by, move, keep, use1, drop, split, join, rewrite}
+use types.Kit.{fsplit, fjoin, suffices, frame, done}
 use types.Part.{whole, sub, look-in, agg, rep}
-use types.Run.{look, store, store-raw, init, forget, stop, hop, fld, from, load, lit, no-more, and-then, of-opd, bin, addr, assigns, assigns-last, land, first, skips, branches, stays, leaves-loop, returns, enter, alloc1, alloc0, params1, pass1, pass0, exec}
+use types.Run.{look, store, store-raw, init, forget, stop, hop, fld, from, load, lit, no-more, and-then, of-opd, bin}
+use types.Run.{addr, assigns, assigns-last, land, first, skips, branches, stays, leaves-loop, returns, enter, alloc1}
+use types.Run.{alloc0, params1, pass1, pass0, exec}
 use denote.RattleType.{owns}
 use denote.Shadow.{shadow}
 use denote.Laws.{Is, shows}
@@ -51,7 +55,8 @@ use Rattle.route.proofs.Route as Ro
 use Rattle.route.proofs.Route.Laws as Ro′
 use Rattle.records.specs.Loaded.{loaded}
 use Rattle.records.proofs.Copied.{copied, length-copied, blanks, loads-short, loads-long}
-use Rattle.records.proofs.Record.{S, word, records, vals, tells, bv, is-blank, holds, fails, typed, typed-all, makes}
+use Rattle.records.proofs.Record.{S, word, records, vals, tells, bv, is-blank, holds, fails, typed, typed-all}
+use Rattle.records.proofs.Record.{makes}
 use Rattle.records.proofs.Called.{Known, tells as ends-with, meets}
 use Rattle.records.proofs.Locals.{held, sets, all-rooms}
 use Rattle.records.proofs.InArray.{array-out, array-in}
@@ -90,7 +95,16 @@ all-fields (x ∷ xs) (u ∷ us) s = (s .0, all-fields xs us (s .1))
 
 -- the function, with its locals' types written out once
 abbrev function : Fn
-function = record { lifetimes = 1; outlives = []; params = 2; locals = local Ro′.mir valueLocal ∷ local word valueLocal ∷ local slice valueLocal ∷ local records memorySlot ∷ local word valueLocal ∷ local word valueLocal ∷ local word valueLocal ∷ local St′.mir valueLocal ∷ local tyBool valueLocal ∷ local tyBool valueLocal ∷ local St′.mir valueLocal ∷ local word valueLocal ∷ local tyPtr valueLocal ∷ local tyPtr valueLocal ∷ local records valueLocal ∷ []; body = body.t-1 }
+function = record {
+  lifetimes = 1;
+  outlives = [];
+  params = 2;
+  locals = local Ro′.mir valueLocal ∷ local word valueLocal ∷ local slice valueLocal ∷ local records memorySlot
+      ∷ local word valueLocal ∷ local word valueLocal ∷ local word valueLocal ∷ local St′.mir valueLocal
+      ∷ local tyBool valueLocal ∷ local tyBool valueLocal ∷ local St′.mir valueLocal ∷ local word valueLocal
+      ∷ local tyPtr valueLocal ∷ local tyPtr valueLocal ∷ local records valueLocal ∷ [];
+  body = body.t-1;
+}
 
 function-is : function ≡ code.function
 function-is = refl
@@ -214,7 +228,8 @@ module _ {M : Type 1} (𝓤 : URA M) (H : Heap 𝓤) (A : Atoms 𝓤) (W : Given
         returns ! (look ! 13 refl) $ forget ! 0 refl $ forget ! 3 refl $ forget ! 4 refl $ forget ! 9 refl $
         forget ! 10 refl $ forget ! 11 refl $ forget ! 12 refl $ forget ! 13 refl $ forget ! 16 refl $
         owned ! Ro.the-row (Is Ro.the-row) (LL.makes Ro.the-type Ro′.the-plain 𝓤 H A) made _ (is-made v is) $
-        move ! (14 ∷ 18 ∷ 13 ∷ 19 ∷ 10 ∷ 20 ∷ 1 ∷ 21 ∷ 12 ∷ 22 ∷ 11 ∷ 23 ∷ 4 ∷ 24 ∷ 15 ∷ 25 ∷ 16 ∷ 26 ∷ 5 ∷ 27 ∷ 6 ∷ 28 ∷
+        move ! (14 ∷ 18 ∷ 13 ∷ 19 ∷ 10 ∷ 20 ∷ 1 ∷ 21 ∷ 12 ∷ 22 ∷ 11 ∷ 23 ∷ 4 ∷ 24 ∷ 15 ∷ 25 ∷ 16 ∷ 26 ∷ 5 ∷ 27 ∷ 6 ∷ 28
+        ∷
         7 ∷ 29 ∷ 8 ∷ 30 ∷ 9 ∷ 31 ∷ 17 ∷ 32 ∷ []) $ all-rooms ! _ $ keep ! (1 ∷ 0 ∷ []) $ by ! (exits made _ fin))
       where
         all : List Step
@@ -278,7 +293,8 @@ module _ {M : Type 1} (𝓤 : URA M) (H : Heap 𝓤) (A : Atoms 𝓤) (W : Given
         sets ! (of-opd ! (lit ! tt)) 16 refl (tt, record { fits = lit< tt }) $ forget ! 14 refl $ forget ! 12 refl $
         move ! (31 ∷ []) $ fsplit ! $ drop ! $ fsplit ! $ move ! (32 ∷ []) $ split ! $ move ! (26 ∷ []) $
         array-out ! 64 blanks l₃ av is-blanks $
-        keep ! (0 ∷ 1 ∷ 3 ∷ 21 ∷ 15 ∷ 13 ∷ 11 ∷ 9 ∷ 7 ∷ 28 ∷ 23 ∷ 25 ∷ 30 ∷ 32 ∷ 19 ∷ 17 ∷ 5 ∷ 33 ∷ 31 ∷ 29 ∷ 27 ∷ 26 ∷ 24 ∷ 22 ∷ 20 ∷ 18 ∷ 16 ∷ 14 ∷ 12 ∷ 10 ∷ 8 ∷ 6 ∷ []) $
+        keep ! (0 ∷ 1 ∷ 3 ∷ 21 ∷ 15 ∷ 13 ∷ 11 ∷ 9 ∷ 7 ∷ 28 ∷ 23 ∷ 25 ∷ 30 ∷ 32 ∷ 19 ∷ 17 ∷ 5 ∷ 33 ∷ 31 ∷ 29 ∷ 27 ∷ 26
+        ∷ 24 ∷ 22 ∷ 20 ∷ 18 ∷ 16 ∷ 14 ∷ 12 ∷ 10 ∷ 8 ∷ 6 ∷ []) $
         by ! loops
 
   -- the MIR from its entry

@@ -1,4 +1,5 @@
--- `record_at` meets its contract: a walk of its MIR, by hand. Inside the list, it is looked into, one record is read, and it is shut.
+-- `record_at` meets its contract: a walk of its MIR, by hand. Inside the list, it is looked into, one record is read,
+-- and it is shut.
 use mathlib.Core.Path.{_≡_, refl, sym, subst}
 use Prim.Native.Nat.{ℕ, _*_, _<_, _^_}
 use mathlib.Core.List.{List, [], _∷_}
@@ -16,9 +17,11 @@ use prog.Wp.{Heap, WpFn, Tables}
 use ghost.Atoms.{Atoms}
 use contract.Monad.{Fun}
 use contract.Running.{givenOf, tables, tablesOf}
-use types.Kit.{Given, ‵, _⊛_, ⋆, atRet, _$_, _∵_, !, qed, by, move, keep, drop, split, join, rewrite, fsplit, fjoin, suffices, frame, done}
+use types.Kit.{Given, ‵, _⊛_, ⋆, atRet, _$_, _∵_, !, qed, by, move, keep, drop, split, join, rewrite, fsplit, fjoin}
+use types.Kit.{suffices, frame, done}
 use types.Part.{whole, sub, look-in, agg}
-use types.Run.{look, look-raw, init, forget, stop, hop, fld, from, load, lit, no-more, and-then, of-opd, bin, first, skips, branches, returns-within, returns, enter, params1, pass1, pass0, exec}
+use types.Run.{look, look-raw, init, forget, stop, hop, fld, from, load, lit, no-more, and-then, of-opd, bin, first}
+use types.Run.{skips, branches, returns-within, returns, enter, params1, pass1, pass0, exec}
 use denote.RattleType.{owns}
 use denote.Laws.{Is, shows}
 use denote.Memory.{pointee}
@@ -51,7 +54,15 @@ slice = sliceTy (tyRef (named 0) imm (pointee (S .written)))
 
 -- the function, with its locals' types written out once
 abbrev function : Fn
-function = record { lifetimes = 1; outlives = []; params = 2; locals = local St′.mir valueLocal ∷ local slice valueLocal ∷ local word valueLocal ∷ local word valueLocal ∷ local tyBool valueLocal ∷ local word valueLocal ∷ local tyPtr valueLocal ∷ local St′.mir valueLocal ∷ []; body = body.t-1 }
+function = record {
+  lifetimes = 1;
+  outlives = [];
+  params = 2;
+  locals = local St′.mir valueLocal ∷ local slice valueLocal ∷ local word valueLocal ∷ local word valueLocal
+      ∷ local tyBool valueLocal ∷ local word valueLocal ∷ local tyPtr valueLocal ∷ local St′.mir valueLocal ∷ [];
+  body =
+      body.t-1;
+}
 
 function-is : function ≡ code.function
 function-is = refl

@@ -11,6 +11,5 @@ abbrev μ-loop : tie.MeasureT-loop
 μ-loop after i₀ i = 64 - i
 
 pub say-after-spec : {M : Type 1} → statement M
-say-after-spec =
-    tie.close (tie.spec Inv-loop μ-loop (search needs) (search needs) (search needs) (search needs) (search needs)
-    (search needs) (search needs) (search needs) (search needs))
+say-after-spec = tie.close (tie.spec Inv-loop μ-loop (search needs) (search needs) (search needs) (search needs)
+    (search needs) (search needs) (search needs) (search needs) (search needs))

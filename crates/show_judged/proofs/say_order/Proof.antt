@@ -11,6 +11,6 @@ abbrev μ-loop : tie.MeasureT-loop
 μ-loop len order i₀ t6 i = 64 - i
 
 pub say-order-spec : {M : Type 1} → statement M
-say-order-spec =
-    tie.close (tie.spec Inv-loop μ-loop (search needs) (search needs) (search needs) (search needs) (search needs)
-    (search needs) (search needs) (search needs) (search needs) (search needs) (search needs) (search needs))
+say-order-spec = tie.close (tie.spec Inv-loop μ-loop (search needs) (search needs) (search needs) (search needs)
+    (search needs) (search needs) (search needs) (search needs) (search needs) (search needs) (search needs)
+    (search needs))

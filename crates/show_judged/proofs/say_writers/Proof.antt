@@ -11,6 +11,5 @@ abbrev μ-loop : tie.MeasureT-loop
 μ-loop writers v₀ v = 32 - v
 
 pub say-writers-spec : {M : Type 1} → statement M
-say-writers-spec =
-    tie.close (tie.spec Inv-loop μ-loop (search needs) (search needs) (search needs) (search needs) (search needs)
-    (search needs) (search needs))
+say-writers-spec = tie.close (tie.spec Inv-loop μ-loop (search needs) (search needs) (search needs) (search needs)
+    (search needs) (search needs) (search needs))

@@ -12,7 +12,6 @@ abbrev μ-loop : tie.MeasureT-loop
 μ-loop s start₀ i₀ start i = length s - i
 
 pub show-all-spec : {M : Type 1} → statement M
-show-all-spec =
-    tie.close (tie.spec Inv-loop μ-loop (search needs) (search needs) (search needs) (search needs) (search needs)
+show-all-spec = tie.close (tie.spec Inv-loop μ-loop (search needs) (search needs) (search needs) (search needs)
     (search needs) (search needs) (search needs) (search needs) (search needs) (search needs) (search needs)
-    (search needs))
+    (search needs) (search needs))

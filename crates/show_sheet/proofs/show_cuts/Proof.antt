@@ -14,6 +14,5 @@ abbrev μ-loop : tie.MeasureT-loop
 μ-loop s k₀ k = length s - k
 
 pub show-cuts-spec : {M : Type 1} → statement M
-show-cuts-spec =
-    tie.close (tie.spec Inv-loop μ-loop (search needs) (λ c. sym (length-take-le _ _ (search needs))) (search needs)
-    (search needs) (search needs) (search needs) (search needs))
+show-cuts-spec = tie.close (tie.spec Inv-loop μ-loop (search needs) (λ c. sym (length-take-le _ _ (search needs)))
+    (search needs) (search needs) (search needs) (search needs) (search needs))

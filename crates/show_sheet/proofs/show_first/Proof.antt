@@ -14,6 +14,6 @@ abbrev μ-loop : tie.MeasureT-loop
 μ-loop s i₀ i = length s - i
 
 pub show-first-spec : {M : Type 1} → statement M
-show-first-spec =
-    tie.close (tie.spec Inv-loop μ-loop (search needs) (search needs) (λ c. sym (length-take-le _ _ (search needs)))
-    (search needs) (search needs) (search needs) (search needs) (search needs) (search needs))
+show-first-spec = tie.close (tie.spec Inv-loop μ-loop (search needs) (search needs)
+    (λ c. sym (length-take-le _ _ (search needs))) (search needs) (search needs) (search needs) (search needs)
+    (search needs) (search needs))

@@ -11,6 +11,5 @@ abbrev μ-loop : tie.MeasureT-loop
 μ-loop table i₀ i = 64 - i
 
 pub say-table-spec : {M : Type 1} → statement M
-say-table-spec =
-    tie.close (tie.spec Inv-loop μ-loop (search needs) (search needs) (search needs) (search needs) (search needs)
-    (search needs) (search needs) (search needs))
+say-table-spec = tie.close (tie.spec Inv-loop μ-loop (search needs) (search needs) (search needs) (search needs)
+    (search needs) (search needs) (search needs) (search needs))

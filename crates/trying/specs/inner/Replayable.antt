@@ -15,7 +15,8 @@ use Rattle.matching.specs.declared.Prepared.{Prepared}
 use Rattle.trying.specs.Try.{tryStopped, listRow, tryFrom}
 use Rattle.trying.specs.declared.Tried.{Tried}
 
--- the kept of the occurrences l and the new route's steps for l, where the new route has each kept one with the same data
+-- the kept of the occurrences l and the new route's steps for l, where the new route has each kept one with the same
+-- data
 pub record Replayable (new l : List Step) (kept : ℕ) (matches : List Step) : Type 0 where
   pub kept-is : kept ≡ keptOf new l
   pub matches-are : matches ≡ matched new l

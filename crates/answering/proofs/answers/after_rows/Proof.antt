@@ -23,9 +23,6 @@ loop-holds c = rows-init _ _ (search needs)
 cast-i : tie.Need-cast-i Inv-loop μ-loop
 cast-i c = omega (arith, trailing-le 64 (c .before .loop .left))
 
-sub-left : tie.Need-sub-left Inv-loop μ-loop
-sub-left c = search needs
-
 mul-after : tie.Need-mul-after Inv-loop μ-loop
 mul-after c = record { fits = omega (arith, low c) }
 
@@ -48,7 +45,5 @@ returns : tie.Need-returns Inv-loop μ-loop
 returns c l is = rows-done _ _ _ _ (c .before .loop .inv) (c .loop-test .left) l is
 
 pub after-rows-spec : {M : Type 1} → statement M
-after-rows-spec =
-    tie.close
-    (tie.spec Inv-loop μ-loop loop-holds cast-i sub-left mul-after element-copy-out-after mul-after-2 array-write-after
-    loop-less loop-again returns)
+after-rows-spec = tie.close (tie.spec Inv-loop μ-loop loop-holds cast-i (λ c. search needs) mul-after
+    element-copy-out-after mul-after-2 array-write-after loop-less loop-again returns)

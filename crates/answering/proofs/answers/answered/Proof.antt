@@ -6,27 +6,6 @@ use Rattle.answering.proofs.AnswerParts.{answer-is}
 use Rattle.answering.proofs.answers.answered.Statement.{statement}
 use Rattle.answering.proofs.answers.answered.Tie as tie
 
-cast-len : tie.Need-cast-len
-cast-len c = search needs
-
-after-rows-requires : tie.Need-after-rows-requires
-after-rows-requires c κs = search needs
-
-last-writers-requires : tie.Need-last-writers-requires
-last-writers-requires c κs = search needs
-
-count-requires : tie.Need-count-requires
-count-requires c κs = search needs
-
-cast-done : tie.Need-cast-done
-cast-done c = search needs
-
-count64-requires : tie.Need-count64-requires
-count64-requires c κs = search needs
-
-sub-dropped : tie.Need-sub-dropped
-sub-dropped c = search needs
-
 returns : tie.Need-returns
 returns c from new o rows vars list =
     let n = c .before in
@@ -35,7 +14,5 @@ returns c from new o rows vars list =
     (n .before .last-writers .ensures new vars)
 
 pub answered-spec : {M : Type 1} → statement M
-answered-spec =
-    tie.close
-    (tie.spec cast-len after-rows-requires last-writers-requires count-requires cast-done count64-requires sub-dropped
-    returns)
+answered-spec = tie.close (tie.spec (λ c. search needs) (λ c κs. search needs) (λ c κs. search needs)
+    (λ c κs. search needs) (λ c. search needs) (λ c κs. search needs) (λ c. search needs) returns)

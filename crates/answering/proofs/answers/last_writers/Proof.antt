@@ -12,9 +12,6 @@ Inv-loop occurrences vars writers₀ left₀ i₀ writers left i = Wrote vars (s
 abbrev μ-loop : tie.MeasureT-loop
 μ-loop occurrences vars writers₀ left₀ i₀ writers left i = i
 
-count-requires : tie.Need-count-requires Inv-loop μ-loop
-count-requires c κs = search needs
-
 loop-holds : tie.Need-loop-holds Inv-loop μ-loop
 loop-holds c = wrote-init _ _ _ (c .count .ensures)
 
@@ -24,20 +21,11 @@ returns c new e = wrote-early _ new _ _ _ _ (c .if1 .taken) (c .before .before .
 cast-number : tie.Need-cast-number Inv-loop μ-loop
 cast-number c = let l = c .before .before in omega (arith, l .loop .inv .within, l .before .before .before .pre)
 
-sub-i : tie.Need-sub-i Inv-loop μ-loop
-sub-i c = search needs
-
 step-at-requires : tie.Need-step-at-requires Inv-loop μ-loop
 step-at-requires c κs = omega (arith, c .before .before .loop .inv .within)
 
-without32-requires : tie.Need-without32-requires Inv-loop μ-loop
-without32-requires c κs = search needs
-
 mark-writers-requires : tie.Need-mark-writers-requires Inv-loop μ-loop
 mark-writers-requires c κs = c .before .before .before .before .before .before .loop .inv .room
-
-loop-less : tie.Need-loop-less Inv-loop μ-loop
-loop-less c = search needs
 
 loop-again : tie.Need-loop-again Inv-loop μ-loop
 loop-again c =
@@ -50,7 +38,6 @@ returns-2 : tie.Need-returns-2 Inv-loop μ-loop
 returns-2 c new e = wrote-done _ new _ _ _ _ (c .loop-test .left) (c .before .loop .inv) e
 
 pub last-writers-spec : {M : Type 1} → statement M
-last-writers-spec =
-    tie.close
-    (tie.spec Inv-loop μ-loop count-requires loop-holds returns cast-number sub-i step-at-requires without32-requires
-    mark-writers-requires loop-less loop-again returns-2)
+last-writers-spec = tie.close (tie.spec Inv-loop μ-loop (λ c κs. search needs) loop-holds returns cast-number
+    (λ c. search needs) step-at-requires (λ c κs. search needs) mark-writers-requires (λ c. search needs) loop-again
+    returns-2)

@@ -19,9 +19,6 @@ loop-holds c = marking-init _ _ _ (c .pre) (search needs)
 cast-v : tie.Need-cast-v Inv-loop μ-loop
 cast-v c = omega (arith, trailing-le 32 (c .before .loop .left))
 
-sub-left : tie.Need-sub-left Inv-loop μ-loop
-sub-left c = search needs
-
 element-write-writers : tie.Need-element-write-writers Inv-loop μ-loop
 element-write-writers c = lowest-lt 32 (c .before .loop .left) (c .loop-test .taken) (c .before .loop .inv .narrow)
 
@@ -35,5 +32,5 @@ returns : tie.Need-returns Inv-loop μ-loop
 returns c = (c .before .loop .inv .room, λ v h. marking-done _ _ _ _ _ (c .before .loop .inv) (c .loop-test .left) v)
 
 pub mark-writers-spec : {M : Type 1} → statement M
-mark-writers-spec =
-    tie.close (tie.spec Inv-loop μ-loop loop-holds cast-v sub-left element-write-writers loop-less loop-again returns)
+mark-writers-spec = tie.close (tie.spec Inv-loop μ-loop loop-holds cast-v (λ c. search needs) element-write-writers
+    loop-less loop-again returns)

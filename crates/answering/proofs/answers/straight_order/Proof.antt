@@ -20,23 +20,11 @@ abbrev μ-loop : tie.MeasureT-loop
 loop-holds : tie.Need-loop-holds Inv-loop μ-loop
 loop-holds c = (search needs, (refl, filled-none _ 64))
 
-cast-order : tie.Need-cast-order Inv-loop μ-loop
-cast-order c = search needs
-
-add-order : tie.Need-add-order Inv-loop μ-loop
-add-order c = search needs
-
-array-write-order : tie.Need-array-write-order Inv-loop μ-loop
-array-write-order c = search needs
-
-add-i : tie.Need-add-i Inv-loop μ-loop
-add-i c = search needs
-
-loop-less : tie.Need-loop-less Inv-loop μ-loop
-loop-less c = search needs
-
 loop-again : tie.Need-loop-again Inv-loop μ-loop
-loop-again c = let l = c .before .loop in (search needs, (search needs, filled-more (λ (k : ℕ). k + 1) (l .i) _ (l .order) (l .inv .1 .1) (omega arith) refl))
+loop-again c = let l = c .before .loop in (
+  search needs,
+  (search needs, filled-more (λ (k : ℕ). k + 1) (l .i) _ (l .order) (l .inv .1 .1) (omega arith) refl),
+)
 
 returns : tie.Need-returns Inv-loop μ-loop
 returns c =
@@ -46,6 +34,5 @@ returns c =
     (λ k. l .inv .1 .1 k ∙ ap (λ (n : ℕ). cond (ltb k n) (k + 1) 0) all ∙ sym (turn-number _ k))
 
 pub straight-order-spec : {M : Type 1} → statement M
-straight-order-spec =
-    tie.close
-    (tie.spec Inv-loop μ-loop loop-holds cast-order add-order array-write-order add-i loop-less loop-again returns)
+straight-order-spec = tie.close (tie.spec Inv-loop μ-loop loop-holds (λ c. search needs) (λ c. search needs)
+    (λ c. search needs) (λ c. search needs) (λ c. search needs) loop-again returns)

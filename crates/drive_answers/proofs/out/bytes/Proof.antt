@@ -12,6 +12,5 @@ abbrev μ-loop : tie.MeasureT-loop
 μ-loop o₀ n l m₀ i₀ o m i = length l - i
 
 pub bytes-spec : {M : Type 1} → statement M
-bytes-spec =
-    tie.close (tie.spec Inv-loop μ-loop (search needs) (search needs) (search needs) (search needs) (search needs)
-    (search needs) (search needs) (search needs))
+bytes-spec = tie.close (tie.spec Inv-loop μ-loop (search needs) (search needs) (search needs) (search needs)
+    (search needs) (search needs) (search needs) (search needs))

@@ -12,6 +12,5 @@ abbrev μ-loop : tie.MeasureT-loop
 μ-loop o₀ n s m₀ i₀ o m i = length s - i
 
 pub puts-spec : {M : Type 1} → statement M
-puts-spec =
-    tie.close (tie.spec Inv-loop μ-loop (search needs) (search needs) (search needs) (search needs) (search needs)
-    (search needs) (search needs))
+puts-spec = tie.close (tie.spec Inv-loop μ-loop (search needs) (search needs) (search needs) (search needs)
+    (search needs) (search needs) (search needs))

@@ -14,6 +14,5 @@ abbrev μ-loop : tie.MeasureT-loop
 μ-loop nums at same s₀ count i₀ s i = count - i
 
 pub bytes-spec : {M : Type 1} → statement M
-bytes-spec =
-    tie.close (tie.spec Inv-loop μ-loop (search needs) (search needs) (search needs) (search needs) (search needs)
-    (search needs) (search needs) (λ c. search needs) (search needs) (λ c. search counted))
+bytes-spec = tie.close (tie.spec Inv-loop μ-loop (search needs) (search needs) (search needs) (search needs)
+    (search needs) (search needs) (search needs) (λ c. search needs) (search needs) (λ c. search counted))

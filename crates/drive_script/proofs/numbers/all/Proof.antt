@@ -14,7 +14,6 @@ abbrev μ-loop : tie.MeasureT-loop
 μ-loop text nums₀ at₀ count₀ nums at count = length nums₀ - count
 
 pub all-spec : {M : Type 1} → statement M
-all-spec =
-    tie.close (tie.spec Inv-loop μ-loop (search needs) (search needs) (search needs) (search needs)
+all-spec = tie.close (tie.spec Inv-loop μ-loop (search needs) (search needs) (search needs) (search needs)
     (λ c. search counted) (search needs) (search needs) (search needs) (search needs) (λ c. search needs) (search needs)
     (λ c. search counted))

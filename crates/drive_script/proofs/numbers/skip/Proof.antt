@@ -12,6 +12,5 @@ abbrev μ-loop : tie.MeasureT-loop
 μ-loop text at i₀ i = length text - i
 
 pub skip-spec : {M : Type 1} → statement M
-skip-spec =
-    tie.close (tie.spec Inv-loop μ-loop (search needs) (search needs) (search needs) (search needs) (search needs)
-    (search needs) (search needs) (search needs))
+skip-spec = tie.close (tie.spec Inv-loop μ-loop (search needs) (search needs) (search needs) (search needs)
+    (search needs) (search needs) (search needs) (search needs))

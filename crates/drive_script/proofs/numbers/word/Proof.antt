@@ -12,6 +12,5 @@ abbrev μ-loop : tie.MeasureT-loop
 μ-loop text at w₀ i₀ w i = length text - i
 
 pub word-spec : {M : Type 1} → statement M
-word-spec =
-    tie.close (tie.spec Inv-loop μ-loop (search needs) (search needs) (search needs) (search needs) (search needs)
-    (search needs) (search needs) (search needs) (search needs) (search needs))
+word-spec = tie.close (tie.spec Inv-loop μ-loop (search needs) (search needs) (search needs) (search needs)
+    (search needs) (search needs) (search needs) (search needs) (search needs) (search needs))

@@ -5,19 +5,15 @@ use Rattle.listing.specs.declared.Written.{Written}
 use Rattle.engine.proofs.host.reroute_print.Statement.{statement}
 use Rattle.engine.proofs.host.reroute_print.Tie as tie
 
-print-requires : tie.Need-print-requires
-print-requires c κs = search needs
-
-same-length : tie.Need-same-length
-same-length c = search needs
-
-same-length-2 : tie.Need-same-length-2
-same-length-2 c = search needs
-
 returns : tie.Need-returns
 returns c =
-    let is = c .before .before .before .before .print .ensures in
-    (ap (λ (w : Written). w .number) (is .0), (ap (λ (w : Written). w .second) (is .0), (ap (λ (w : Written). w .written) (is .0), is .1)))
+    let is = c .before .before .before .before .print .ensures in (
+      ap (λ (w : Written). w .number) (is .0),
+      (
+        ap (λ (w : Written). w .second) (is .0),
+        (ap (λ (w : Written). w .written) (is .0), is .1),
+      ),
+    )
 
 pub reroute-print-spec : {M : Type 1} → statement M
-reroute-print-spec = tie.close (tie.spec print-requires same-length same-length-2 returns)
+reroute-print-spec = tie.close (tie.spec (λ c κs. search needs) (λ c. search needs) (λ c. search needs) returns)

@@ -5,13 +5,10 @@ use Rattle.trying.specs.declared.Tried.{Tried}
 use Rattle.engine.proofs.host.reroute_try.Statement.{statement}
 use Rattle.engine.proofs.host.reroute_try.Tie as tie
 
-try-sheet-requires : tie.Need-try-sheet-requires
-try-sheet-requires c κs = search needs
-
 returns : tie.Need-returns
 returns c =
     let is = c .try-sheet .ensures in
     (ap (λ (t : Tried). t .number) is, (ap (λ (t : Tried). t .second) is, ap (λ (t : Tried). t .marking .tokens) is))
 
 pub reroute-try-spec : {M : Type 1} → statement M
-reroute-try-spec = tie.close (tie.spec try-sheet-requires returns)
+reroute-try-spec = tie.close (tie.spec (λ c κs. search needs) returns)

@@ -5,12 +5,16 @@ use Rattle.facts.specs.Facts.{failed}
 use Rattle.facts.proofs.Sheet.refused.Statement.{statement}
 use Rattle.facts.proofs.Sheet.refused.Tie as tie
 
-empty-requires : tie.Need-empty-requires
-empty-requires c κs = search needs
-
 returns : tie.Need-returns
 unfolding failed
-returns c = let e = c .empty .ensures in λ i. record { number = c .before .args .number; second = c .before .args .second; old = e i; new = e i; «done_len» = 0; done = replicate 64 0 }
+returns c = let e = c .empty .ensures in λ i. record {
+  number = c .before .args .number;
+  second = c .before .args .second;
+  old = e i;
+  new = e i;
+  «done_len» = 0;
+  done = replicate 64 0;
+}
 
 pub refused-spec : {M : Type 1} → statement M
-refused-spec = tie.close (tie.spec empty-requires returns)
+refused-spec = tie.close (tie.spec (λ c κs. search needs) returns)

@@ -5,13 +5,10 @@ use borrow.Author.Needs.{needs}
 use Rattle.job.proofs.Begun.stop.Statement.{statement}
 use Rattle.job.proofs.Begun.stop.Tie as tie
 
-refuse-requires : tie.Need-refuse-requires
-refuse-requires c κs = search needs
-
 returns : tie.Need-returns
 returns c =
     ap (λ (o : Outcome). record { outcome = o; marking = record { tokens = 0 }; start = record { tokens = 0 } })
     (c .refuse .ensures)
 
 pub stop-spec : {M : Type 1} → statement M
-stop-spec = tie.close (tie.spec refuse-requires returns)
+stop-spec = tie.close (tie.spec (λ c κs. search needs) returns)

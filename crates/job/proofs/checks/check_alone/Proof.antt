@@ -14,12 +14,6 @@ use Rattle.job.proofs.checks.check_alone.Tie as tie
 lines-pass : (c : tie.Else1) → eqb (c .before .before .check-route .result .number) 0 ≡ true
 lines-pass c = sym (c .before .passed .ensures) ∙ not-false _ (c .if1 .left)
 
-check-route-requires : tie.Need-check-route-requires
-check-route-requires c κs = search needs
-
-passed-requires : tie.Need-passed-requires
-passed-requires c κs = search needs
-
 returns : tie.Need-returns
 returns c =
     let checked = c .before .before in
@@ -31,9 +25,6 @@ open-requires c κs =
     let a = checked .before .before .args in
     route-fits 1 (a .places) (stepsIn (a .steps .now))
     (ap (λ (o : Outcome). eqb (o .number) 0) (sym (checked .check-route .ensures)) ∙ lines-pass c) .places-fit
-
-passed-requires-2 : tie.Need-passed-requires-2
-passed-requires-2 c κs = search needs
 
 returns-2 : tie.Need-returns-2
 returns-2 c =
@@ -50,13 +41,5 @@ returns-3 c =
     (sym (c .before .passed2 .ensures) ∙ not-false _ (c .if2 .left))
 
 pub check-alone-spec : {M : Type 1} → statement M
-check-alone-spec =
-    tie.close
-    (tie.spec
-    check-route-requires
-    passed-requires
-    returns
-    open-requires
-    passed-requires-2
-    returns-2
-    returns-3)
+check-alone-spec = tie.close (tie.spec (λ c κs. search needs) (λ c κs. search needs) returns open-requires
+    (λ c κs. search needs) returns-2 returns-3)

@@ -21,12 +21,6 @@ oldOf c = c .before .before .before .before
 new-few : (c : tie.Else2) → length (stepsIn (startOf (oldOf c) .args .new .now)) ≤ 64
 new-few c = search (needs, route-few)
 
-check-route-requires : tie.Need-check-route-requires
-check-route-requires c κs = search needs
-
-passed-requires : tie.Need-passed-requires
-passed-requires c κs = search needs
-
 returns : tie.Need-returns
 returns c = search (needs, lines-old)
 
@@ -36,23 +30,16 @@ next-head-requires c κs = (omega arith, old-few c)
 check-route-requires-2 : tie.Need-check-route-requires-2
 check-route-requires-2 c κs = search (needs, head-fits, route-few)
 
-passed-requires-2 : tie.Need-passed-requires-2
-passed-requires-2 c κs = search needs
-
 returns-2 : tie.Need-returns-2
 returns-2 c = search (needs, lines-new)
 
 job-line-requires : tie.Need-job-line-requires
 job-line-requires c κs = (old-few (oldOf c), new-few c)
 
-add-check-done : tie.Need-add-check-done
-add-check-done c = search needs
-
-check-done-requires : tie.Need-check-done-requires
-check-done-requires c κs = search needs
-
 returns-3 : tie.Need-returns-3
 returns-3 c = search (needs, lines-done)
 
 pub check-lines-spec : {M : Type 1} → statement M
-check-lines-spec = tie.close (tie.spec check-route-requires passed-requires returns next-head-requires check-route-requires-2 passed-requires-2 returns-2 job-line-requires add-check-done check-done-requires returns-3)
+check-lines-spec = tie.close (tie.spec (λ c κs. search needs) (λ c κs. search needs) returns next-head-requires
+    check-route-requires-2 (λ c κs. search needs) returns-2 job-line-requires (λ c. search needs) (λ c κs. search needs)
+    returns-3)

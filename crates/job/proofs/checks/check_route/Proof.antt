@@ -7,25 +7,13 @@ use borrow.Author.Needs.{needs}
 use Rattle.job.proofs.checks.check_route.Statement.{statement}
 use Rattle.job.proofs.checks.check_route.Tie as tie
 
-places-fit-requires : tie.Need-places-fit-requires
-places-fit-requires c κs = search needs
-
-refuse-requires : tie.Need-refuse-requires
-refuse-requires c κs = search needs
-
 returns : tie.Need-returns
 returns c = search (needs, route-two)
-
-add-check-steps : tie.Need-add-check-steps
-add-check-steps c = search needs
 
 check-steps-requires : tie.Need-check-steps-requires
 check-steps-requires c κs =
     let ok = sym (c .before .places-fit .ensures) ∙ not-false _ (c .if1 .left) in
     (places-bound (c .before .before .before .args .places) ok, omega arith)
-
-passed-requires : tie.Need-passed-requires
-passed-requires c κs = search needs
 
 returns-2 : tie.Need-returns-2
 returns-2 c =
@@ -34,15 +22,6 @@ returns-2 c =
     let a = head .before .before .args in
     route-steps (a .line) (a .places) _ _ (head .places-fit .ensures) _ (checked .before .if1 .left)
     (checked .check-steps .ensures) (sym (c .before .passed .ensures) ∙ not-true _ (c .if2 .taken))
-
-count-requires : tie.Need-count-requires
-count-requires c κs = search needs
-
-add-refuse : tie.Need-add-refuse
-add-refuse c = search needs
-
-refuse-requires-2 : tie.Need-refuse-requires-2
-refuse-requires-2 c κs = search needs
 
 returns-3 : tie.Need-returns-3
 returns-3 c =
@@ -55,9 +34,6 @@ returns-3 c =
     (checked .check-steps .ensures) _
     (sym (passed .passed .ensures) ∙ not-false _ (counted .before .if2 .left))
     (sym (counted .count .ensures) ∙ c .before .if3 .taken) (c .refuse2 .ensures)
-
-pass-requires : tie.Need-pass-requires
-pass-requires c κs = search needs
 
 returns-4 : tie.Need-returns-4
 returns-4 c =
@@ -72,19 +48,6 @@ returns-4 c =
     (λ e. c .before .if3 .left (counted .count .ensures ∙ e)) (c .pass .ensures)
 
 pub check-route-spec : {M : Type 1} → statement M
-check-route-spec =
-    tie.close
-    (tie.spec
-    places-fit-requires
-    refuse-requires
-    returns
-    add-check-steps
-    check-steps-requires
-    passed-requires
-    returns-2
-    count-requires
-    add-refuse
-    refuse-requires-2
-    returns-3
-    pass-requires
-    returns-4)
+check-route-spec = tie.close (tie.spec (λ c κs. search needs) (λ c κs. search needs) returns (λ c. search needs)
+    check-steps-requires (λ c κs. search needs) returns-2 (λ c κs. search needs) (λ c. search needs)
+    (λ c κs. search needs) returns-3 (λ c κs. search needs) returns-4)

@@ -26,57 +26,27 @@ Inv-loop places steps line n hint₀ i₀ hint i =
 abbrev μ-loop : tie.MeasureT-loop
 μ-loop places steps line n hint₀ i₀ hint i = n - i
 
-count-requires : tie.Need-count-requires Inv-loop μ-loop
-count-requires c κs = search needs
-
 loop-holds : tie.Need-loop-holds Inv-loop μ-loop
 loop-holds c =
     let a = c .before .before .args in
     let start : a .line + 0 ≡ a .line = omega arith in
     (search needs, (hinted-none, ap (λ (n : ℕ). first (stepRows n (a .places) [] (stepsIn (a .steps .now)))) start))
 
-add-refuse : tie.Need-add-refuse Inv-loop μ-loop
-add-refuse c = search needs
-
-refuse-requires : tie.Need-refuse-requires Inv-loop μ-loop
-refuse-requires c κs = search needs
-
 returns : tie.Need-returns Inv-loop μ-loop
 returns c = search (needs, steps-over)
-
-step-at-requires : tie.Need-step-at-requires Inv-loop μ-loop
-step-at-requires c κs = search needs
-
-mul-check-step : tie.Need-mul-check-step Inv-loop μ-loop
-mul-check-step c = search needs
 
 slice-aggregate-check-step : tie.Need-slice-aggregate-check-step Inv-loop μ-loop
 slice-aggregate-check-step c =
     let at = c .before .before .before .before in
     flat-prefix (at .before .before .before .args .steps .now) (at .loop .i) (omega (arith, at .before .count .ensures))
 
-add-check-step : tie.Need-add-check-step Inv-loop μ-loop
-add-check-step c = search needs
-
 check-step-requires : tie.Need-check-step-requires Inv-loop μ-loop
 check-step-requires c κs =
     let turn = c .before .before .before in
     ((search needs, flat-few _ _ 64 (turn .if1 .left)), search (needs, hinted-prefix))
 
-passed-requires : tie.Need-passed-requires Inv-loop μ-loop
-passed-requires c κs = search needs
-
 returns-2 : tie.Need-returns-2 Inv-loop μ-loop
 returns-2 c = search (needs, steps-refused, flat-names)
-
-hint-more-requires : tie.Need-hint-more-requires Inv-loop μ-loop
-hint-more-requires c κs = search needs
-
-add-i : tie.Need-add-i Inv-loop μ-loop
-add-i c = search needs
-
-loop-less : tie.Need-loop-less Inv-loop μ-loop
-loop-less c = search needs
 
 loop-again : tie.Need-loop-again Inv-loop μ-loop
 loop-again c =
@@ -95,33 +65,11 @@ loop-again c =
       ),
     )
 
-pass-requires : tie.Need-pass-requires Inv-loop μ-loop
-pass-requires c κs = search needs
-
 returns-3 : tie.Need-returns-3 Inv-loop μ-loop
 returns-3 c = search (needs, steps-end)
 
 pub check-steps-spec : {M : Type 1} → statement M
-check-steps-spec =
-    tie.close
-    (tie.spec
-    Inv-loop
-    μ-loop
-    count-requires
-    loop-holds
-    add-refuse
-    refuse-requires
-    returns
-    step-at-requires
-    mul-check-step
-    slice-aggregate-check-step
-    add-check-step
-    check-step-requires
-    passed-requires
-    returns-2
-    hint-more-requires
-    add-i
-    loop-less
-    loop-again
-    pass-requires
-    returns-3)
+check-steps-spec = tie.close (tie.spec Inv-loop μ-loop (λ c κs. search needs) loop-holds (λ c. search needs)
+    (λ c κs. search needs) returns (λ c κs. search needs) (λ c. search needs) slice-aggregate-check-step
+    (λ c. search needs) check-step-requires (λ c κs. search needs) returns-2 (λ c κs. search needs) (λ c. search needs)
+    (λ c. search needs) loop-again (λ c κs. search needs) returns-3)

@@ -29,23 +29,11 @@ module _ (s : Step) (i o : Bool) (ins : i ≡ placeList (s .ins)) (some-in : not
   all r w h reads some writes =
       and-yes ins (not-false i some-in) (and-yes outs (not-false o h) (and-yes reads some writes))
 
-place-list-requires : tie.Need-place-list-requires
-place-list-requires c κs = search needs
-
 returns : tie.Need-returns
 returns c = search (needs, no-ins)
 
-place-list-requires-2 : tie.Need-place-list-requires-2
-place-list-requires-2 c κs = search needs
-
 returns-2 : tie.Need-returns-2
 returns-2 c = search (needs, no-outs)
-
-variable-list-requires : tie.Need-variable-list-requires
-variable-list-requires c κs = search needs
-
-variable-list-requires-2 : tie.Need-variable-list-requires-2
-variable-list-requires-2 c κs = search needs
 
 returns-3 : tie.Need-returns-3
 returns-3 c = search (needs, all)
@@ -54,14 +42,5 @@ returns-4 : tie.Need-returns-4
 returns-4 c = search (needs, no-reads)
 
 pub lists-fit-spec : {M : Type 1} → statement M
-lists-fit-spec =
-    tie.close
-    (tie.spec
-    place-list-requires
-    returns
-    place-list-requires-2
-    returns-2
-    variable-list-requires
-    variable-list-requires-2
-    returns-3
-    returns-4)
+lists-fit-spec = tie.close (tie.spec (λ c κs. search needs) returns (λ c κs. search needs) returns-2
+    (λ c κs. search needs) (λ c κs. search needs) returns-3 returns-4)

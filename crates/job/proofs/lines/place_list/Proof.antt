@@ -10,9 +10,6 @@ use Rattle.job.specs.Lines.{placeList}
 use Rattle.job.proofs.lines.place_list.Statement.{statement}
 use Rattle.job.proofs.lines.place_list.Tie as tie
 
-count64-requires : tie.Need-count64-requires
-count64-requires c κs = search needs
-
 returns : tie.Need-returns
 unfolding placeList
 returns c = and-yes refl (ap not (ne-eqb _ _ (c .before .if1 .taken))) (ap (λ (n : ℕ). leb n 8) (c .count64 .ensures))
@@ -22,4 +19,4 @@ unfolding placeList
 returns-2 c = and-no _ refl (ap not (eq-eqb _ _ (c .if1 .left)))
 
 pub place-list-spec : {M : Type 1} → statement M
-place-list-spec = tie.close (tie.spec count64-requires returns returns-2)
+place-list-spec = tie.close (tie.spec (λ c κs. search needs) returns returns-2)

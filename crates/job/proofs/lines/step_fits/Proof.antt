@@ -9,15 +9,6 @@ use Rattle.job.specs.Lines.{stepFits}
 use Rattle.job.proofs.lines.step_fits.Statement.{statement}
 use Rattle.job.proofs.lines.step_fits.Tie as tie
 
-name-fits-requires : tie.Need-name-fits-requires
-name-fits-requires c κs = search needs
-
-below64-requires : tie.Need-below64-requires
-below64-requires c κs = search needs
-
-within64-requires : tie.Need-within64-requires
-within64-requires c κs = search needs
-
 returns : tie.Need-returns
 unfolding stepFits
 returns c =
@@ -30,4 +21,5 @@ unfolding stepFits
 returns-2 c = and-no _ (c .before .name-fits .ensures) (c .if1 .left)
 
 pub step-fits-spec : {M : Type 1} → statement M
-step-fits-spec = tie.close (tie.spec name-fits-requires below64-requires within64-requires returns returns-2)
+step-fits-spec = tie.close (tie.spec (λ c κs. search needs) (λ c κs. search needs) (λ c κs. search needs) returns
+    returns-2)

@@ -7,12 +7,9 @@ use Rattle.job.specs.Lines.{variableList}
 use Rattle.job.proofs.lines.variable_list.Statement.{statement}
 use Rattle.job.proofs.lines.variable_list.Tie as tie
 
-count32-requires : tie.Need-count32-requires
-count32-requires c κs = search needs
-
 returns : tie.Need-returns
 unfolding variableList
 returns c = ap (λ (n : ℕ). leb n 8) (c .count32 .ensures)
 
 pub variable-list-spec : {M : Type 1} → statement M
-variable-list-spec = tie.close (tie.spec count32-requires returns)
+variable-list-spec = tie.close (tie.spec (λ c κs. search needs) returns)

@@ -6,18 +6,6 @@ use Rattle.judging.proofs.LongLists.{judged-laid, work-laid}
 use Rattle.judging.proofs.judging.judge.Statement.{statement}
 use Rattle.judging.proofs.judging.judge.Tie as tie
 
-slice-aggregate-lay : tie.Need-slice-aggregate-lay
-slice-aggregate-lay c = search needs
-
-lay-requires : tie.Need-lay-requires
-lay-requires c κs = search needs
-
-slice-aggregate-lay-2 : tie.Need-slice-aggregate-lay-2
-slice-aggregate-lay-2 c = search needs
-
-lay-requires-2 : tie.Need-lay-requires-2
-lay-requires-2 c κs = search needs
-
 array-share-prefix-a : tie.Need-array-share-prefix-a
 array-share-prefix-a c = search needs
 
@@ -30,27 +18,10 @@ array-share-prefix-b c = search needs
 slice-aggregate-judge-lists-2 : tie.Need-slice-aggregate-judge-lists-2
 slice-aggregate-judge-lists-2 c = sym (length-take-le _ _ (array-share-prefix-b (c .before)))
 
-judge-lists-requires : tie.Need-judge-lists-requires
-judge-lists-requires c κs = search needs
-
-same-length : tie.Need-same-length
-same-length c = search needs
-
 returns : tie.Need-returns
 returns c = (search (needs, judged-laid), search (needs, work-laid))
 
 pub judge-spec : {M : Type 1} → statement M
-judge-spec =
-    tie.close
-    (tie.spec
-    slice-aggregate-lay
-    lay-requires
-    slice-aggregate-lay-2
-    lay-requires-2
-    array-share-prefix-a
-    slice-aggregate-judge-lists
-    array-share-prefix-b
-    slice-aggregate-judge-lists-2
-    judge-lists-requires
-    same-length
-    returns)
+judge-spec = tie.close (tie.spec (λ c. search needs) (λ c κs. search needs) (λ c. search needs) (λ c κs. search needs)
+    array-share-prefix-a slice-aggregate-judge-lists array-share-prefix-b slice-aggregate-judge-lists-2
+    (λ c κs. search needs) (λ c. search needs) returns)

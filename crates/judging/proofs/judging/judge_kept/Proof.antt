@@ -11,7 +11,8 @@ use Rattle.judging.specs.inner.Passing.{Passing}
 use Rattle.answering.specs.declared.Placed.{Placed}
 use Rattle.candidates.proofs.CandidateColumns.{Room}
 use Rattle.candidates.proofs.FirstFit.{Found, none-fit, order-fit}
-use Rattle.judging.proofs.JudgeRows.{fit-answer, none-answer, passing-matched, passing-few, passing-limit, passing-same}
+use Rattle.judging.proofs.JudgeRows.{fit-answer, none-answer, passing-matched, passing-few, passing-limit}
+use Rattle.judging.proofs.JudgeRows.{passing-same}
 use Rattle.judging.proofs.judging.judge_kept.Statement.{statement}
 use Rattle.judging.proofs.judging.judge_kept.Tie as tie
 
@@ -34,7 +35,8 @@ module _ (c : tie.After-columns) where
 
   columns-are :
       (k : Job)
-      → ColumnsOf (start .args .p .kept) (start .args .t4) (matched (k .new) (stepsIn (start .args .occurrences .now))) (c .columns .result)
+      → ColumnsOf (start .args .p .kept) (start .args .t4) (matched (k .new) (stepsIn (start .args .occurrences .now)))
+      (c .columns .result)
   columns-are k =
       subst (λ (t : List Step). ColumnsOf (start .args .p .kept) (start .args .t4) t (c .columns .result))
       (k .matches-are) (c .columns .ensures)
@@ -46,7 +48,8 @@ module _ (c : tie.After-known-told) where
 
   fits :
       (k : Job gathered)
-      → Found (k .new) (stepsIn (start gathered .args .occurrences .now)) (gathered .columns .result) (start gathered .args .p .start .tokens) (c .before .found .given .0 .0)
+      → Found (k .new) (stepsIn (start gathered .args .occurrences .now)) (gathered .columns .result)
+      (start gathered .args .p .start .tokens) (c .before .found .given .0 .0)
   fits k =
       order-fit (k .new) _ _ _ _ (k .kept-is) (passing-same k) (start gathered .pre .1 .1 .0) (columns-are gathered k)
       (room gathered) _ _ (c .before .before .before .before .before .search-columns .ensures .0) _
@@ -60,9 +63,6 @@ columns-requires c κs =
 search-columns-requires : tie.Need-search-columns-requires
 search-columns-requires c κs = (room (c .before) .few, start (c .before) .pre .1 .1 .1)
 
-enum-known-found : tie.Need-enum-known-found
-enum-known-found c = search needs
-
 placed-requires : tie.Need-placed-requires
 placed-requires c κs = (room (gathered c) .few, gathered c .columns .ensures .low)
 
@@ -73,15 +73,6 @@ answered-requires c κs =
     let f = fits t k in
     let long = ap (λ (x : Placed). x .len) (c .before .placed .ensures (f .order) (f .packed)) in
     ((k .short, omega (arith, long, f .packed .long, room (gathered t) .few)), passing-few k)
-
-enum-told : tie.Need-enum-told
-enum-told c = search needs
-
-stop-requires : tie.Need-stop-requires
-stop-requires c κs = search needs
-
-same-length : tie.Need-same-length
-same-length c = search needs
 
 returns : tie.Need-returns
 returns c =
@@ -95,21 +86,18 @@ returns c =
       t .before .before .before .before .before .search-columns .ensures .1,
     )
 
-same-length-2 : tie.Need-same-length-2
-same-length-2 c = search needs
-
 returns-2 : tie.Need-returns-2
 returns-2 c =
     let s = c .before .before .before .before .before in
     let g = s .before .before in (
       λ k.
           c .stop .ensures
-          ∙ none-answer _ _ (k .new) _ (none-fit (k .new) _ _ _ _ (k .kept-is) (passing-same k) (start g .pre .1 .1 .0) (columns-are g k) (room g) _ _ (s .search-columns .ensures .0) (c .before .enum-told .given .1)),
+          ∙ none-answer _ _ (k .new) _ (none-fit (k .new) _ _ _ _ (k .kept-is) (passing-same k) (start g .pre .1 .1 .0)
+          (columns-are g k) (room g) _ _ (s .search-columns .ensures .0) (c .before .enum-told .given .1)),
       s .search-columns .ensures .1,
     )
 
 pub judge-kept-spec : {M : Type 1} → statement M
-judge-kept-spec =
-    tie.close
-    (tie.spec columns-requires search-columns-requires enum-known-found placed-requires answered-requires enum-told
-    stop-requires same-length returns same-length-2 returns-2)
+judge-kept-spec = tie.close (tie.spec columns-requires search-columns-requires (λ c. search needs) placed-requires
+    answered-requires (λ c. search needs) (λ c κs. search needs) (λ c. search needs) returns (λ c. search needs)
+    returns-2)

@@ -5,20 +5,8 @@ use Rattle.judging.proofs.JudgeOperation.{judged-short, work-short, jud
 use Rattle.judging.proofs.judging.judge_lists.Statement.{statement}
 use Rattle.judging.proofs.judging.judge_lists.Tie as tie
 
-stop-requires : tie.Need-stop-requires
-stop-requires c κs = search needs
-
 returns : tie.Need-returns
 returns c = (search (needs, judged-short), search (needs, work-short))
-
-check-lines-requires : tie.Need-check-lines-requires
-check-lines-requires c κs = search needs
-
-passed-requires : tie.Need-passed-requires
-passed-requires c κs = search needs
-
-stop-requires-2 : tie.Need-stop-requires-2
-stop-requires-2 c κs = search needs
 
 returns-2 : tie.Need-returns-2
 returns-2 c = (search (needs, judged-line), search (needs, work-line))
@@ -26,11 +14,6 @@ returns-2 c = (search (needs, judged-line), search (needs, work-line))
 judge-checked-requires : tie.Need-judge-checked-requires
 judge-checked-requires c κs = (search (needs, lines-pass), search needs)
 
-same-length : tie.Need-same-length
-same-length c = search needs
-
-returns-3 : tie.Need-returns-3
-returns-3 c = search needs
-
 pub judge-lists-spec : {M : Type 1} → statement M
-judge-lists-spec = tie.close (tie.spec stop-requires returns check-lines-requires passed-requires stop-requires-2 returns-2 judge-checked-requires same-length returns-3)
+judge-lists-spec = tie.close (tie.spec (λ c κs. search needs) returns (λ c κs. search needs) (λ c κs. search needs)
+    (λ c κs. search needs) returns-2 judge-checked-requires (λ c. search needs) (λ c. search needs))

@@ -12,14 +12,8 @@ start c = c .before .before .before .before
 table-of-requires : tie.Need-table-of-requires
 table-of-requires c κs = c .before .before .before .pre .0 .short
 
-enum-known-straight : tie.Need-enum-known-straight
-enum-known-straight c = search needs
-
 judge-straight-requires : tie.Need-judge-straight-requires
 judge-straight-requires c κs = start (c .before .before .before) .pre .0 .short
-
-enum-told : tie.Need-enum-told
-enum-told c = search needs
 
 judge-kept-requires : tie.Need-judge-kept-requires
 judge-kept-requires c κs =
@@ -36,17 +30,15 @@ returns c =
       λ k. cond-yes _ _ refl (passing-straight k _ end .0),
     )
 
-same-length : tie.Need-same-length
-same-length c = search needs
-
 returns-2 : tie.Need-returns-2
 returns-2 c =
     let end = c .before .before .before .before .enum-told .given .1 in
-    let judged = c .before .before .judge-kept .ensures in
-    (λ k. judged .0 k ∙ rows-search _ _ _ _ (k .passes) (passing-stuck k end), λ k. judged .1 ∙ cond-no _ _ refl (passing-stuck k end))
+    let judged = c .before .before .judge-kept .ensures in (
+      λ k. judged .0 k ∙ rows-search _ _ _ _ (k .passes) (passing-stuck k end),
+      λ k. judged .1
+          ∙ cond-no _ _ refl (passing-stuck k end),
+    )
 
 pub judge-prepared-spec : {M : Type 1} → statement M
-judge-prepared-spec =
-    tie.close
-    (tie.spec table-of-requires enum-known-straight judge-straight-requires enum-told judge-kept-requires returns
-    same-length returns-2)
+judge-prepared-spec = tie.close (tie.spec table-of-requires (λ c. search needs) judge-straight-requires
+    (λ c. search needs) judge-kept-requires returns (λ c. search needs) returns-2)

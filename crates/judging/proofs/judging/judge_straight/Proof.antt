@@ -26,9 +26,6 @@ module _ (c : tie.After-straight-order) where
   kept-is : c .before .below64 .result ≡ below (length done)
   kept-is = c .before .below64 .ensures ∙ ap (λ (n : ℕ). below n) (c .before .before .count .ensures)
 
-count-requires : tie.Need-count-requires
-count-requires c κs = search needs
-
 below64-requires : tie.Need-below64-requires
 below64-requires c κs = omega (arith, c .count .ensures, c .before .before .pre)
 
@@ -37,17 +34,20 @@ straight-order-requires c κs = omega (arith, c .before .count .ensures, c .befo
 
 answered-requires : tie.Need-answered-requires
 answered-requires c κs =
-    let s = c .before in
-    ((few s, omega (arith, few s, s .before .before .count .ensures)), subst (λ (m : ℕ). count 64 m ≤ length (done s)) (sym (kept-is s)) (below-few (length (done s))))
+    let s = c .before in (
+      (few s, omega (arith, few s, s .before .before .count .ensures)),
+      subst (λ (m : ℕ). count 64 m ≤ length (done s)) (sym (kept-is s)) (below-few (length (done s))),
+    )
 
 returns : tie.Need-returns
 returns c from new rows vars m =
     let s = c .before .before in
     let n = s .before .before .count .ensures in
     c .answered .ensures from new (inTurn 0 (length (done s))) rows vars
-    (straight-list from new (done s) _ _ _ (n ∙ sym (length-inTurn 0 (length (done s)))) (s .straight-order .ensures ∙ ap (λ (k : ℕ). padded 64 (map suc (inTurn 0 k))) n) m)
+    (straight-list from new (done s) _ _ _ (n ∙ sym (length-inTurn 0 (length (done s))))
+    (s .straight-order .ensures ∙ ap (λ (k : ℕ). padded 64 (map suc (inTurn 0 k))) n) m)
     ∙ ap (λ (k : ℕ). answer from new (done s) k (inTurn 0 (length (done s)))) (kept-is s)
 
 pub judge-straight-spec : {M : Type 1} → statement M
-judge-straight-spec =
-    tie.close (tie.spec count-requires below64-requires straight-order-requires answered-requires returns)
+judge-straight-spec = tie.close (tie.spec (λ c κs. search needs) below64-requires straight-order-requires
+    answered-requires returns)

@@ -8,26 +8,14 @@ use Rattle.lent.proofs.reading.count.Reads as reads
 use Rattle.lent.proofs.reading.count.Lts as lts
 use Rattle.lent.proofs.reading.refuse.Reads as refuse-reads
 
-refuse-requires : tie.Need-refuse-requires
-refuse-requires c κs = search needs
-
 returns : tie.Need-returns
 returns c = count-refused _ _ _ _ _ (c .refuse .ensures) (c .before .if1 .taken)
-
-refuse-requires-2 : tie.Need-refuse-requires-2
-refuse-requires-2 c κs = search needs
 
 returns-2 : tie.Need-returns-2
 returns-2 c = count-old _ _ _ _ (omega arith) _ (c .refuse2 .ensures) (omega arith)
 
-refuse-requires-3 : tie.Need-refuse-requires-3
-refuse-requires-3 c κs = search needs
-
 returns-3 : tie.Need-returns-3
 returns-3 c = count-new _ _ _ _ (omega arith) _ (c .refuse3 .ensures) (omega arith) (omega arith)
-
-refuse-requires-4 : tie.Need-refuse-requires-4
-refuse-requires-4 c κs = search needs
 
 returns-4 : tie.Need-returns-4
 returns-4 c = count-done _ _ _ _ (omega arith) _ (c .refuse4 .ensures) (omega arith) (omega arith) (omega arith)
@@ -36,15 +24,5 @@ returns-5 : tie.Need-returns-5
 returns-5 c = count-all _ _ _ _ (omega arith) (omega arith) (omega arith) (omega arith)
 
 pub count-spec : {M : Type 1} → statement M
-count-spec =
-    tie.close
-    (tie.spec
-    refuse-requires
-    returns
-    refuse-requires-2
-    returns-2
-    refuse-requires-3
-    returns-3
-    refuse-requires-4
-    returns-4
-    returns-5)
+count-spec = tie.close (tie.spec (λ c κs. search needs) returns (λ c κs. search needs) returns-2 (λ c κs. search needs)
+    returns-3 (λ c κs. search needs) returns-4 returns-5)

@@ -22,35 +22,29 @@ abbrev μ-loop : tie.MeasureT-loop
 full : (c : lts.At-loop reads.Pre reads.Post Inv-loop μ-loop) → length (c .before .args .t3) ≡ 64
 full c = search needs
 
-long : (c : lts.At-loop reads.Pre reads.Post Inv-loop μ-loop) → length (c .loop .out) ≡ length (c .before .args .out .now)
-long c = ap (λ (x : List ℕ). length x) (c .loop .inv .1) ∙ length-laid _ _ (c .loop .i) (omega (arith, full c)) (omega arith)
+long : (c : lts.At-loop reads.Pre reads.Post Inv-loop μ-loop)
+    → length (c .loop .out) ≡ length (c .before .args .out .now)
+long c = ap (λ (x : List ℕ). length x) (c .loop .inv .1)
+    ∙ length-laid _ _ (c .loop .i) (omega (arith, full c)) (omega arith)
 
 loop-holds : tie.Need-loop-holds Inv-loop μ-loop
 loop-holds c = (search needs, sym (laid-none _ _))
 
-mul-out : tie.Need-mul-out Inv-loop μ-loop
-mul-out c = search needs
-
 array-read-out : tie.Need-array-read-out Inv-loop μ-loop
 array-read-out c = omega arith
-
-mul-out-2 : tie.Need-mul-out-2 Inv-loop μ-loop
-mul-out-2 c = search needs
 
 slice-write-out : tie.Need-slice-write-out Inv-loop μ-loop
 slice-write-out c = omega (arith, long (c .before))
 
-add-i : tie.Need-add-i Inv-loop μ-loop
-add-i c = search needs
-
-loop-less : tie.Need-loop-less Inv-loop μ-loop
-loop-less c = search needs
-
 loop-again : tie.Need-loop-again Inv-loop μ-loop
 loop-again c =
     let at = c .before in
-    let names = at .before .args .t3 in
-    (omega arith, ap (λ (x : List ℕ). set x (at .loop .i) (getD names (at .loop .i) 0)) (at .loop .inv .1) ∙ laid-more 0 names (at .before .args .out .now) (at .loop .i) (omega (arith, full at)) (omega (arith, long at)))
+    let names = at .before .args .t3 in (
+      omega arith,
+      ap (λ (x : List ℕ). set x (at .loop .i) (getD names (at .loop .i) 0)) (at .loop .inv .1)
+          ∙ laid-more 0 names (at .before .args .out .now) (at .loop .i) (omega (arith, full at))
+          (omega (arith, long at)),
+    )
 
 same-length : tie.Need-same-length Inv-loop μ-loop
 same-length c = long (c .before)
@@ -62,18 +56,5 @@ returns c =
     at .loop .inv .1 ∙ ap (λ (k : ℕ). laid k (at .before .args .t3) (at .before .args .out .now)) whole
 
 pub put-spec : {M : Type 1} → statement M
-put-spec =
-    tie.close
-    (tie.spec
-    Inv-loop
-    μ-loop
-    loop-holds
-    mul-out
-    array-read-out
-    mul-out-2
-    slice-write-out
-    add-i
-    loop-less
-    loop-again
-    same-length
-    returns)
+put-spec = tie.close (tie.spec Inv-loop μ-loop loop-holds (λ c. search needs) array-read-out (λ c. search needs)
+    slice-write-out (λ c. search needs) (λ c. search needs) loop-again same-length returns)

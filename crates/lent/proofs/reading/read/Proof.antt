@@ -1,5 +1,6 @@
--- `read` meets its contract: a walk of its MIR, by hand. The sheet is read and its answer counted by covered functions; then each lent list is
--- lent on to the function that lays the entries over it, as many as the answer says: none where it is a refusal.
+-- `read` meets its contract: a walk of its MIR, by hand. The sheet is read and its answer counted by covered functions;
+-- then each lent list is lent on to the function that lays the entries over it, as many as the answer says: none where
+-- it is a refusal.
 use mathlib.Core.Path.{_≡_, refl, ap, subst}
 use Prim.Native.Nat.{ℕ, _≤_, _<_, _^_}
 use native.Mathlib.Omega.{arith}
@@ -18,9 +19,11 @@ use ghost.Atoms.{Atoms}
 use contract.Monad.{Fun}
 use contract.Running.{givenOf, tables, tablesOf}
 use sound.WpLaws.{FmC, fmOf}
-use types.Kit.{Given, Goal, Soaks, Item, Seq, ‵, raw, _⊛_, ⋆, _$_, _∵_, !, qed, by, move, keep, drop, use0, use1, use2, split, join, group, rewrite, fsplit, fjoin, suffices, frame, done}
+use types.Kit.{Given, Goal, Soaks, Item, Seq, ‵, raw, _⊛_, ⋆, _$_, _∵_, !, qed, by, move, keep, drop, use0, use1, use2}
+use types.Kit.{split, join, group, rewrite, fsplit, fjoin, suffices, frame, done}
 use types.Part.{whole, sub, look-in, agg}
-use types.Run.{look, init, store, stop, hop, fld, from, load, addr, of-opd, and-then, no-more, land, returns, enter, params1, pass1, pass0}
+use types.Run.{look, init, store, stop, hop, fld, from, load, addr, of-opd, and-then, no-more, land, returns, enter}
+use types.Run.{params1, pass1, pass0}
 use denote.RattleType.{owns}
 use denote.Laws.{Is}
 use denote.Memory.{pointee}
@@ -293,7 +296,9 @@ module _ {M : Type 1} (𝓤 : URA M) (H : Heap 𝓤) (A : Atoms 𝓤) (W : Given
         sets ! (of-opd ! (held ! 27 refl)) 39 refl (LL.lawful Ct.the-type Ct′.the-laws 𝓤 H A W .typed c _ (subst
         (Is Ct.the-row c) (Ct′.lowers .val-is c _ is′) is′) .0) $
         returns ! (look ! 39 refl) $
-        move ! (39 ∷ 40 ∷ 37 ∷ 38 ∷ 35 ∷ 36 ∷ 33 ∷ 34 ∷ 31 ∷ 32 ∷ 29 ∷ 30 ∷ 27 ∷ 28 ∷ 25 ∷ 26 ∷ 23 ∷ 24 ∷ 21 ∷ 22 ∷ 19 ∷ 20 ∷ 17 ∷ 18 ∷ 15 ∷ 16 ∷ 13 ∷ 14 ∷ 11 ∷ 12 ∷ 9 ∷ 10 ∷ 7 ∷ 8 ∷ []) $ all-freed ! _ _ $ keep ! (6 ∷ 5 ∷ 3 ∷ 1 ∷ 4 ∷ 2 ∷ 0 ∷ []) $
+        move ! (39 ∷ 40 ∷ 37 ∷ 38 ∷ 35 ∷ 36 ∷ 33 ∷ 34 ∷ 31 ∷ 32 ∷ 29 ∷ 30 ∷ 27 ∷ 28 ∷ 25 ∷ 26 ∷ 23 ∷ 24 ∷ 21 ∷ 22 ∷ 19
+        ∷ 20 ∷ 17 ∷ 18 ∷ 15 ∷ 16 ∷ 13 ∷ 14 ∷ 11 ∷ 12 ∷ 9 ∷ 10 ∷ 7 ∷ 8 ∷ []) $ all-freed ! _ _ $ keep !
+        (6 ∷ 5 ∷ 3 ∷ 1 ∷ 4 ∷ 2 ∷ 0 ∷ []) $
         by ! (exits z₁ z₂ z₃ (refl, (e₁, (e₂, e₃))) (subst (Is Ct.the-row c) (Ct′.lowers .val-is c _ is′) is′))))))))))
 
     walk : ent 𝓤 (onEntry 𝓤 H A read.signature (bound .0 .0) (bound .0 .1) (bound .0 .3) (bound .0 .4))

@@ -22,41 +22,23 @@ module _ (v : Version) (line above n : ℕ) (o : Outcome) where
   module _ (f : Bool) (fits : f ≡ nameFits v n) (room : above < 64) where
     two : not f ≡ true → o ≡ refuse 2 line → o ≡ doneRow v line above n
     unfolding doneRow
-    two h q = q ∙ sym (row-passes _ 4 line _ (lt-ltb above 64 room) ∙ row-refuses (nameFits v n) 2 line [] (sym fits ∙ not-true f h) refl)
+    two h q = q ∙ sym (row-passes _ 4 line _ (lt-ltb above 64 room)
+        ∙ row-refuses (nameFits v n) 2 line [] (sym fits ∙ not-true f h) refl)
 
     fine : not f ≡ false → o ≡ pass → o ≡ doneRow v line above n
     unfolding doneRow
-    fine h q = q ∙ sym (row-passes _ 4 line _ (lt-ltb above 64 room) ∙ row-passes (nameFits v n) 2 line [] (sym fits ∙ not-false f h) ∙ rows-end)
-
-refuse-requires : tie.Need-refuse-requires
-refuse-requires c κs = search needs
+    fine h q = q ∙ sym (row-passes _ 4 line _ (lt-ltb above 64 room)
+        ∙ row-passes (nameFits v n) 2 line [] (sym fits ∙ not-false f h) ∙ rows-end)
 
 returns : tie.Need-returns
 returns c = search (needs, four, two, fine)
 
-name-fits-requires : tie.Need-name-fits-requires
-name-fits-requires c κs = search needs
-
-refuse-requires-2 : tie.Need-refuse-requires-2
-refuse-requires-2 c κs = search needs
-
 returns-2 : tie.Need-returns-2
 returns-2 c = search (needs, four, two, fine)
-
-pass-requires : tie.Need-pass-requires
-pass-requires c κs = search needs
 
 returns-3 : tie.Need-returns-3
 returns-3 c = search (needs, four, two, fine)
 
 pub done-row-spec : {M : Type 1} → statement M
-done-row-spec =
-    tie.close
-    (tie.spec
-    refuse-requires
-    returns
-    name-fits-requires
-    refuse-requires-2
-    returns-2
-    pass-requires
-    returns-3)
+done-row-spec = tie.close (tie.spec (λ c κs. search needs) returns (λ c κs. search needs) (λ c κs. search needs)
+    returns-2 (λ c κs. search needs) returns-3)

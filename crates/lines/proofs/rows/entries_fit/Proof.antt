@@ -7,9 +7,6 @@ use Rattle.lines.specs.Lines.{entriesFit}
 use Rattle.lines.proofs.rows.entries_fit.Statement.{statement}
 use Rattle.lines.proofs.rows.entries_fit.Tie as tie
 
-cast-if1 : tie.Need-cast-if1
-cast-if1 c = search needs
-
 returns : tie.Need-returns
 unfolding entriesFit
 returns c = and-yes refl (le-leb _ _ (c .before .if1 .taken)) refl
@@ -19,4 +16,4 @@ unfolding entriesFit
 returns-2 c = and-no _ refl (lt-leb _ _ (c .if1 .left))
 
 pub entries-fit-spec : {M : Type 1} → statement M
-entries-fit-spec = tie.close (tie.spec cast-if1 returns returns-2)
+entries-fit-spec = tie.close (tie.spec (λ c. search needs) returns returns-2)

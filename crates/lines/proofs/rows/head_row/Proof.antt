@@ -20,15 +20,6 @@ module _ (line n : ℕ) (f : Bool) (fits : f ≡ placesFit n) (o : Outcome) wher
   unfolding headRow
   two h q = q ∙ sym (unless-no (placesFit n) 2 line (sym fits ∙ h))
 
-places-fit-requires : tie.Need-places-fit-requires
-places-fit-requires c κs = search needs
-
-pass-requires : tie.Need-pass-requires
-pass-requires c κs = search needs
-
-refuse-requires : tie.Need-refuse-requires
-refuse-requires c κs = search needs
-
 returns : tie.Need-returns
 returns c = search (needs, fine, two)
 
@@ -36,5 +27,5 @@ returns-2 : tie.Need-returns-2
 returns-2 c = search (needs, fine, two)
 
 pub head-row-spec : {M : Type 1} → statement M
-head-row-spec =
-    tie.close (tie.spec places-fit-requires pass-requires refuse-requires returns returns-2)
+head-row-spec = tie.close (tie.spec (λ c κs. search needs) (λ c κs. search needs) (λ c κs. search needs) returns
+    returns-2)

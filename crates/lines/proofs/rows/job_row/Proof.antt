@@ -21,17 +21,11 @@ module _ (line above : ℕ) (o : Outcome) where
   unfolding jobRow
   fine h q = q ∙ sym (unless-yes (not (eqb above 0)) 4 line (ap not (ne-eqb above 0 h)))
 
-refuse-requires : tie.Need-refuse-requires
-refuse-requires c κs = search needs
-
 returns : tie.Need-returns
 returns c = search (needs, four, fine)
-
-pass-requires : tie.Need-pass-requires
-pass-requires c κs = search needs
 
 returns-2 : tie.Need-returns-2
 returns-2 c = search (needs, four, fine)
 
 pub job-row-spec : {M : Type 1} → statement M
-job-row-spec = tie.close (tie.spec refuse-requires returns pass-requires returns-2)
+job-row-spec = tie.close (tie.spec (λ c κs. search needs) returns (λ c κs. search needs) returns-2)

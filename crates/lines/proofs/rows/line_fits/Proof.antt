@@ -26,18 +26,18 @@ module _ (v : Version) (places : ℕ) (p : StepLine) (n : Bool) (name : n ≡ na
     module _ (ins : p .ins .top ≤ places) where
       no-outs : places < p .outs .top → false ≡ lineFits v places p
       unfolding lineFits
-      no-outs h = and-yes name (not-false n named) (and-yes refl (le-leb _ _ ins) (sym (lt-leb _ _ h) ∙ and-no _ refl (lt-leb _ _ h)))
+      no-outs h = and-yes name (not-false n named)
+          (and-yes refl (le-leb _ _ ins) (sym (lt-leb _ _ h) ∙ and-no _ refl (lt-leb _ _ h)))
 
       no-reads : p .outs .top ≤ places → 32 < p .reads .top → leb (p .reads .top) 32 ≡ lineFits v places p
       unfolding lineFits
-      no-reads outs h = and-yes name (not-false n named) (and-yes refl (le-leb _ _ ins) (and-yes refl (le-leb _ _ outs) (and-no _ refl (lt-leb _ _ h))))
+      no-reads outs h = and-yes name (not-false n named)
+          (and-yes refl (le-leb _ _ ins) (and-yes refl (le-leb _ _ outs) (and-no _ refl (lt-leb _ _ h))))
 
       last : p .outs .top ≤ places → p .reads .top ≤ 32 → leb (p .writes .top) 32 ≡ lineFits v places p
       unfolding lineFits
-      last outs reads = and-yes name (not-false n named) (and-yes refl (le-leb _ _ ins) (and-yes refl (le-leb _ _ outs) (and-yes refl (le-leb _ _ reads) refl)))
-
-name-fits-requires : tie.Need-name-fits-requires
-name-fits-requires c κs = search needs
+      last outs reads = and-yes name (not-false n named)
+          (and-yes refl (le-leb _ _ ins) (and-yes refl (le-leb _ _ outs) (and-yes refl (le-leb _ _ reads) refl)))
 
 returns : tie.Need-returns
 returns c = search (needs, no-name)
@@ -55,5 +55,4 @@ returns-5 : tie.Need-returns-5
 returns-5 c = search (needs, last, no-reads)
 
 pub line-fits-spec : {M : Type 1} → statement M
-line-fits-spec =
-    tie.close (tie.spec name-fits-requires returns returns-2 returns-3 returns-4 returns-5)
+line-fits-spec = tie.close (tie.spec (λ c κs. search needs) returns returns-2 returns-3 returns-4 returns-5)

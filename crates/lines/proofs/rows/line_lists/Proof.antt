@@ -13,7 +13,8 @@ use Rattle.lines.proofs.rows.line_lists.Tie as tie
 module _ (p : StepLine) where
   no-ins : p .ins .count ≡ 0 → false ≡ lineLists p
   unfolding lineLists
-  no-ins h = let z : not (eqb (p .ins .count) 0) ≡ false = ap (λ (t : Bool). not t) (eq-eqb _ 0 h) in sym z ∙ and-no _ refl z
+  no-ins h = let z : not (eqb (p .ins .count) 0) ≡ false =
+      ap (λ (t : Bool). not t) (eq-eqb _ 0 h) in sym z ∙ and-no _ refl z
 
   module _ (ins : p .ins .count ≡ 0 → ⊥) where
     some-in : not (eqb (p .ins .count) 0) ≡ true
@@ -21,7 +22,8 @@ module _ (p : StepLine) where
 
     no-outs : p .outs .count ≡ 0 → false ≡ lineLists p
     unfolding lineLists
-    no-outs h = let z : not (eqb (p .outs .count) 0) ≡ false = ap (λ (t : Bool). not t) (eq-eqb _ 0 h) in and-yes refl some-in (sym z ∙ and-no _ refl z)
+    no-outs h = let z : not (eqb (p .outs .count) 0) ≡ false =
+        ap (λ (t : Bool). not t) (eq-eqb _ 0 h) in and-yes refl some-in (sym z ∙ and-no _ refl z)
 
     module _ (outs : p .outs .count ≡ 0 → ⊥) (a : Bool) (in-list : a ≡ entriesFit (p .ins)) where
       some-out : not (eqb (p .outs .count) 0) ≡ true
@@ -34,15 +36,19 @@ module _ (p : StepLine) where
       module _ (fine : not a ≡ false) (b : Bool) (out-list : b ≡ entriesFit (p .outs)) where
         bad-outs : not b ≡ true → false ≡ lineLists p
         unfolding lineLists
-        bad-outs h = and-yes refl some-in (and-yes refl some-out (and-yes in-list (not-false a fine) (sym (not-true b h) ∙ and-no _ out-list (not-true b h))))
+        bad-outs h = and-yes refl some-in (and-yes refl some-out
+            (and-yes in-list (not-false a fine) (sym (not-true b h) ∙ and-no _ out-list (not-true b h))))
 
         bad-reads : (r : Bool) → not b ≡ false → r ≡ entriesFit (p .reads) → r ≡ false → r ≡ lineLists p
         unfolding lineLists
-        bad-reads r h q z = and-yes refl some-in (and-yes refl some-out (and-yes in-list (not-false a fine) (and-yes out-list (not-false b h) (and-no _ q z))))
+        bad-reads r h q z = and-yes refl some-in (and-yes refl some-out
+            (and-yes in-list (not-false a fine) (and-yes out-list (not-false b h) (and-no _ q z))))
 
-        last : (r w : Bool) → not b ≡ false → r ≡ entriesFit (p .reads) → r ≡ true → w ≡ entriesFit (p .writes) → w ≡ lineLists p
+        last : (r w : Bool) → not b ≡ false → r ≡ entriesFit (p .reads) → r ≡ true → w ≡ entriesFit (p .writes)
+            → w ≡ lineLists p
         unfolding lineLists
-        last r w h q z v = and-yes refl some-in (and-yes refl some-out (and-yes in-list (not-false a fine) (and-yes out-list (not-false b h) (and-yes q z v))))
+        last r w h q z v = and-yes refl some-in (and-yes refl some-out
+            (and-yes in-list (not-false a fine) (and-yes out-list (not-false b h) (and-yes q z v))))
 
 returns : tie.Need-returns
 returns c = search (needs, no-ins)
@@ -50,23 +56,11 @@ returns c = search (needs, no-ins)
 returns-2 : tie.Need-returns-2
 returns-2 c = search (needs, no-outs)
 
-entries-fit-requires : tie.Need-entries-fit-requires
-entries-fit-requires c κs = search needs
-
 returns-3 : tie.Need-returns-3
 returns-3 c = search (needs, bad-ins)
 
-entries-fit-requires-2 : tie.Need-entries-fit-requires-2
-entries-fit-requires-2 c κs = search needs
-
 returns-4 : tie.Need-returns-4
 returns-4 c = search (needs, bad-outs)
-
-entries-fit-requires-3 : tie.Need-entries-fit-requires-3
-entries-fit-requires-3 c κs = search needs
-
-entries-fit-requires-4 : tie.Need-entries-fit-requires-4
-entries-fit-requires-4 c κs = search needs
 
 returns-5 : tie.Need-returns-5
 returns-5 c = search (needs, last)
@@ -75,16 +69,5 @@ returns-6 : tie.Need-returns-6
 returns-6 c = search (needs, bad-reads)
 
 pub line-lists-spec : {M : Type 1} → statement M
-line-lists-spec =
-    tie.close
-    (tie.spec
-    returns
-    returns-2
-    entries-fit-requires
-    returns-3
-    entries-fit-requires-2
-    returns-4
-    entries-fit-requires-3
-    entries-fit-requires-4
-    returns-5
-    returns-6)
+line-lists-spec = tie.close (tie.spec returns returns-2 (λ c κs. search needs) returns-3 (λ c κs. search needs)
+    returns-4 (λ c κs. search needs) (λ c κs. search needs) returns-5 returns-6)

@@ -21,23 +21,18 @@ module _ (line above n : ℕ) (o : Outcome) where
 
   then : (above ≡ 0 → ⊥) → o ≡ headRow line n → o ≡ newRow line above n
   unfolding newRow headRow
-  then h q = q ∙ sym (row-passes (not (eqb above 0)) 4 line (unless (placesFit n) 2 line ∷ []) (ap not (ne-eqb above 0 h)) ∙ alone (placesFit n))
+  then h q = q ∙ sym (row-passes (not (eqb above 0)) 4 line (unless (placesFit n) 2 line ∷ [])
+      (ap not (ne-eqb above 0 h)) ∙ alone (placesFit n))
     where
       alone : (t : Bool) → first (unless t 2 line ∷ []) ≡ unless t 2 line
       alone true = unfold first unless in refl
       alone false = unfold first unless in refl
 
-refuse-requires : tie.Need-refuse-requires
-refuse-requires c κs = search needs
-
 returns : tie.Need-returns
 returns c = search (needs, four, then)
-
-head-row-requires : tie.Need-head-row-requires
-head-row-requires c κs = search needs
 
 returns-2 : tie.Need-returns-2
 returns-2 c = search (needs, four, then)
 
 pub new-row-spec : {M : Type 1} → statement M
-new-row-spec = tie.close (tie.spec refuse-requires returns head-row-requires returns-2)
+new-row-spec = tie.close (tie.spec (λ c κs. search needs) returns (λ c κs. search needs) returns-2)

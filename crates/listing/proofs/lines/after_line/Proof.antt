@@ -7,29 +7,18 @@ use Rattle.listing.proofs.lines.after_line.Tie as tie
 returns : tie.Need-returns
 returns c = search (needs, after-none)
 
-slice-aggregate-figure : tie.Need-slice-aggregate-figure
-slice-aggregate-figure c = search needs
-
-add-figure : tie.Need-add-figure
-add-figure c = search needs
-
 figure-requires : tie.Need-figure-requires
 figure-requires c κs = search (needs, after-first)
 
 entries-requires : tie.Need-entries-requires
 entries-requires c κs = (search needs, search (needs, after-second))
 
-slice-aggregate-text : tie.Need-slice-aggregate-text
-slice-aggregate-text c = search needs
-
 text-requires : tie.Need-text-requires
 text-requires c κs = search (needs, after-third)
-
-same-length : tie.Need-same-length
-same-length c = search needs
 
 returns-2 : tie.Need-returns-2
 returns-2 c = search (needs, after-whole)
 
 pub after-line-spec : {M : Type 1} → statement M
-after-line-spec = tie.close (tie.spec returns slice-aggregate-figure add-figure figure-requires entries-requires slice-aggregate-text text-requires same-length returns-2)
+after-line-spec = tie.close (tie.spec returns (λ c. search needs) (λ c. search needs) figure-requires entries-requires
+    (λ c. search needs) text-requires (λ c. search needs) returns-2)

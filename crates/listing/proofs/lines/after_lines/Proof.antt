@@ -15,7 +15,9 @@ use Rattle.listing.proofs.lines.after_lines.Statement.{statement}
 use Rattle.listing.proofs.lines.after_lines.Tie as tie
 
 abbrev Inv-loop : tie.InvT-loop
-Inv-loop out₀ at kept rows end₀ left₀ out end left = (left < 2 ^ 64) × ((length out ≡ length out₀) × Left (over (lineOf rows) (members 64 left)) out end (afterLines kept rows) out₀ at)
+Inv-loop out₀ at kept rows end₀ left₀ out end left =
+    (left < 2 ^ 64) × ((length out ≡ length out₀)
+    × Left (over (lineOf rows) (members 64 left)) out end (afterLines kept rows) out₀ at)
 
 abbrev μ-loop : tie.MeasureT-loop
 μ-loop out₀ at kept rows end₀ left₀ out end left = left
@@ -26,9 +28,6 @@ inside c = search (needs, lowest-lt)
 
 loop-holds : tie.Need-loop-holds Inv-loop μ-loop
 loop-holds c = (search needs, (search needs, search (needs, after-start)))
-
-sub-left : tie.Need-sub-left Inv-loop μ-loop
-sub-left c = search needs
 
 cast-after-line : tie.Need-cast-after-line Inv-loop μ-loop
 cast-after-line c = omega (arith, inside (c .before))
@@ -51,11 +50,9 @@ loop-less c = search (needs, rest-less)
 loop-again : tie.Need-loop-again Inv-loop μ-loop
 loop-again c = (search (needs, rest-fits), (search needs, search (needs, row-turn)))
 
-same-length : tie.Need-same-length Inv-loop μ-loop
-same-length c = search needs
-
 returns : tie.Need-returns Inv-loop μ-loop
 returns c = search (needs, mask-end)
 
 pub after-lines-spec : {M : Type 1} → statement M
-after-lines-spec = tie.close (tie.spec Inv-loop μ-loop loop-holds sub-left cast-after-line cast-after-line-2 mul-after-line element-copy-out-after-line after-line-requires loop-less loop-again same-length returns)
+after-lines-spec = tie.close (tie.spec Inv-loop μ-loop loop-holds (λ c. search needs) cast-after-line cast-after-line-2
+    mul-after-line element-copy-out-after-line after-line-requires loop-less loop-again (λ c. search needs) returns)

@@ -10,11 +10,8 @@ text-requires c κs = search (needs, two-first)
 entry-requires : tie.Need-entry-requires
 entry-requires c κs = search (needs, two-second)
 
-same-length : tie.Need-same-length
-same-length c = search needs
-
 returns : tie.Need-returns
 returns c = search (needs, two-whole)
 
 pub figure-spec : {M : Type 1} → statement M
-figure-spec = tie.close (tie.spec text-requires entry-requires same-length returns)
+figure-spec = tie.close (tie.spec text-requires entry-requires (λ c. search needs) returns)

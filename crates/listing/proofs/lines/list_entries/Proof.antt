@@ -12,19 +12,18 @@ use Rattle.listing.proofs.lines.list_entries.Statement.{statement}
 use Rattle.listing.proofs.lines.list_entries.Tie as tie
 
 abbrev Inv-loop : tie.InvT-loop
-Inv-loop out₀ at l end₀ i₀ out end i = (i ≤ length l) × ((length out ≡ length out₀) × Left (over entry (drop i l)) out end (over entry l) out₀ at)
+Inv-loop out₀ at l end₀ i₀ out end i = (i ≤ length l)
+    × ((length out ≡ length out₀) × Left (over entry (drop i l)) out end (over entry l) out₀ at)
 
 abbrev μ-loop : tie.MeasureT-loop
 μ-loop out₀ at l end₀ i₀ out end i = length l - i
 
-room : (l : List ℕ) (i : ℕ) {o u o₀ : List ℕ} {n n₀ : ℕ} → Left (over entry (drop i l)) o n u o₀ n₀ → i < length l → Room (entry (getD l i 0)) o n
+room : (l : List ℕ) (i : ℕ) {o u o₀ : List ℕ} {n n₀ : ℕ} → Left (over entry (drop i l)) o n u o₀ n₀ → i < length l
+    → Room (entry (getD l i 0)) o n
 room = list-room entry
 
 loop-holds : tie.Need-loop-holds Inv-loop μ-loop
 loop-holds c = (search needs, (search needs, search (needs, left-start)))
-
-shared-slice-read-entry : tie.Need-shared-slice-read-entry Inv-loop μ-loop
-shared-slice-read-entry c = search needs
 
 cast-entry : tie.Need-cast-entry Inv-loop μ-loop
 cast-entry c = omega (arith, c .shared-slice-known2 .given (c .before .before .before .loop .i))
@@ -32,20 +31,12 @@ cast-entry c = omega (arith, c .shared-slice-known2 .given (c .before .before .b
 entry-requires : tie.Need-entry-requires Inv-loop μ-loop
 entry-requires c κs = search (needs, room)
 
-add-i : tie.Need-add-i Inv-loop μ-loop
-add-i c = search needs
-
-loop-less : tie.Need-loop-less Inv-loop μ-loop
-loop-less c = search needs
-
 loop-again : tie.Need-loop-again Inv-loop μ-loop
 loop-again c = (search needs, (search needs, search (needs, list-turn)))
-
-same-length : tie.Need-same-length Inv-loop μ-loop
-same-length c = search needs
 
 returns : tie.Need-returns Inv-loop μ-loop
 returns c = search (needs, list-end)
 
 pub list-entries-spec : {M : Type 1} → statement M
-list-entries-spec = tie.close (tie.spec Inv-loop μ-loop loop-holds shared-slice-read-entry cast-entry entry-requires add-i loop-less loop-again same-length returns)
+list-entries-spec = tie.close (tie.spec Inv-loop μ-loop loop-holds (λ c. search needs) cast-entry entry-requires
+    (λ c. search needs) (λ c. search needs) loop-again (λ c. search needs) returns)

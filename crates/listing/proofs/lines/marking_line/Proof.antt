@@ -4,26 +4,18 @@ use Rattle.listing.proofs.Line.{marking-first, marking-second, marking-
 use Rattle.listing.proofs.lines.marking_line.Statement.{statement}
 use Rattle.listing.proofs.lines.marking_line.Tie as tie
 
-slice-aggregate-text : tie.Need-slice-aggregate-text
-slice-aggregate-text c = search needs
-
 text-requires : tie.Need-text-requires
 text-requires c κs = search (needs, marking-first)
 
 entries-requires : tie.Need-entries-requires
 entries-requires c κs = (search needs, search (needs, marking-second))
 
-slice-aggregate-text-2 : tie.Need-slice-aggregate-text-2
-slice-aggregate-text-2 c = search needs
-
 text-requires-2 : tie.Need-text-requires-2
 text-requires-2 c κs = search (needs, marking-third)
-
-same-length : tie.Need-same-length
-same-length c = search needs
 
 returns : tie.Need-returns
 returns c = search (needs, marking-whole)
 
 pub marking-line-spec : {M : Type 1} → statement M
-marking-line-spec = tie.close (tie.spec slice-aggregate-text text-requires entries-requires slice-aggregate-text-2 text-requires-2 same-length returns)
+marking-line-spec = tie.close (tie.spec (λ c. search needs) text-requires entries-requires (λ c. search needs)
+    text-requires-2 (λ c. search needs) returns)

@@ -7,26 +7,18 @@ use Rattle.listing.proofs.lines.value_line.Tie as tie
 returns : tie.Need-returns
 returns c = search (needs, value-none)
 
-slice-aggregate-figure : tie.Need-slice-aggregate-figure
-slice-aggregate-figure c = search needs
-
 figure-requires : tie.Need-figure-requires
 figure-requires c κs = search (needs, value-first)
 
 entry-requires : tie.Need-entry-requires
 entry-requires c κs = search (needs, value-second)
 
-slice-aggregate-text : tie.Need-slice-aggregate-text
-slice-aggregate-text c = search needs
-
 text-requires : tie.Need-text-requires
 text-requires c κs = search (needs, value-third)
-
-same-length : tie.Need-same-length
-same-length c = search needs
 
 returns-2 : tie.Need-returns-2
 returns-2 c = search (needs, value-whole)
 
 pub value-line-spec : {M : Type 1} → statement M
-value-line-spec = tie.close (tie.spec returns slice-aggregate-figure figure-requires entry-requires slice-aggregate-text text-requires same-length returns-2)
+value-line-spec = tie.close (tie.spec returns (λ c. search needs) figure-requires entry-requires (λ c. search needs)
+    text-requires (λ c. search needs) returns-2)

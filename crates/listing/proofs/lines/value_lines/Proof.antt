@@ -10,7 +10,8 @@ use Rattle.listing.proofs.lines.value_lines.Statement.{statement}
 use Rattle.listing.proofs.lines.value_lines.Tie as tie
 
 abbrev Inv-loop : tie.InvT-loop
-Inv-loop out₀ at writers end₀ v₀ out end v = (v ≤ 32) × ((length out ≡ length out₀) × Left (valuesFrom writers v) out end (valueLines writers) out₀ at)
+Inv-loop out₀ at writers end₀ v₀ out end v = (v ≤ 32)
+    × ((length out ≡ length out₀) × Left (valuesFrom writers v) out end (valueLines writers) out₀ at)
 
 abbrev μ-loop : tie.MeasureT-loop
 μ-loop out₀ at writers end₀ v₀ out end v = 32 - v
@@ -18,26 +19,15 @@ abbrev μ-loop : tie.MeasureT-loop
 loop-holds : tie.Need-loop-holds Inv-loop μ-loop
 loop-holds c = (search needs, (search needs, search (needs, values-start)))
 
-element-copy-out-value-line : tie.Need-element-copy-out-value-line Inv-loop μ-loop
-element-copy-out-value-line c = search needs
-
 value-line-requires : tie.Need-value-line-requires Inv-loop μ-loop
 value-line-requires c κs = search (needs, values-room)
 
-add-v : tie.Need-add-v Inv-loop μ-loop
-add-v c = search needs
-
-loop-less : tie.Need-loop-less Inv-loop μ-loop
-loop-less c = search needs
-
 loop-again : tie.Need-loop-again Inv-loop μ-loop
 loop-again c = (search needs, (search needs, search (needs, values-turn)))
-
-same-length : tie.Need-same-length Inv-loop μ-loop
-same-length c = search needs
 
 returns : tie.Need-returns Inv-loop μ-loop
 returns c = search (needs, values-end)
 
 pub value-lines-spec : {M : Type 1} → statement M
-value-lines-spec = tie.close (tie.spec Inv-loop μ-loop loop-holds element-copy-out-value-line value-line-requires add-v loop-less loop-again same-length returns)
+value-lines-spec = tie.close (tie.spec Inv-loop μ-loop loop-holds (λ c. search needs) value-line-requires
+    (λ c. search needs) (λ c. search needs) loop-again (λ c. search needs) returns)

@@ -10,11 +10,8 @@ moved-line-requires c κs = search (needs, two-first)
 after-lines-requires : tie.Need-after-lines-requires
 after-lines-requires c κs = search (needs, two-second)
 
-same-length : tie.Need-same-length
-same-length c = search needs
-
 returns : tie.Need-returns
 returns c = search (needs, two-whole)
 
 pub first-lines-spec : {M : Type 1} → statement M
-first-lines-spec = tie.close (tie.spec moved-line-requires after-lines-requires same-length returns)
+first-lines-spec = tie.close (tie.spec moved-line-requires after-lines-requires (λ c. search needs) returns)

@@ -13,11 +13,9 @@ marking-line-requires c κs = search (needs, three-second)
 value-lines-requires : tie.Need-value-lines-requires
 value-lines-requires c κs = search (needs, three-third)
 
-same-length : tie.Need-same-length
-same-length c = search needs
-
 returns : tie.Need-returns
 returns c = search (needs, three-whole)
 
 pub last-lines-spec : {M : Type 1} → statement M
-last-lines-spec = tie.close (tie.spec order-line-requires marking-line-requires value-lines-requires same-length returns)
+last-lines-spec = tie.close (tie.spec order-line-requires marking-line-requires value-lines-requires (λ c. search needs)
+    returns)

@@ -8,9 +8,6 @@ use Rattle.listing.proofs.printing.text.Tie as tie
 refused-line-requires : tie.Need-refused-line-requires
 refused-line-requires c κs = search (needs, refusal-room)
 
-same-length : tie.Need-same-length
-same-length c = search needs
-
 returns : tie.Need-returns
 returns c = search (needs, emits-as, refusal-is)
 
@@ -20,11 +17,9 @@ first-lines-requires c κs = search (needs, success-first)
 last-lines-requires : tie.Need-last-lines-requires
 last-lines-requires c κs = search (needs, success-second)
 
-same-length-2 : tie.Need-same-length-2
-same-length-2 c = search needs
-
 returns-2 : tie.Need-returns-2
 returns-2 c = search (needs, success-whole)
 
 pub text-spec : {M : Type 1} → statement M
-text-spec = tie.close (tie.spec refused-line-requires same-length returns first-lines-requires last-lines-requires same-length-2 returns-2)
+text-spec = tie.close (tie.spec refused-line-requires (λ c. search needs) returns first-lines-requires
+    last-lines-requires (λ c. search needs) returns-2)

@@ -4,23 +4,12 @@ use Rattle.listing.proofs.ListingText.{any-room, direct-answer, direct-
 use Rattle.listing.proofs.printing.write_listing.Statement.{statement}
 use Rattle.listing.proofs.printing.write_listing.Tie as tie
 
-write-copied-requires : tie.Need-write-copied-requires
-write-copied-requires c κs = search needs
-
-same-length : tie.Need-same-length
-same-length c = search needs
-
-returns : tie.Need-returns
-returns c = search needs
-
 text-requires : tie.Need-text-requires
 text-requires c κs = search (needs, any-room)
-
-same-length-2 : tie.Need-same-length-2
-same-length-2 c = search needs
 
 returns-2 : tie.Need-returns-2
 returns-2 c = (search (needs, direct-answer), search (needs, direct-out))
 
 pub write-listing-spec : {M : Type 1} → statement M
-write-listing-spec = tie.close (tie.spec write-copied-requires same-length returns text-requires same-length-2 returns-2)
+write-listing-spec = tie.close (tie.spec (λ c κs. search needs) (λ c. search needs) (λ c. search needs) text-requires
+    (λ c. search needs) returns-2)

@@ -9,18 +9,6 @@ use Rattle.matching.proofs.matches.prepare.Tie as tie
 job-line-requires : tie.Need-job-line-requires
 job-line-requires c κs = search lists-fit
 
-begin-requires : tie.Need-begin-requires
-begin-requires c κs = search needs
-
-passed-requires : tie.Need-passed-requires
-passed-requires c κs = search needs
-
-refused-requires : tie.Need-refused-requires
-refused-requires c κs = search needs
-
-same-length : tie.Need-same-length
-same-length c = search needs
-
 returns : tie.Need-returns
 returns c = search (needs, prepared-refused)
 
@@ -45,12 +33,6 @@ slice-aggregate-weigh-2 c = search (lists-fit, holds-count)
 weigh-requires : tie.Need-weigh-requires
 weigh-requires c κs = ((search (lists-fit, lent-few), search needs), search (needs, lent-alike))
 
-same-length-2 : tie.Need-same-length-2
-same-length-2 c = search needs
-
-same-length-3 : tie.Need-same-length-3
-same-length-3 c = search needs
-
 returns-2 : tie.Need-returns-2
 returns-2 c =
     let made = c .before .before .before .before .before .before in
@@ -58,7 +40,11 @@ returns-2 c =
     let begun = passed .before .before .before .before .before in
     let headed = begun .before .before in
     let start = headed .before .before .before .before .before .before in
-    prepared-weighed _ _ _ (begun .begin .ensures) _ (passed .before .passed .ensures) _ (headed .job-line .ensures .0) (start .pre .0) (passed .if1 .left) _ (made .perform .ensures) _ (c .weigh .ensures)
+    prepared-weighed _ _ _ (begun .begin .ensures) _ (passed .before .passed .ensures) _ (headed .job-line .ensures .0)
+    (start .pre .0) (passed .if1 .left) _ (made .perform .ensures) _ (c .weigh .ensures)
 
 pub prepare-spec : {M : Type 1} → statement M
-prepare-spec = tie.close (tie.spec job-line-requires begin-requires passed-requires refused-requires same-length returns perform-requires mul-end slice-reshare-prefix-weigh slice-aggregate-weigh slice-reshare-prefix-weigh-2 slice-aggregate-weigh-2 weigh-requires same-length-2 same-length-3 returns-2)
+prepare-spec = tie.close (tie.spec job-line-requires (λ c κs. search needs) (λ c κs. search needs)
+    (λ c κs. search needs) (λ c. search needs) returns perform-requires mul-end slice-reshare-prefix-weigh
+    slice-aggregate-weigh slice-reshare-prefix-weigh-2 slice-aggregate-weigh-2 weigh-requires (λ c. search needs)
+    (λ c. search needs) returns-2)

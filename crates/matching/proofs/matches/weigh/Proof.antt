@@ -23,18 +23,6 @@ module _ (c : tie.After-keep) where
   kept-room i h =
       kept-below occurrences (c .before .variables-of .result) i (ap (λ (m : ℕ). has m i) (sym (c .keep .ensures)) ∙ h)
 
-variables-of-requires : tie.Need-variables-of-requires
-variables-of-requires c κs = search needs
-
-keep-requires : tie.Need-keep-requires
-keep-requires c κs = search needs
-
-same-mask-requires : tie.Need-same-mask-requires
-same-mask-requires c κs = search needs
-
-straight-end-requires : tie.Need-straight-end-requires
-straight-end-requires c κs = search needs
-
 kept-rows-requires : tie.Need-kept-rows-requires
 kept-rows-requires c κs =
     (omega arith, λ i h. let low = kept-room (c .before .before) i h in (omega arith, omega arith))
@@ -59,12 +47,5 @@ returns c =
     }
 
 pub weigh-spec : {M : Type 1} → statement M
-weigh-spec =
-    tie.close
-    (tie.spec
-    variables-of-requires
-    keep-requires
-    same-mask-requires
-    straight-end-requires
-    kept-rows-requires
-    returns)
+weigh-spec = tie.close (tie.spec (λ c κs. search needs) (λ c κs. search needs) (λ c κs. search needs)
+    (λ c κs. search needs) kept-rows-requires returns)

@@ -23,12 +23,6 @@ module _ (c : tie.Else1) where
   room : (lowest < 64) × (lowest < length (stepsIn (entry .args .matches .now)))
   room = lowest-room _ _ _ (entry .args .line) among _ (c .before .without64 .ensures) (c .if1 .left)
 
-without64-requires : tie.Need-without64-requires
-without64-requires c κs = search needs
-
-pass-requires : tie.Need-pass-requires
-pass-requires c κs = search needs
-
 returns : tie.Need-returns
 returns c =
     let w = c .before .before in
@@ -44,9 +38,6 @@ name-at-requires c κs = room c .1
 add-refuse : tie.Need-add-refuse
 add-refuse c = record { fits = omega (arith, room (c .before .before) .0) }
 
-refuse-requires : tie.Need-refuse-requires
-refuse-requires c κs = search needs
-
 returns-2 : tie.Need-returns-2
 returns-2 c =
     let n = c .before .before in
@@ -57,9 +48,6 @@ returns-2 c =
 add-refuse-2 : tie.Need-add-refuse-2
 add-refuse-2 c = record { fits = omega (arith, room (c .before .before) .0) }
 
-refuse-requires-2 : tie.Need-refuse-requires-2
-refuse-requires-2 c κs = search needs
-
 returns-3 : tie.Need-returns-3
 returns-3 c =
     let n = c .before .before in
@@ -68,17 +56,5 @@ returns-3 c =
     (c .before .if2 .left) (c .refuse2 .ensures)
 
 pub kept-lines-spec : {M : Type 1} → statement M
-kept-lines-spec =
-    tie.close
-    (tie.spec
-    without64-requires
-    pass-requires
-    returns
-    cast-i
-    name-at-requires
-    add-refuse
-    refuse-requires
-    returns-2
-    add-refuse-2
-    refuse-requires-2
-    returns-3)
+kept-lines-spec = tie.close (tie.spec (λ c κs. search needs) (λ c κs. search needs) returns cast-i name-at-requires
+    add-refuse (λ c κs. search needs) returns-2 add-refuse-2 (λ c κs. search needs) returns-3)

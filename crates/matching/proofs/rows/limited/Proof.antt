@@ -10,18 +10,6 @@ use Rattle.matching.specs.declared.End.{End}
 use Rattle.matching.proofs.rows.limited.Statement.{statement}
 use Rattle.matching.proofs.rows.limited.Tie as tie
 
-enum-told : tie.Need-enum-told
-enum-told c = search needs
-
-enum-told-2 : tie.Need-enum-told-2
-enum-told-2 c = search needs
-
-count64-requires : tie.Need-count64-requires
-count64-requires c κs = search needs
-
-cast-result : tie.Need-cast-result
-cast-result c = search needs
-
 returns : tie.Need-returns
 unfolding isAt
 returns c = ap (λ (e : End). isAt e || leb (count 64 (c .before .before .args .kept)) 16) (sym (c .enum-told .given .1))
@@ -32,5 +20,5 @@ returns-2 c =
     ap₂ (λ (e : End) (n : ℕ). isAt e || leb n 16) (sym (c .before .enum-told2 .given .1)) (c .count64 .ensures)
 
 pub limited-spec : {M : Type 1} → statement M
-limited-spec =
-    tie.close (tie.spec enum-told enum-told-2 count64-requires cast-result returns returns-2)
+limited-spec = tie.close (tie.spec (λ c. search needs) (λ c. search needs) (λ c κs. search needs) (λ c. search needs)
+    returns returns-2)

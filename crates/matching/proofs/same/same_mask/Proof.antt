@@ -25,38 +25,11 @@ module _ (c : tie.After-same-data Inv-loop μ-loop) where
   tested =
       test-at (omega arith) (c .before .before .step-at .ensures) (c .before .step-at2 .ensures) (c .same-data .ensures)
 
-count-requires : tie.Need-count-requires Inv-loop μ-loop
-count-requires c κs = search needs
-
 loop-holds : tie.Need-loop-holds Inv-loop μ-loop
 loop-holds c = (omega arith, same-init _ _)
 
-step-at-requires : tie.Need-step-at-requires Inv-loop μ-loop
-step-at-requires c κs = search needs
-
-step-at-requires-2 : tie.Need-step-at-requires-2 Inv-loop μ-loop
-step-at-requires-2 c κs = search needs
-
-same-data-requires : tie.Need-same-data-requires Inv-loop μ-loop
-same-data-requires c κs = search needs
-
-add-i : tie.Need-add-i Inv-loop μ-loop
-add-i c = search needs
-
-loop-less : tie.Need-loop-less Inv-loop μ-loop
-loop-less c = search needs
-
 loop-again : tie.Need-loop-again Inv-loop μ-loop
 loop-again c = (omega arith, same-miss (at (c .before) .loop .inv .1) (tested (c .before)) (c .if1 .taken))
-
-bit64-requires : tie.Need-bit64-requires Inv-loop μ-loop
-bit64-requires c κs = search needs
-
-add-i-2 : tie.Need-add-i-2 Inv-loop μ-loop
-add-i-2 c = search needs
-
-loop-less-2 : tie.Need-loop-less-2 Inv-loop μ-loop
-loop-less-2 c = search needs
 
 loop-again-2 : tie.Need-loop-again-2 Inv-loop μ-loop
 loop-again-2 c =
@@ -67,21 +40,6 @@ returns : tie.Need-returns Inv-loop μ-loop
 returns c = same-done (c .before .loop .inv .1) (omega arith) (omega arith)
 
 pub same-mask-spec : {M : Type 1} → statement M
-same-mask-spec =
-    tie.close
-    (tie.spec
-    Inv-loop
-    μ-loop
-    count-requires
-    loop-holds
-    step-at-requires
-    step-at-requires-2
-    same-data-requires
-    add-i
-    loop-less
-    loop-again
-    bit64-requires
-    add-i-2
-    loop-less-2
-    loop-again-2
-    returns)
+same-mask-spec = tie.close (tie.spec Inv-loop μ-loop (λ c κs. search needs) loop-holds (λ c κs. search needs)
+    (λ c κs. search needs) (λ c κs. search needs) (λ c. search needs) (λ c. search needs) loop-again
+    (λ c κs. search needs) (λ c. search needs) (λ c. search needs) loop-again-2 returns)

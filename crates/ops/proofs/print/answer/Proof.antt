@@ -7,20 +7,8 @@ use Rattle.ops.proofs.Prints.{answer-refused, work-refused, answer-judg
 use Rattle.ops.proofs.print.answer.Statement.{statement}
 use Rattle.ops.proofs.print.answer.Tie as tie
 
-read-lists-requires : tie.Need-read-lists-requires
-read-lists-requires c κs = search needs
-
-stop-requires : tie.Need-stop-requires
-stop-requires c κs = search needs
-
 returns : tie.Need-returns
 returns c = (search (needs, answer-refused), search (needs, work-refused))
-
-mul-o : tie.Need-mul-o
-mul-o c = search needs
-
-mul-n : tie.Need-mul-n
-mul-n c = search needs
 
 array-share-prefix-old : tie.Need-array-share-prefix-old
 array-share-prefix-old c = search (needs, old-room)
@@ -43,29 +31,16 @@ slice-aggregate-judge-checked-3 c = sym (length-take-le _ _ (array-share-prefix-
 judge-checked-requires : tie.Need-judge-checked-requires
 judge-checked-requires c κs = (search (needs, read-passes), search needs)
 
-same-length : tie.Need-same-length
-same-length c = search needs
-
 returns-2 : tie.Need-returns-2
 returns-2 c =
-    let start = c .before .before .before .before .before .before .before .before .before .before .before .before .before .before .before .before .before in
-    (search (needs, answer-judged, start .pre, c .before .before .judge-checked .ensures .0), search (needs, work-judged))
+    let start = c .before .before .before .before .before .before .before .before .before .before .before .before
+    .before .before .before .before .before in (
+      search (needs, answer-judged, start .pre, c .before .before .judge-checked .ensures .0),
+      search (needs, work-judged),
+    )
 
 pub answer-spec : {M : Type 1} → statement M
-answer-spec =
-    tie.close
-    (tie.spec
-    read-lists-requires
-    stop-requires
-    returns
-    mul-o
-    mul-n
-    array-share-prefix-old
-    slice-aggregate-judge-checked
-    array-share-prefix-new
-    slice-aggregate-judge-checked-2
-    array-share-prefix-done
-    slice-aggregate-judge-checked-3
-    judge-checked-requires
-    same-length
-    returns-2)
+answer-spec = tie.close (tie.spec (λ c κs. search needs) (λ c κs. search needs) returns (λ c. search needs)
+    (λ c. search needs) array-share-prefix-old slice-aggregate-judge-checked array-share-prefix-new
+    slice-aggregate-judge-checked-2 array-share-prefix-done slice-aggregate-judge-checked-3 judge-checked-requires
+    (λ c. search needs) returns-2)

@@ -8,22 +8,12 @@ use Rattle.ops.proofs.print.print.Tie as tie
 returns : tie.Need-returns
 returns c = (search (needs, printed-short), (search (needs, work-short), search (needs, out-short)))
 
-answer-requires : tie.Need-answer-requires
-answer-requires c κs = search needs
-
 write-listing-requires : tie.Need-write-listing-requires
 write-listing-requires c κs = search (needs, answer-length)
-
-same-length : tie.Need-same-length
-same-length c = search needs
-
-same-length-2 : tie.Need-same-length-2
-same-length-2 c = search needs
 
 returns-2 : tie.Need-returns-2
 returns-2 c = (search (needs, printed-long), (search needs, search (needs, out-long)))
 
 pub print-spec : {M : Type 1} → statement M
-print-spec =
-    tie.close
-    (tie.spec returns answer-requires write-listing-requires same-length same-length-2 returns-2)
+print-spec = tie.close (tie.spec returns (λ c κs. search needs) write-listing-requires (λ c. search needs)
+    (λ c. search needs) returns-2)

@@ -7,20 +7,8 @@ use Rattle.ops.proofs.SheetTry.{try-refused, try-tried}
 use Rattle.ops.proofs.tries.try_sheet.Statement.{statement}
 use Rattle.ops.proofs.tries.try_sheet.Tie as tie
 
-read-lists-requires : tie.Need-read-lists-requires
-read-lists-requires c κs = search needs
-
-stop-requires : tie.Need-stop-requires
-stop-requires c κs = search needs
-
 returns : tie.Need-returns
 returns c = search (needs, try-refused)
-
-mul-o : tie.Need-mul-o
-mul-o c = search needs
-
-mul-n : tie.Need-mul-n
-mul-n c = search needs
 
 array-share-prefix-old : tie.Need-array-share-prefix-old
 array-share-prefix-old c = search (needs, old-room)
@@ -47,19 +35,6 @@ returns-2 : tie.Need-returns-2
 returns-2 c = search (needs, try-tried)
 
 pub try-sheet-spec : {M : Type 1} → statement M
-try-sheet-spec =
-    tie.close
-    (tie.spec
-    read-lists-requires
-    stop-requires
-    returns
-    mul-o
-    mul-n
-    array-share-prefix-old
-    slice-aggregate-try-checked
-    array-share-prefix-new
-    slice-aggregate-try-checked-2
-    array-share-prefix-done
-    slice-aggregate-try-checked-3
-    try-checked-requires
-    returns-2)
+try-sheet-spec = tie.close (tie.spec (λ c κs. search needs) (λ c κs. search needs) returns (λ c. search needs)
+    (λ c. search needs) array-share-prefix-old slice-aggregate-try-checked array-share-prefix-new
+    slice-aggregate-try-checked-2 array-share-prefix-done slice-aggregate-try-checked-3 try-checked-requires returns-2)

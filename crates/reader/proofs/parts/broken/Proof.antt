@@ -4,11 +4,8 @@ use borrow.Author.Needs.{needs}
 use Rattle.reader.proofs.parts.broken.Statement.{statement}
 use Rattle.reader.proofs.parts.broken.Tie as tie
 
-pass-requires : tie.Need-pass-requires
-pass-requires c κs = search needs
-
 returns : tie.Need-returns
 returns c = search (needs, broken-is)
 
 pub broken-spec : {M : Type 1} → statement M
-broken-spec = tie.close (tie.spec pass-requires returns)
+broken-spec = tie.close (tie.spec (λ c κs. search needs) returns)

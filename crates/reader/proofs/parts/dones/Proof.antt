@@ -2,34 +2,24 @@
 use Prim.Native.Nat.{_-_}
 use native.Mathlib.Omega.{arith}
 use lib.ListN.{length}
-use Rattle.reader.proofs.DoneLines.{Named, named-init, named-past, named-row, named-name, done-room, done-later, dones-passes, dones-break, dones-done}
+use Rattle.reader.proofs.DoneLines.{Named, named-init, named-past, named-row, named-name, done-room, done-later}
+use Rattle.reader.proofs.DoneLines.{dones-passes, dones-break, dones-done}
 use borrow.Author.Needs.{needs}
 use Rattle.reader.proofs.parts.dones.Statement.{statement}
 use Rattle.reader.proofs.parts.dones.Tie as tie
 
 abbrev Inv-loop : tie.InvT-loop
-Inv-loop v s list₀ from w outcome₀ lines₀ at₀ len₀ list outcome lines at len = Named v s list₀ list from lines₀ outcome₀ outcome lines at len
+Inv-loop v s list₀ from w outcome₀ lines₀ at₀ len₀ list outcome lines at len =
+    Named v s list₀ list from lines₀ outcome₀ outcome lines at len
 
 abbrev μ-loop : tie.MeasureT-loop
 μ-loop v s list₀ from w outcome₀ lines₀ at₀ len₀ list outcome lines at len = length s - at
-
-broken-requires : tie.Need-broken-requires Inv-loop μ-loop
-broken-requires c κs = search needs
 
 returns : tie.Need-returns Inv-loop μ-loop
 returns c = search (needs, dones-passes)
 
 loop-holds : tie.Need-loop-holds Inv-loop μ-loop
 loop-holds c = search (needs, named-init)
-
-slice-aggregate-numbered : tie.Need-slice-aggregate-numbered Inv-loop μ-loop
-slice-aggregate-numbered c = search needs
-
-numbered-requires : tie.Need-numbered-requires Inv-loop μ-loop
-numbered-requires c κs = search needs
-
-broken-requires-2 : tie.Need-broken-requires-2 Inv-loop μ-loop
-broken-requires-2 c κs = search needs
 
 returns-2 : tie.Need-returns-2 Inv-loop μ-loop
 returns-2 c = search (needs, dones-break)
@@ -53,9 +43,6 @@ loop-less c =
 loop-again : tie.Need-loop-again Inv-loop μ-loop
 loop-again c = search (needs, named-past)
 
-done-row-requires : tie.Need-done-row-requires Inv-loop μ-loop
-done-row-requires c κs = search needs
-
 loop-less-2 : tie.Need-loop-less-2 Inv-loop μ-loop
 loop-less-2 c =
     let good = c .before .before .before .before .before in
@@ -67,15 +54,14 @@ loop-less-2 c =
 loop-again-2 : tie.Need-loop-again-2 Inv-loop μ-loop
 loop-again-2 c = search (needs, named-row)
 
-cast-list : tie.Need-cast-list Inv-loop μ-loop
-cast-list c = search needs
-
 mul-list : tie.Need-mul-list Inv-loop μ-loop
 mul-list c =
     let good = c .before .before .before .before .before .before in
     let read = good .before .before in
     let inv = read .before .before .before .loop .inv in
-    let less = done-room _ _ _ _ _ _ _ _ _ _ _ inv (read .before .before .loop-test .taken) _ (read .numbered .ensures) (good .if2 .left) (c .before .before .before .before .if3 .left) _ (c .before .before .before .done-row .ensures) (c .before .if4 .left) in
+    let less = done-room _ _ _ _ _ _ _ _ _ _ _ inv (read .before .before .loop-test .taken) _ (read .numbered .ensures)
+    (good .if2 .left) (c .before .before .before .before .if3 .left) _
+    (c .before .before .before .done-row .ensures) (c .before .if4 .left) in
     omega (arith, less)
 
 element-write-list : tie.Need-element-write-list Inv-loop μ-loop
@@ -83,7 +69,9 @@ element-write-list c =
     let good = c .before .before .before .before .before .before in
     let read = good .before .before in
     let inv = read .before .before .before .loop .inv in
-    let less = done-room _ _ _ _ _ _ _ _ _ _ _ inv (read .before .before .loop-test .taken) _ (read .numbered .ensures) (good .if2 .left) (c .before .before .before .before .if3 .left) _ (c .before .before .before .done-row .ensures) (c .before .if4 .left) in
+    let less = done-room _ _ _ _ _ _ _ _ _ _ _ inv (read .before .before .loop-test .taken) _ (read .numbered .ensures)
+    (good .if2 .left) (c .before .before .before .before .if3 .left) _
+    (c .before .before .before .done-row .ensures) (c .before .if4 .left) in
     omega (arith, less)
 
 add-len : tie.Need-add-len Inv-loop μ-loop
@@ -91,7 +79,9 @@ add-len c =
     let good = c .before .before .before .before .before .before in
     let read = good .before .before in
     let inv = read .before .before .before .loop .inv in
-    let less = done-room _ _ _ _ _ _ _ _ _ _ _ inv (read .before .before .loop-test .taken) _ (read .numbered .ensures) (good .if2 .left) (c .before .before .before .before .if3 .left) _ (c .before .before .before .done-row .ensures) (c .before .if4 .left) in
+    let less = done-room _ _ _ _ _ _ _ _ _ _ _ inv (read .before .before .loop-test .taken) _ (read .numbered .ensures)
+    (good .if2 .left) (c .before .before .before .before .if3 .left) _
+    (c .before .before .before .done-row .ensures) (c .before .if4 .left) in
     omega (arith, less)
 
 loop-less-3 : tie.Need-loop-less-3 Inv-loop μ-loop
@@ -109,28 +99,6 @@ returns-3 : tie.Need-returns-3 Inv-loop μ-loop
 returns-3 c = search (needs, dones-done)
 
 pub dones-spec : {M : Type 1} → statement M
-dones-spec =
-    tie.close
-    (tie.spec
-    Inv-loop
-    μ-loop
-    broken-requires
-    returns
-    loop-holds
-    slice-aggregate-numbered
-    numbered-requires
-    broken-requires-2
-    returns-2
-    add-lines
-    loop-less
-    loop-again
-    done-row-requires
-    loop-less-2
-    loop-again-2
-    cast-list
-    mul-list
-    element-write-list
-    add-len
-    loop-less-3
-    loop-again-3
-    returns-3)
+dones-spec = tie.close (tie.spec Inv-loop μ-loop (λ c κs. search needs) returns loop-holds (λ c. search needs)
+    (λ c κs. search needs) (λ c κs. search needs) returns-2 add-lines loop-less loop-again (λ c κs. search needs)
+    loop-less-2 loop-again-2 (λ c. search needs) mul-list element-write-list add-len loop-less-3 loop-again-3 returns-3)

@@ -6,20 +6,8 @@ use borrow.Author.Needs.{needs}
 use Rattle.reader.proofs.parts.job_head.Statement.{statement}
 use Rattle.reader.proofs.parts.job_head.Tie as tie
 
-broken-requires : tie.Need-broken-requires
-broken-requires c κs = search needs
-
 returns : tie.Need-returns
 returns c = search (needs, job-passes)
-
-slice-aggregate-text : tie.Need-slice-aggregate-text
-slice-aggregate-text c = search needs
-
-text-requires : tie.Need-text-requires
-text-requires c κs = search needs
-
-broken-requires-2 : tie.Need-broken-requires-2
-broken-requires-2 c κs = search needs
 
 returns-2 : tie.Need-returns-2
 returns-2 c = search (needs, job-breaks)
@@ -28,11 +16,9 @@ add-lines : tie.Need-add-lines
 add-lines c =
     let read = c .before .before .before in
     let held = read .before .before in
-    let less = job-later _ _ 0 _ (held .before .before .before .pre) (held .if1 .left) (read .text .ensures) (c .before .if2 .left) pass in
+    let less = job-later _ _ 0 _ (held .before .before .before .pre) (held .if1 .left) (read .text .ensures)
+    (c .before .if2 .left) pass in
     omega (arith, less, read .text .ensures .within)
-
-job-row-requires : tie.Need-job-row-requires
-job-row-requires c κs = search needs
 
 returns-3 : tie.Need-returns-3
 returns-3 c = search (needs, job-on)
@@ -41,16 +27,5 @@ returns-4 : tie.Need-returns-4
 returns-4 c = search (needs, job-past)
 
 pub job-head-spec : {M : Type 1} → statement M
-job-head-spec =
-    tie.close
-    (tie.spec
-    broken-requires
-    returns
-    slice-aggregate-text
-    text-requires
-    broken-requires-2
-    returns-2
-    add-lines
-    job-row-requires
-    returns-3
-    returns-4)
+job-head-spec = tie.close (tie.spec (λ c κs. search needs) returns (λ c. search needs) (λ c κs. search needs)
+    (λ c κs. search needs) returns-2 add-lines (λ c κs. search needs) returns-3 returns-4)

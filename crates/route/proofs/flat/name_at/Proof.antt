@@ -34,5 +34,4 @@ returns : tie.Need-returns
 returns c = ap (λ (s : Step). s .name) (sym (flat-at _ _ ((c .before) .pre)))
 
 pub name-at-spec : {M : Type 1} → statement M
-name-at-spec =
-    tie.close (tie.spec mul-result mul-result-2 shared-slice-read-result cast-result returns)
+name-at-spec = tie.close (tie.spec mul-result mul-result-2 shared-slice-read-result cast-result returns)

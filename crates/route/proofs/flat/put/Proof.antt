@@ -105,25 +105,6 @@ returns c =
     )
 
 pub put-spec : {M : Type 1} → statement M
-put-spec =
-    tie.close
-    (tie.spec
-    mul-at
-    cast-steps
-    mul-steps
-    slice-write-steps
-    add-steps
-    mul-steps-2
-    slice-write-steps-2
-    add-steps-2
-    mul-steps-3
-    slice-write-steps-3
-    cast-steps-2
-    cast-steps-3
-    mul-steps-4
-    add-steps-3
-    add-steps-4
-    mul-steps-5
-    slice-write-steps-4
-    same-length
-    returns)
+put-spec = tie.close (tie.spec mul-at cast-steps mul-steps slice-write-steps add-steps mul-steps-2 slice-write-steps-2
+    add-steps-2 mul-steps-3 slice-write-steps-3 cast-steps-2 cast-steps-3 mul-steps-4 add-steps-3 add-steps-4
+    mul-steps-5 slice-write-steps-4 same-length returns)

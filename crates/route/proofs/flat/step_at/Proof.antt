@@ -77,22 +77,5 @@ returns : tie.Need-returns
 returns c = sym (flat-at _ _ ((c .before .before .before .before) .pre))
 
 pub step-at-spec : {M : Type 1} → statement M
-step-at-spec =
-    tie.close
-    (tie.spec
-    mul-at
-    add-uses
-    mul-uses
-    shared-slice-read-uses
-    mul-t5
-    shared-slice-read-t8
-    cast-t11
-    add-t6
-    mul-t12
-    shared-slice-read-t14
-    add-t15
-    mul-t16
-    shared-slice-read-t18
-    cast-t20
-    cast-t23
-    returns)
+step-at-spec = tie.close (tie.spec mul-at add-uses mul-uses shared-slice-read-uses mul-t5 shared-slice-read-t8 cast-t11
+    add-t6 mul-t12 shared-slice-read-t14 add-t15 mul-t16 shared-slice-read-t18 cast-t20 cast-t23 returns)

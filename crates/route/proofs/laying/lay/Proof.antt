@@ -26,23 +26,8 @@ room c = omega (arith, c .before .before .pre)
 room-at : (c : tie.At-loop Inv-loop μ-loop) → c .loop .i < length (stepsIn (c .loop .into))
 room-at c = omega (arith, length-flat (c .loop .into), room c)
 
-loop-holds : tie.Need-loop-holds Inv-loop μ-loop
-loop-holds c = search needs
-
-blank-requires : tie.Need-blank-requires Inv-loop μ-loop
-blank-requires c κs = search needs
-
 put-requires : tie.Need-put-requires Inv-loop μ-loop
 put-requires c κs = room-at (c .before .before .before .before)
-
-mul-result : tie.Need-mul-result Inv-loop μ-loop
-mul-result c = search needs
-
-add-result : tie.Need-add-result Inv-loop μ-loop
-add-result c = search needs
-
-same-length : tie.Need-same-length Inv-loop μ-loop
-same-length c = search needs
 
 returns : tie.Need-returns Inv-loop μ-loop
 returns c =
@@ -54,20 +39,8 @@ returns c =
     (put .put .ensures .0)
     (omega arith) (omega arith) (put .before .blank .ensures)
 
-mul-s : tie.Need-mul-s Inv-loop μ-loop
-mul-s c = search needs
-
-element-copy-out-s : tie.Need-element-copy-out-s Inv-loop μ-loop
-element-copy-out-s c = search needs
-
 put-requires-2 : tie.Need-put-requires-2 Inv-loop μ-loop
 put-requires-2 c κs = room-at (c .before .before .before .before)
-
-add-i : tie.Need-add-i Inv-loop μ-loop
-add-i c = search needs
-
-loop-less : tie.Need-loop-less Inv-loop μ-loop
-loop-less c = search needs
 
 loop-again : tie.Need-loop-again Inv-loop μ-loop
 loop-again c =
@@ -82,12 +55,6 @@ loop-again c =
     in
     (search needs, on)
 
-mul-result-2 : tie.Need-mul-result-2 Inv-loop μ-loop
-mul-result-2 c = search needs
-
-same-length-2 : tie.Need-same-length-2 Inv-loop μ-loop
-same-length-2 c = search needs
-
 returns-2 : tie.Need-returns-2 Inv-loop μ-loop
 returns-2 c =
     let at = c .before in
@@ -96,24 +63,6 @@ returns-2 c =
     lay-end r (full r _ (start .good .0)) (at .loop .into) (at .loop .i) (at .loop .inv .1) (omega arith) (omega arith)
 
 pub lay-spec : {M : Type 1} → statement M
-lay-spec =
-    tie.close
-    (tie.spec
-    Inv-loop
-    μ-loop
-    loop-holds
-    blank-requires
-    put-requires
-    mul-result
-    add-result
-    same-length
-    returns
-    mul-s
-    element-copy-out-s
-    put-requires-2
-    add-i
-    loop-less
-    loop-again
-    mul-result-2
-    same-length-2
-    returns-2)
+lay-spec = tie.close (tie.spec Inv-loop μ-loop (λ c. search needs) (λ c κs. search needs) put-requires
+    (λ c. search needs) (λ c. search needs) (λ c. search needs) returns (λ c. search needs) (λ c. search needs)
+    put-requires-2 (λ c. search needs) (λ c. search needs) loop-again (λ c. search needs) (λ c. search needs) returns-2)

@@ -14,23 +14,8 @@ Inv-loop steps hint₀ n i₀ hint i = (i ≤ n) × Hinted (take i (names (steps
 abbrev μ-loop : tie.MeasureT-loop
 μ-loop steps hint₀ n i₀ hint i = n - i
 
-count-requires : tie.Need-count-requires Inv-loop μ-loop
-count-requires c κs = search needs
-
 loop-holds : tie.Need-loop-holds Inv-loop μ-loop
 loop-holds c = (search needs, hinted-none)
-
-name-at-requires : tie.Need-name-at-requires Inv-loop μ-loop
-name-at-requires c κs = search needs
-
-hint-more-requires : tie.Need-hint-more-requires Inv-loop μ-loop
-hint-more-requires c κs = search needs
-
-add-i : tie.Need-add-i Inv-loop μ-loop
-add-i c = search needs
-
-loop-less : tie.Need-loop-less Inv-loop μ-loop
-loop-less c = search needs
 
 loop-again : tie.Need-loop-again Inv-loop μ-loop
 loop-again c = (search needs, search (needs, hinted-on))
@@ -39,16 +24,5 @@ returns : tie.Need-returns Inv-loop μ-loop
 returns c = search (needs, hinted-all)
 
 pub hints-spec : {M : Type 1} → statement M
-hints-spec =
-    tie.close
-    (tie.spec
-    Inv-loop
-    μ-loop
-    count-requires
-    loop-holds
-    name-at-requires
-    hint-more-requires
-    add-i
-    loop-less
-    loop-again
-    returns)
+hints-spec = tie.close (tie.spec Inv-loop μ-loop (λ c κs. search needs) loop-holds (λ c κs. search needs)
+    (λ c κs. search needs) (λ c. search needs) (λ c. search needs) loop-again returns)

@@ -27,20 +27,8 @@ Inv-loop steps n ins₀ outs₀ i₀ ins outs i =
 abbrev μ-loop : tie.MeasureT-loop
 μ-loop steps n ins₀ outs₀ i₀ ins outs i = n - i
 
-count-requires : tie.Need-count-requires Inv-loop μ-loop
-count-requires c κs = search needs
-
 loop-holds : tie.Need-loop-holds Inv-loop μ-loop
 loop-holds c = (search needs, (or-zero-l _, or-zero-l _))
-
-step-at-requires : tie.Need-step-at-requires Inv-loop μ-loop
-step-at-requires c κs = search needs
-
-add-i : tie.Need-add-i Inv-loop μ-loop
-add-i c = search needs
-
-loop-less : tie.Need-loop-less Inv-loop μ-loop
-loop-less c = search needs
 
 loop-again : tie.Need-loop-again Inv-loop μ-loop
 loop-again c = (search needs, (search (needs, union-on takes), search (needs, union-on puts)))
@@ -49,15 +37,5 @@ returns : tie.Need-returns Inv-loop μ-loop
 returns c = record { ins = search (needs, union-all takes); outs = search (needs, union-all puts) }
 
 pub ends-spec : {M : Type 1} → statement M
-ends-spec =
-    tie.close
-    (tie.spec
-    Inv-loop
-    μ-loop
-    count-requires
-    loop-holds
-    step-at-requires
-    add-i
-    loop-less
-    loop-again
-    returns)
+ends-spec = tie.close (tie.spec Inv-loop μ-loop (λ c κs. search needs) loop-holds (λ c κs. search needs)
+    (λ c. search needs) (λ c. search needs) loop-again returns)

@@ -11,6 +11,5 @@ abbrev μ-loop : tie.MeasureT-loop
 μ-loop n down r₀ s₀ i₀ r s i = n - i
 
 pub row-spec : {M : Type 1} → statement M
-row-spec =
-    tie.close (tie.spec Inv-loop μ-loop (search needs) (search needs) (search needs) (search needs) (search needs)
-    (search needs) (search needs) (search needs) (search needs) (search needs))
+row-spec = tie.close (tie.spec Inv-loop μ-loop (search needs) (search needs) (search needs) (search needs)
+    (search needs) (search needs) (search needs) (search needs) (search needs) (search needs))

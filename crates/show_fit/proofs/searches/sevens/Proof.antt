@@ -14,6 +14,5 @@ abbrev μ-loop : tie.MeasureT-loop
 μ-loop work n₀ i₀ i-end n i = length work - i
 
 pub sevens-spec : {M : Type 1} → statement M
-sevens-spec =
-    tie.close (tie.spec Inv-loop μ-loop (search needs) (search needs) (search needs) (search needs) (search needs)
-    (λ c. ⊎-elim (λ w. search needs) (λ w. search needs) (c .if1 .came)) (search needs))
+sevens-spec = tie.close (tie.spec Inv-loop μ-loop (search needs) (search needs) (search needs) (search needs)
+    (search needs) (λ c. ⊎-elim (λ w. search needs) (λ w. search needs) (c .if1 .came)) (search needs))

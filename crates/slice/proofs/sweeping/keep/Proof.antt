@@ -45,7 +45,8 @@ module _ (l : List Step) (vars i live kept : ℕ) where
 
     taken-along : (left b : ℕ) → t ≡ true → left ≡ without live (s .writes) → b ≡ bit (i - 1)
         → sweepFrom l vars (i - 1) ≡ record { live = bitOr left (s .reads); kept = bitOr kept b }
-    taken-along left b yes-kept gone placed = rw (one-back, yes-kept) (sym (λ n. record { live = bitOr (gone n) (s .reads); kept = bitOr kept (placed n) }))
+    taken-along left b yes-kept gone placed = rw (one-back, yes-kept)
+        (sym (λ n. record { live = bitOr (gone n) (s .reads); kept = bitOr kept (placed n) }))
 
     passed-over : t ≡ false → sweepFrom l vars (i - 1) ≡ record { live = live; kept = kept }
     passed-over not-kept = rw (one-back, not-kept)
@@ -58,40 +59,17 @@ module _ (l : List Step) (vars i live kept : ℕ) where
       start = omega arith
 
 abbrev Inv-loop : tie.InvT-loop
-Inv-loop occurrences vars live₀ kept₀ i₀ live kept i = (i ≤ length (stepsIn occurrences)) × (sweepFrom (stepsIn occurrences) vars i ≡ record { live = live; kept = kept })
+Inv-loop occurrences vars live₀ kept₀ i₀ live kept i =
+    (i ≤ length (stepsIn occurrences)) × (sweepFrom (stepsIn occurrences) vars i ≡ record { live = live; kept = kept })
 
 abbrev μ-loop : tie.MeasureT-loop
 μ-loop occurrences vars live₀ kept₀ i₀ live kept i = i
 
-count-requires : tie.Need-count-requires Inv-loop μ-loop
-count-requires c κs = search needs
-
 loop-holds : tie.Need-loop-holds Inv-loop μ-loop
 loop-holds c = (search needs, search (needs, at-the-end))
 
-sub-i : tie.Need-sub-i Inv-loop μ-loop
-sub-i c = search needs
-
-step-at-requires : tie.Need-step-at-requires Inv-loop μ-loop
-step-at-requires c κs = search needs
-
-meets32-requires : tie.Need-meets32-requires Inv-loop μ-loop
-meets32-requires c κs = search needs
-
-without32-requires : tie.Need-without32-requires Inv-loop μ-loop
-without32-requires c κs = search needs
-
-bit64-requires : tie.Need-bit64-requires Inv-loop μ-loop
-bit64-requires c κs = search needs
-
-loop-less : tie.Need-loop-less Inv-loop μ-loop
-loop-less c = search needs
-
 loop-again : tie.Need-loop-again Inv-loop μ-loop
 loop-again c = (search needs, search (needs, taken-along))
-
-loop-less-2 : tie.Need-loop-less-2 Inv-loop μ-loop
-loop-less-2 c = search needs
 
 loop-again-2 : tie.Need-loop-again-2 Inv-loop μ-loop
 loop-again-2 c = (search needs, search (needs, passed-over))
@@ -100,4 +78,6 @@ returns : tie.Need-returns Inv-loop μ-loop
 returns c = search (needs, all-swept)
 
 pub keep-spec : {M : Type 1} → statement M
-keep-spec = tie.close (tie.spec Inv-loop μ-loop count-requires loop-holds sub-i step-at-requires meets32-requires without32-requires bit64-requires loop-less loop-again loop-less-2 loop-again-2 returns)
+keep-spec = tie.close (tie.spec Inv-loop μ-loop (λ c κs. search needs) loop-holds (λ c. search needs)
+    (λ c κs. search needs) (λ c κs. search needs) (λ c κs. search needs) (λ c κs. search needs) (λ c. search needs)
+    loop-again (λ c. search needs) loop-again-2 returns)

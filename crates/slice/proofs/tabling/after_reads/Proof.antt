@@ -20,7 +20,8 @@ use Rattle.slice.proofs.tabling.after_reads.Tie as tie
 
 abbrev Inv-loop : tie.InvT-loop
 Inv-loop writers readers₀ vars own left₀ wrote₀ readers left wrote =
-    (left < 2 ^ 32) × ((length readers ≡ length readers₀) × (Gathering writers vars left wrote × Joining readers₀ vars own left readers))
+    (left < 2 ^ 32) × ((length readers ≡ length readers₀)
+    × (Gathering writers vars left wrote × Joining readers₀ vars own left readers))
 
 abbrev μ-loop : tie.MeasureT-loop
 μ-loop writers readers₀ vars own left₀ wrote₀ readers left wrote = left
@@ -30,9 +31,6 @@ loop-holds c = (search needs, (refl, (gathering-init _ _, λ r v b. refl)))
 
 cast-v : tie.Need-cast-v Inv-loop μ-loop
 cast-v c = search at-lowest
-
-sub-left : tie.Need-sub-left Inv-loop μ-loop
-sub-left c = search needs
 
 mul-wrote : tie.Need-mul-wrote Inv-loop μ-loop
 mul-wrote c = search at-lowest
@@ -53,10 +51,17 @@ loop-less : tie.Need-loop-less Inv-loop μ-loop
 loop-less c = search (needs, less-left)
 
 loop-again : tie.Need-loop-again Inv-loop μ-loop
-loop-again c = (search (needs, less-narrow), (search needs, (search (needs, gathering-step), search (needs, joining-step))))
+loop-again c = (
+  search (needs, less-narrow),
+  (
+    search needs,
+    (search (needs, gathering-step), search (needs, joining-step)),
+  ),
+)
 
 returns : tie.Need-returns Inv-loop μ-loop
 returns c = (search (needs, gathering-done), search (needs, joining-done))
 
 pub after-reads-spec : {M : Type 1} → statement M
-after-reads-spec = tie.close (tie.spec Inv-loop μ-loop loop-holds cast-v sub-left mul-wrote element-copy-out-wrote mul-readers element-copy-out-readers element-write-readers loop-less loop-again returns)
+after-reads-spec = tie.close (tie.spec Inv-loop μ-loop loop-holds cast-v (λ c. search needs) mul-wrote
+    element-copy-out-wrote mul-readers element-copy-out-readers element-write-readers loop-less loop-again returns)

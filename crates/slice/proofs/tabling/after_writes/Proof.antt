@@ -1,4 +1,5 @@
--- `slice::tabling::after_writes`: what is gathered of both, and the entries at the variables that are left lack the occurrence.
+-- `slice::tabling::after_writes`: what is gathered of both, and the entries at the variables that are left lack the
+-- occurrence.
 use mathlib.Core.Path.{_≡_, refl}
 use Prim.Native.Nat.{_<_, _^_}
 use borrow.Author.Needs.{needs}
@@ -23,7 +24,8 @@ use Rattle.slice.proofs.tabling.after_writes.Tie as tie
 
 abbrev Inv-loop : tie.InvT-loop
 Inv-loop readers writers₀ vars own left₀ read₀ wrote₀ writers left read wrote =
-    (left < 2 ^ 32) × ((length writers ≡ length writers₀) × (Gathering readers vars left read × (Gathering writers₀ vars left wrote
+    (left < 2 ^ 32) × ((length writers ≡ length writers₀)
+    × (Gathering readers vars left read × (Gathering writers₀ vars left wrote
     × (Untouched left writers₀ writers × Joining writers₀ vars own left writers))))
 
 abbrev μ-loop : tie.MeasureT-loop
@@ -34,9 +36,6 @@ loop-holds c = (search needs, (refl, (gathering-init _ _, (gathering-init _ _, (
 
 cast-v : tie.Need-cast-v Inv-loop μ-loop
 cast-v c = search at-lowest
-
-sub-left : tie.Need-sub-left Inv-loop μ-loop
-sub-left c = search needs
 
 mul-read : tie.Need-mul-read Inv-loop μ-loop
 mul-read c = search at-lowest
@@ -63,11 +62,21 @@ loop-less : tie.Need-loop-less Inv-loop μ-loop
 loop-less c = search (needs, less-left)
 
 loop-again : tie.Need-loop-again Inv-loop μ-loop
-loop-again c =
-    (search (needs, less-narrow), (search needs, (search (needs, gathering-step), (search (needs, gathering-joined), (search (needs, untouched-step), search (needs, joining-step))))))
+loop-again c = (
+  search (needs, less-narrow),
+  (
+    search needs,
+    (
+      search (needs, gathering-step),
+      (search (needs, gathering-joined), (search (needs, untouched-step), search (needs, joining-step))),
+    ),
+  ),
+)
 
 returns : tie.Need-returns Inv-loop μ-loop
 returns c = (search (needs, gathering-both), search (needs, joining-done))
 
 pub after-writes-spec : {M : Type 1} → statement M
-after-writes-spec = tie.close (tie.spec Inv-loop μ-loop loop-holds cast-v sub-left mul-read element-copy-out-read mul-wrote element-copy-out-wrote mul-writers element-copy-out-writers element-write-writers loop-less loop-again returns)
+after-writes-spec = tie.close (tie.spec Inv-loop μ-loop loop-holds cast-v (λ c. search needs) mul-read
+    element-copy-out-read mul-wrote element-copy-out-wrote mul-writers element-copy-out-writers element-write-writers
+    loop-less loop-again returns)

@@ -1,4 +1,5 @@
--- `slice::tabling::table_of`: the rows so far are filled, and the readers and writers of each variable are those of the occurrences so far.
+-- `slice::tabling::table_of`: the rows so far are filled, and the readers and writers of each variable are those of the
+-- occurrences so far.
 use mathlib.Core.Path.{_≡_, refl, ap, _∙_}
 use mathlib.Core.List.{List}
 use Prim.Native.Nat.{ℕ, _+_, _-_, _≤_, _<_}
@@ -22,14 +23,17 @@ use Rattle.slice.proofs.tabling.table_of.Statement.{statement}
 use Rattle.slice.proofs.tabling.table_of.Tie as tie
 
 abbrev GathersBoth : List ℕ → List ℕ → ℕ → ℕ → Type 0
-GathersBoth by by′ vars m = (f g : ℕ → ℕ) (n : ℕ) → ByVariable f n by → ByVariable g n by′ → m ≡ bitOr (meeting f vars n) (meeting g vars n)
+GathersBoth by by′ vars m = (f g : ℕ → ℕ) (n : ℕ) → ByVariable f n by → ByVariable g n by′
+    → m ≡ bitOr (meeting f vars n) (meeting g vars n)
 
 -- an occurrence's row and entries
 module _ (l : List Step) (i : ℕ) (s : Step) (is : s ≡ getD l i blank) where
-  writers-more : (by by′ : List ℕ) (own : ℕ) → own ≡ bit i → ByVariable (writtenBy l) i by → Joins by (s .writes) own by′ → ByVariable (writtenBy l) (i + 1) by′
+  writers-more : (by by′ : List ℕ) (own : ℕ) → own ≡ bit i → ByVariable (writtenBy l) i by
+      → Joins by (s .writes) own by′ → ByVariable (writtenBy l) (i + 1) by′
   writers-more by by′ own e h j = j .more (writtenBy l) i h (ap (λ (x : Step). x .writes) is) e
 
-  readers-more : (by by′ : List ℕ) (own : ℕ) → own ≡ bit i → ByVariable (readBy l) i by → Joins by (s .reads) own by′ → ByVariable (readBy l) (i + 1) by′
+  readers-more : (by by′ : List ℕ) (own : ℕ) → own ≡ bit i → ByVariable (readBy l) i by → Joins by (s .reads) own by′
+      → ByVariable (readBy l) (i + 1) by′
   readers-more by by′ own e h j = j .more (readBy l) i h (ap (λ (x : Step). x .reads) is) e
 
   row-more :
@@ -54,9 +58,11 @@ module _ (l : List Step) (i : ℕ) (s : Step) (is : s ≡ getD l i blank) where
 own-some : (i own : ℕ) → own ≡ bit i → 1 ≤ own
 own-some i own e = rw e (pow-pos i)
 
-all-rows : (l : List Step) (n i : ℕ) (rows : List ℕ) → n ≡ length l → n ≤ i → length rows ≡ 64 → Filled (row l) i rows → rows ≡ table l
+all-rows : (l : List Step) (n i : ℕ) (rows : List ℕ) → n ≡ length l → n ≤ i → length rows ≡ 64 → Filled (row l) i rows
+    → rows ≡ table l
 unfolding table
-all-rows l n i rows count past room filled = filled-all (row l) i 64 rows room filled (λ k h. row-past l k (omega arith))
+all-rows l n i rows count past room filled = filled-all (row l) i 64 rows room filled
+    (λ k h. row-past l k (omega arith))
 
 abbrev Inv-loop : tie.InvT-loop
 Inv-loop occurrences rows₀ writers₀ readers₀ n i₀ rows writers readers i =
@@ -66,44 +72,28 @@ Inv-loop occurrences rows₀ writers₀ readers₀ n i₀ rows writers readers i
 abbrev μ-loop : tie.MeasureT-loop
 μ-loop occurrences rows₀ writers₀ readers₀ n i₀ rows writers readers i = n - i
 
-count-requires : tie.Need-count-requires Inv-loop μ-loop
-count-requires c κs = search needs
-
 loop-holds : tie.Need-loop-holds Inv-loop μ-loop
 loop-holds c = (search needs, (refl, (filled-none _ 64, (by-none _, by-none _))))
-
-step-at-requires : tie.Need-step-at-requires Inv-loop μ-loop
-step-at-requires c κs = search needs
-
-after-writes-requires : tie.Need-after-writes-requires Inv-loop μ-loop
-after-writes-requires c κs = search needs
-
-after-reads-requires : tie.Need-after-reads-requires Inv-loop μ-loop
-after-reads-requires c κs = search needs
 
 sub-rows : tie.Need-sub-rows Inv-loop μ-loop
 sub-rows c = search (needs, own-some)
 
-mul-rows : tie.Need-mul-rows Inv-loop μ-loop
-mul-rows c = search needs
-
-array-write-rows : tie.Need-array-write-rows Inv-loop μ-loop
-array-write-rows c = search needs
-
-bit64-requires : tie.Need-bit64-requires Inv-loop μ-loop
-bit64-requires c κs = search needs
-
-add-i : tie.Need-add-i Inv-loop μ-loop
-add-i c = search needs
-
-loop-less : tie.Need-loop-less Inv-loop μ-loop
-loop-less c = search needs
-
 loop-again : tie.Need-loop-again Inv-loop μ-loop
-loop-again c = (search needs, (search needs, (search (needs, row-more), (search (needs, writers-more), search (needs, readers-more)))))
+loop-again c = (
+  search needs,
+  (
+    search needs,
+    (
+      search (needs, row-more),
+      (search (needs, writers-more), search (needs, readers-more)),
+    ),
+  ),
+)
 
 returns : tie.Need-returns Inv-loop μ-loop
 returns c = search (needs, all-rows)
 
 pub table-of-spec : {M : Type 1} → statement M
-table-of-spec = tie.close (tie.spec Inv-loop μ-loop count-requires loop-holds step-at-requires bit64-requires after-writes-requires after-reads-requires sub-rows mul-rows array-write-rows add-i loop-less loop-again returns)
+table-of-spec = tie.close (tie.spec Inv-loop μ-loop (λ c κs. search needs) loop-holds (λ c κs. search needs)
+    (λ c κs. search needs) (λ c κs. search needs) (λ c κs. search needs) sub-rows (λ c. search needs)
+    (λ c. search needs) (λ c. search needs) (λ c. search needs) loop-again returns)

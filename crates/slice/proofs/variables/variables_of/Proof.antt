@@ -1,4 +1,5 @@
--- `slice::variables::variables_of`: what is gathered so far, together with the union over the steps that are left, is the union over all.
+-- `slice::variables::variables_of`: what is gathered so far, together with the union over the steps that are left, is
+-- the union over all.
 use mathlib.Core.Path.{_≡_, sym, _∙_}
 use mathlib.Core.List.{List, _∷_}
 use Prim.Native.Nat.{ℕ, _+_, _-_, _≤_, _<_}
@@ -19,8 +20,10 @@ use Rattle.slice.proofs.variables.variables_of.Tie as tie
 abbrev touches : Step → ℕ
 touches s = bitOr (s .reads) (s .writes)
 
-module _ (l : List Step) (n : ℕ) (count : n ≡ length l) (vars i : ℕ) (inv : bitOr vars (union touches (drop i l)) ≡ variables l) where
-  one-more : (s : Step) → i < n → s ≡ getD l i blank → bitOr (bitOr vars (bitOr (s .reads) (s .writes))) (union touches (drop (i + 1) l)) ≡ variables l
+module _ (l : List Step) (n : ℕ) (count : n ≡ length l) (vars i : ℕ)
+    (inv : bitOr vars (union touches (drop i l)) ≡ variables l) where
+  one-more : (s : Step) → i < n → s ≡ getD l i blank
+      → bitOr (bitOr vars (bitOr (s .reads) (s .writes))) (union touches (drop (i + 1) l)) ≡ variables l
   one-more s h e =
       union-more touches vars (variables l) s (drop i l) (drop (i + 1) l)
       (drop-cons l i blank (omega arith) ∙ sym (λ k. e k ∷ drop (add-one i k) l))
@@ -34,25 +37,14 @@ unfolding variables
 none-yet l = or-zero-l (union touches l)
 
 abbrev Inv-loop : tie.InvT-loop
-Inv-loop steps n vars₀ i₀ vars i = (i ≤ n) × (bitOr vars (union touches (drop i (stepsIn steps))) ≡ variables (stepsIn steps))
+Inv-loop steps n vars₀ i₀ vars i = (i ≤ n) × (bitOr vars (union touches (drop i (stepsIn steps)))
+    ≡ variables (stepsIn steps))
 
 abbrev μ-loop : tie.MeasureT-loop
 μ-loop steps n vars₀ i₀ vars i = n - i
 
-count-requires : tie.Need-count-requires Inv-loop μ-loop
-count-requires c κs = search needs
-
 loop-holds : tie.Need-loop-holds Inv-loop μ-loop
 loop-holds c = (search needs, none-yet _)
-
-step-at-requires : tie.Need-step-at-requires Inv-loop μ-loop
-step-at-requires c κs = search needs
-
-add-i : tie.Need-add-i Inv-loop μ-loop
-add-i c = search needs
-
-loop-less : tie.Need-loop-less Inv-loop μ-loop
-loop-less c = search needs
 
 loop-again : tie.Need-loop-again Inv-loop μ-loop
 loop-again c = (search needs, search (needs, one-more))
@@ -61,4 +53,5 @@ returns : tie.Need-returns Inv-loop μ-loop
 returns c = search (needs, all-in)
 
 pub variables-of-spec : {M : Type 1} → statement M
-variables-of-spec = tie.close (tie.spec Inv-loop μ-loop count-requires loop-holds step-at-requires add-i loop-less loop-again returns)
+variables-of-spec = tie.close (tie.spec Inv-loop μ-loop (λ c κs. search needs) loop-holds (λ c κs. search needs)
+    (λ c. search needs) (λ c. search needs) loop-again returns)

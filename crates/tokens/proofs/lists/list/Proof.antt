@@ -4,17 +4,11 @@ use borrow.Author.Needs.{needs}
 use Rattle.tokens.proofs.lists.list.Statement.{statement}
 use Rattle.tokens.proofs.lists.list.Tie as tie
 
-none-requires : tie.Need-none-requires
-none-requires c κs = search needs
-
 returns : tie.Need-returns
 returns c = search (needs, list-passes)
-
-entries-requires : tie.Need-entries-requires
-entries-requires c κs = search needs
 
 returns-2 : tie.Need-returns-2
 returns-2 c = search (needs, list-on)
 
 pub list-spec : {M : Type 1} → statement M
-list-spec = tie.close (tie.spec none-requires returns entries-requires returns-2)
+list-spec = tie.close (tie.spec (λ c κs. search needs) returns (λ c κs. search needs) returns-2)

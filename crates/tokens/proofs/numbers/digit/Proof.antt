@@ -13,7 +13,8 @@ returns c = sym (ap (λ (t : Bool). t && leb (c .before .args .b) 57) (le-leb 48
 
 returns-2 : tie.Need-returns-2
 unfolding digit
-returns-2 c = lt-leb 48 _ (c .if1 .left) ∙ sym (ap (λ (t : Bool). t && leb (c .before .args .b) 57) (lt-leb 48 _ (c .if1 .left)))
+returns-2 c = lt-leb 48 _ (c .if1 .left) ∙ sym (ap (λ (t : Bool). t && leb (c .before .args .b) 57)
+    (lt-leb 48 _ (c .if1 .left)))
 
 pub digit-spec : {M : Type 1} → statement M
 digit-spec = tie.close (tie.spec returns returns-2)

@@ -4,17 +4,11 @@ use borrow.Author.Needs.{needs}
 use Rattle.tokens.proofs.numbers.number.Statement.{statement}
 use Rattle.tokens.proofs.numbers.number.Tie as tie
 
-none-requires : tie.Need-none-requires
-none-requires c κs = search needs
-
 returns : tie.Need-returns
 returns c = search (needs, number-passes)
-
-digits-requires : tie.Need-digits-requires
-digits-requires c κs = search needs
 
 returns-2 : tie.Need-returns-2
 returns-2 c = search (needs, number-on)
 
 pub number-spec : {M : Type 1} → statement M
-number-spec = tie.close (tie.spec none-requires returns digits-requires returns-2)
+number-spec = tie.close (tie.spec (λ c κs. search needs) returns (λ c κs. search needs) returns-2)

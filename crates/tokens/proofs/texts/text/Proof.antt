@@ -7,21 +7,12 @@ use Rattle.tokens.proofs.texts.text.Tie as tie
 returns : tie.Need-returns
 returns c = search (needs, text-passes)
 
-stands-requires : tie.Need-stands-requires
-stands-requires c κs = search needs
-
-add-t8 : tie.Need-add-t8
-add-t8 c = search needs
-
 returns-2 : tie.Need-returns-2
 returns-2 c = search (needs, text-told)
-
-agreeing-requires : tie.Need-agreeing-requires
-agreeing-requires c κs = search needs
 
 returns-3 : tie.Need-returns-3
 returns-3 c = search (needs, text-on)
 
 pub text-spec : {M : Type 1} → statement M
-text-spec =
-    tie.close (tie.spec returns stands-requires add-t8 returns-2 agreeing-requires returns-3)
+text-spec = tie.close (tie.spec returns (λ c κs. search needs) (λ c. search needs) returns-2 (λ c κs. search needs)
+    returns-3)

@@ -4,20 +4,8 @@ use Rattle.trying.proofs.TryRows.{list-passes, rows-refused, rows-tried
 use Rattle.trying.proofs.entries.by_rows.Statement.{statement}
 use Rattle.trying.proofs.entries.by_rows.Tie as tie
 
-check-list-requires : tie.Need-check-list-requires
-check-list-requires c κs = search needs
-
-passed-requires : tie.Need-passed-requires
-passed-requires c κs = search needs
-
-stop-requires : tie.Need-stop-requires
-stop-requires c κs = search needs
-
 returns : tie.Need-returns
 returns c = search (needs, rows-refused)
-
-table-of-requires : tie.Need-table-of-requires
-table-of-requires c κs = search needs
 
 fire-list-requires : tie.Need-fire-list-requires
 fire-list-requires c κs = (search (needs, list-passes), search needs)
@@ -26,4 +14,5 @@ returns-2 : tie.Need-returns-2
 returns-2 c = search (needs, rows-tried)
 
 pub by-rows-spec : {M : Type 1} → statement M
-by-rows-spec = tie.close (tie.spec check-list-requires passed-requires stop-requires returns table-of-requires fire-list-requires returns-2)
+by-rows-spec = tie.close (tie.spec (λ c κs. search needs) (λ c κs. search needs) (λ c κs. search needs) returns
+    (λ c κs. search needs) fire-list-requires returns-2)

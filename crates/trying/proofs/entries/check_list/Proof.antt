@@ -12,7 +12,8 @@ use Rattle.trying.proofs.entries.check_list.Statement.{statement}
 use Rattle.trying.proofs.entries.check_list.Tie as tie
 
 abbrev Inv-loop : tie.InvT-loop
-Inv-loop order kept seen₀ i₀ seen i = (i ≤ length order) × (listRow kept seen (i + 1) (drop i order) ≡ listRow kept 0 1 order)
+Inv-loop order kept seen₀ i₀ seen i = (i ≤ length order)
+    × (listRow kept seen (i + 1) (drop i order) ≡ listRow kept 0 1 order)
 
 abbrev μ-loop : tie.MeasureT-loop
 μ-loop order kept seen₀ i₀ seen i = length order - i
@@ -29,31 +30,21 @@ module _ (c : tie.Else1 Inv-loop μ-loop) where
   kept = at .before .before .args .kept
 
   range : (1 ≤ b) × (b - 1 < 64)
-  range = kept-range kept b (omega arith) (both (isKept kept b) _ (sym (c .before .fresh .ensures) ∙ not-false _ (c .if1 .left)) .0)
+  range = kept-range kept b (omega arith) (both (isKept kept b) _
+      (sym (c .before .fresh .ensures) ∙ not-false _ (c .if1 .left)) .0)
 
 loop-holds : tie.Need-loop-holds Inv-loop μ-loop
 loop-holds c = (omega arith, refl)
 
-shared-slice-read-b : tie.Need-shared-slice-read-b Inv-loop μ-loop
-shared-slice-read-b c = search needs
-
 cast-b : tie.Need-cast-b Inv-loop μ-loop
 cast-b c = omega (arith, c .shared-slice-known2 .given (c .before .before .loop .i))
-
-add-i : tie.Need-add-i Inv-loop μ-loop
-add-i c = search needs
-
-fresh-requires : tie.Need-fresh-requires Inv-loop μ-loop
-fresh-requires c κs = search needs
-
-refuse-requires : tie.Need-refuse-requires Inv-loop μ-loop
-refuse-requires c κs = search needs
 
 returns : tie.Need-returns Inv-loop μ-loop
 returns c =
     let f = c .before .before in
     let l = f .before .before .before in
-    c .refuse .ensures ∙ list-refused _ _ (l .loop .i) _ _ (l .loop .inv .1) (omega arith) _ (f .fresh .ensures) (not-true _ (c .before .if1 .taken))
+    c .refuse .ensures ∙ list-refused _ _ (l .loop .i) _ _ (l .loop .inv .1) (omega arith) _ (f .fresh .ensures)
+    (not-true _ (c .before .if1 .taken))
 
 sub-bit64 : tie.Need-sub-bit64 Inv-loop μ-loop
 sub-bit64 c = omega (arith, range c .0)
@@ -61,28 +52,19 @@ sub-bit64 c = omega (arith, range c .0)
 bit64-requires : tie.Need-bit64-requires Inv-loop μ-loop
 bit64-requires c κs = range c .1
 
-loop-less : tie.Need-loop-less Inv-loop μ-loop
-loop-less c = search needs
-
 loop-again : tie.Need-loop-again Inv-loop μ-loop
 loop-again c =
     let f = c .before .before in
-    let l = f .before .before .before in
-    (omega arith, list-on _ _ (l .loop .i) _ _ (l .loop .inv .1) (omega arith) _ (f .fresh .ensures) (not-false _ (c .before .if1 .left)) _ (c .bit64 .ensures))
-
-add-refuse : tie.Need-add-refuse Inv-loop μ-loop
-add-refuse c = search needs
-
-refuse-requires-2 : tie.Need-refuse-requires-2 Inv-loop μ-loop
-refuse-requires-2 c κs = search needs
+    let l = f .before .before .before in (
+      omega arith,
+      list-on _ _ (l .loop .i) _ _ (l .loop .inv .1) (omega arith) _ (f .fresh .ensures)
+          (not-false _ (c .before .if1 .left)) _ (c .bit64 .ensures),
+    )
 
 returns-2 : tie.Need-returns-2 Inv-loop μ-loop
 returns-2 c =
     let l = c .before .before .before in
     c .refuse2 .ensures ∙ list-missing _ _ (l .loop .i) _ _ (l .loop .inv .1) (omega arith) (c .before .if2 .taken)
-
-pass-requires : tie.Need-pass-requires Inv-loop μ-loop
-pass-requires c κs = search needs
 
 returns-3 : tie.Need-returns-3 Inv-loop μ-loop
 returns-3 c =
@@ -90,24 +72,6 @@ returns-3 c =
     c .pass .ensures ∙ list-whole _ _ (l .loop .i) _ _ (l .loop .inv .1) (omega arith) (c .before .if2 .left)
 
 pub check-list-spec : {M : Type 1} → statement M
-check-list-spec =
-    tie.close
-    (tie.spec
-    Inv-loop
-    μ-loop
-    loop-holds
-    shared-slice-read-b
-    cast-b
-    add-i
-    fresh-requires
-    refuse-requires
-    returns
-    sub-bit64
-    bit64-requires
-    loop-less
-    loop-again
-    add-refuse
-    refuse-requires-2
-    returns-2
-    pass-requires
-    returns-3)
+check-list-spec = tie.close (tie.spec Inv-loop μ-loop loop-holds (λ c. search needs) cast-b (λ c. search needs)
+    (λ c κs. search needs) (λ c κs. search needs) returns sub-bit64 bit64-requires (λ c. search needs) loop-again
+    (λ c. search needs) (λ c κs. search needs) returns-2 (λ c κs. search needs) returns-3)

@@ -4,7 +4,8 @@ use native.Mathlib.Omega.{arith}
 use borrow.Author.Needs.{needs}
 use lib.ListN.{length, getD}
 use Rattle.route.specs.Flat.{stepsIn}
-use Rattle.trying.proofs.Entry.{Placed, placed-init, placed-done, entry-first, entry-below, entry-step, placed-early, placed-stuck, placed-step}
+use Rattle.trying.proofs.Entry.{Placed, placed-init, placed-done, entry-first, entry-below, entry-step}
+use Rattle.trying.proofs.Entry.{placed-early, placed-stuck, placed-step}
 use Rattle.trying.proofs.entries.fire_list.Statement.{statement}
 use Rattle.trying.proofs.entries.fire_list.Tie as tie
 
@@ -29,17 +30,11 @@ module _ (c : tie.In-loop Inv-loop μ-loop) where
 loop-holds : tie.Need-loop-holds Inv-loop μ-loop
 loop-holds c = (search needs, search (needs, placed-init))
 
-shared-slice-read-k : tie.Need-shared-slice-read-k Inv-loop μ-loop
-shared-slice-read-k c = search needs
-
 cast-k : tie.Need-cast-k Inv-loop μ-loop
 cast-k c = omega (arith, c .shared-slice-known3 .given (c .before .before .loop .i))
 
 sub-k : tie.Need-sub-k Inv-loop μ-loop
 sub-k c = omega (arith, first (c .before))
-
-add-i : tie.Need-add-i Inv-loop μ-loop
-add-i c = search needs
 
 mul-within64 : tie.Need-mul-within64 Inv-loop μ-loop
 mul-within64 c = omega (arith, below (c .before))
@@ -47,35 +42,17 @@ mul-within64 c = omega (arith, below (c .before))
 array-read-within64 : tie.Need-array-read-within64 Inv-loop μ-loop
 array-read-within64 c = omega (arith, below (c .before))
 
-within64-requires : tie.Need-within64-requires Inv-loop μ-loop
-within64-requires c κs = search needs
-
-stop-requires : tie.Need-stop-requires Inv-loop μ-loop
-stop-requires c κs = search needs
-
 returns : tie.Need-returns Inv-loop μ-loop
 returns c = search (needs, placed-early)
 
 step-at-requires : tie.Need-step-at-requires Inv-loop μ-loop
 step-at-requires c κs = search (needs, entry-step)
 
-enables-requires : tie.Need-enables-requires Inv-loop μ-loop
-enables-requires c κs = search needs
-
-stop-requires-2 : tie.Need-stop-requires-2 Inv-loop μ-loop
-stop-requires-2 c κs = search needs
-
 returns-2 : tie.Need-returns-2 Inv-loop μ-loop
 returns-2 c = search (needs, placed-stuck)
 
-next-requires : tie.Need-next-requires Inv-loop μ-loop
-next-requires c κs = search needs
-
 bit64-requires : tie.Need-bit64-requires Inv-loop μ-loop
 bit64-requires c κs = search (needs, entry-below)
-
-loop-less : tie.Need-loop-less Inv-loop μ-loop
-loop-less c = search needs
 
 loop-again : tie.Need-loop-again Inv-loop μ-loop
 loop-again c = (search needs, search (needs, placed-step))
@@ -84,4 +61,7 @@ returns-3 : tie.Need-returns-3 Inv-loop μ-loop
 returns-3 c = search (needs, placed-done)
 
 pub fire-list-spec : {M : Type 1} → statement M
-fire-list-spec = tie.close (tie.spec Inv-loop μ-loop loop-holds shared-slice-read-k cast-k sub-k add-i mul-within64 array-read-within64 within64-requires stop-requires returns step-at-requires enables-requires stop-requires-2 returns-2 next-requires bit64-requires loop-less loop-again returns-3)
+fire-list-spec = tie.close (tie.spec Inv-loop μ-loop loop-holds (λ c. search needs) cast-k sub-k (λ c. search needs)
+    mul-within64 array-read-within64 (λ c κs. search needs) (λ c κs. search needs) returns step-at-requires
+    (λ c κs. search needs) (λ c κs. search needs) returns-2 (λ c κs. search needs) bit64-requires (λ c. search needs)
+    loop-again returns-3)

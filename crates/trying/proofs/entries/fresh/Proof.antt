@@ -17,17 +17,12 @@ returns-2 c =
     let a = c .before .before .args in
     fresh-high (a .kept) _ (a .b) (omega arith) (omega arith)
 
-without64-requires : tie.Need-without64-requires
-without64-requires c κs = search needs
-
-holds64-requires : tie.Need-holds64-requires
-holds64-requires c κs = search needs
-
 returns-3 : tie.Need-returns-3
 returns-3 c =
     let w = c .before in
     let a = w .before .before .before .args in
-    c .holds64 .ensures ∙ ap (λ (m : ℕ). has m (a .b - 1)) (w .without64 .ensures) ∙ fresh-is (a .kept) (a .seen) (a .b) (le-leb 1 (a .b) (omega arith))
+    c .holds64 .ensures ∙ ap (λ (m : ℕ). has m (a .b - 1)) (w .without64 .ensures)
+    ∙ fresh-is (a .kept) (a .seen) (a .b) (le-leb 1 (a .b) (omega arith))
 
 pub fresh-spec : {M : Type 1} → statement M
-fresh-spec = tie.close (tie.spec returns returns-2 without64-requires holds64-requires returns-3)
+fresh-spec = tie.close (tie.spec returns returns-2 (λ c κs. search needs) (λ c κs. search needs) returns-3)

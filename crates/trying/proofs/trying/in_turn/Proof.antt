@@ -12,7 +12,8 @@ use Rattle.trying.proofs.trying.in_turn.Statement.{statement}
 use Rattle.trying.proofs.trying.in_turn.Tie as tie
 
 abbrev Inv-loop : tie.InvT-loop
-Inv-loop order len i₀ i = (i ≤ length order) × (sameList (drop i order) (map suc (inTurn i (len - i))) ≡ sameList order (map suc (inTurn 0 len)))
+Inv-loop order len i₀ i = (i ≤ length order) × (sameList (drop i order) (map suc (inTurn i (len - i)))
+    ≡ sameList order (map suc (inTurn 0 len)))
 
 abbrev μ-loop : tie.MeasureT-loop
 μ-loop order len i₀ i = length order - i
@@ -26,25 +27,13 @@ loop-holds c =
     let all : a .len - 0 ≡ a .len = omega arith in
     (omega arith, ap (λ (n : ℕ). sameList (a .order .now) (map suc (inTurn 0 n))) all)
 
-shared-slice-read-if2 : tie.Need-shared-slice-read-if2 Inv-loop μ-loop
-shared-slice-read-if2 c = search needs
-
 cast-if2 : tie.Need-cast-if2 Inv-loop μ-loop
 cast-if2 c = omega (arith, c .shared-slice-known .given (c .before .before .loop .i))
-
-add-if2 : tie.Need-add-if2 Inv-loop μ-loop
-add-if2 c = search needs
 
 returns-2 : tie.Need-returns-2 Inv-loop μ-loop
 returns-2 c =
     let l = c .before .before .before in
     turn-off _ _ (l .loop .i) _ (l .loop .inv .1) (omega arith) (omega arith) (c .if2 .taken)
-
-add-i : tie.Need-add-i Inv-loop μ-loop
-add-i c = search needs
-
-loop-less : tie.Need-loop-less Inv-loop μ-loop
-loop-less c = search needs
 
 loop-again : tie.Need-loop-again Inv-loop μ-loop
 loop-again c =
@@ -57,18 +46,5 @@ returns-3 c =
     turn-end _ _ (l .loop .i) _ (l .loop .inv .1) (omega arith) (omega arith)
 
 pub in-turn-spec : {M : Type 1} → statement M
-in-turn-spec =
-    tie.close
-    (tie.spec
-    Inv-loop
-    μ-loop
-    returns
-    loop-holds
-    shared-slice-read-if2
-    cast-if2
-    add-if2
-    returns-2
-    add-i
-    loop-less
-    loop-again
-    returns-3)
+in-turn-spec = tie.close (tie.spec Inv-loop μ-loop returns loop-holds (λ c. search needs) cast-if2 (λ c. search needs)
+    returns-2 (λ c. search needs) (λ c. search needs) loop-again returns-3)

@@ -15,9 +15,6 @@ module _ (straight : End) (t x : Bool) (is : t ≡ x) where
   same : not t ≡ false → straight ≡ cond x straight Stuck
   same on = ap (λ (b : Bool). cond b straight Stuck) (sym (not-false t on) ∙ is)
 
-in-turn-requires : tie.Need-in-turn-requires
-in-turn-requires c κs = search needs
-
 returns : tie.Need-returns
 returns c = search (needs, other)
 
@@ -25,4 +22,4 @@ returns-2 : tie.Need-returns-2
 returns-2 c = search (needs, same)
 
 pub straight-end-spec : {M : Type 1} → statement M
-straight-end-spec = tie.close (tie.spec in-turn-requires returns returns-2)
+straight-end-spec = tie.close (tie.spec (λ c κs. search needs) returns returns-2)

@@ -6,26 +6,8 @@ use Rattle.trying.proofs.AfterRow12.{tried-prepared}
 use Rattle.trying.proofs.trying.try_checked.Statement.{statement}
 use Rattle.trying.proofs.trying.try_checked.Tie as tie
 
-slice-aggregate-prepare : tie.Need-slice-aggregate-prepare
-slice-aggregate-prepare c = search needs
-
-slice-aggregate-prepare-2 : tie.Need-slice-aggregate-prepare-2
-slice-aggregate-prepare-2 c = search needs
-
-prepare-requires : tie.Need-prepare-requires
-prepare-requires c κs = search needs
-
-passed-requires : tie.Need-passed-requires
-passed-requires c κs = search needs
-
-stop-requires : tie.Need-stop-requires
-stop-requires c κs = search needs
-
 returns : tie.Need-returns
 returns c = search (needs, tried-refused)
-
-mul-end : tie.Need-mul-end
-mul-end c = search needs
 
 array-share-prefix-occurrences : tie.Need-array-share-prefix-occurrences
 array-share-prefix-occurrences c = search (needs, numbers-room)
@@ -46,4 +28,7 @@ returns-2 : tie.Need-returns-2
 returns-2 c = search (needs, tried-prepared)
 
 pub try-checked-spec : {M : Type 1} → statement M
-try-checked-spec = tie.close (tie.spec slice-aggregate-prepare slice-aggregate-prepare-2 prepare-requires passed-requires stop-requires returns mul-end array-share-prefix-occurrences slice-aggregate-try-prepared array-share-prefix-matches slice-aggregate-try-prepared-2 try-prepared-requires returns-2)
+try-checked-spec = tie.close (tie.spec (λ c. search needs) (λ c. search needs) (λ c κs. search needs)
+    (λ c κs. search needs) (λ c κs. search needs) returns (λ c. search needs) array-share-prefix-occurrences
+    slice-aggregate-try-prepared array-share-prefix-matches slice-aggregate-try-prepared-2 try-prepared-requires
+    returns-2)

@@ -6,18 +6,6 @@ use Rattle.trying.proofs.TryRows.{tried-laid}
 use Rattle.trying.proofs.trying.try_order.Statement.{statement}
 use Rattle.trying.proofs.trying.try_order.Tie as tie
 
-slice-aggregate-lay : tie.Need-slice-aggregate-lay
-slice-aggregate-lay c = search needs
-
-lay-requires : tie.Need-lay-requires
-lay-requires c κs = search needs
-
-slice-aggregate-lay-2 : tie.Need-slice-aggregate-lay-2
-slice-aggregate-lay-2 c = search needs
-
-lay-requires-2 : tie.Need-lay-requires-2
-lay-requires-2 c κs = search needs
-
 array-share-prefix-a : tie.Need-array-share-prefix-a
 array-share-prefix-a c = search needs
 
@@ -30,15 +18,15 @@ array-share-prefix-b c = search needs
 slice-aggregate-try-lists-2 : tie.Need-slice-aggregate-try-lists-2
 slice-aggregate-try-lists-2 c = sym (length-take-le _ _ (array-share-prefix-b (c .before)))
 
-try-lists-requires : tie.Need-try-lists-requires
-try-lists-requires c κs = search needs
-
 returns : tie.Need-returns
 returns c =
     let second = c .before .before .before .before in
     let first = second .before .before .before in
     let a = first .before .before .before .before .args in
-    tried-laid (a .old) (a .new) (a .done .now) (a .order .now) _ _ _ _ _ (first .lay .ensures) (second .lay2 .ensures) (c .try-lists .ensures)
+    tried-laid (a .old) (a .new) (a .done .now) (a .order .now) _ _ _ _ _ (first .lay .ensures) (second .lay2 .ensures)
+    (c .try-lists .ensures)
 
 pub try-order-spec : {M : Type 1} → statement M
-try-order-spec = tie.close (tie.spec slice-aggregate-lay lay-requires slice-aggregate-lay-2 lay-requires-2 array-share-prefix-a slice-aggregate-try-lists array-share-prefix-b slice-aggregate-try-lists-2 try-lists-requires returns)
+try-order-spec = tie.close (tie.spec (λ c. search needs) (λ c κs. search needs) (λ c. search needs)
+    (λ c κs. search needs) array-share-prefix-a slice-aggregate-try-lists array-share-prefix-b
+    slice-aggregate-try-lists-2 (λ c κs. search needs) returns)

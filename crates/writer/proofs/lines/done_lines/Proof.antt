@@ -10,7 +10,8 @@ use Rattle.writer.proofs.lines.done_lines.Statement.{statement}
 use Rattle.writer.proofs.lines.done_lines.Tie as tie
 
 abbrev Inv-loop : tie.InvT-loop
-Inv-loop out₀ at done p₀ i₀ out p i = (i ≤ length done) × ((length out ≡ length out₀) × Left (nameLines (drop i done)) out p (nameLines done) out₀ at)
+Inv-loop out₀ at done p₀ i₀ out p i = (i ≤ length done)
+    × ((length out ≡ length out₀) × Left (nameLines (drop i done)) out p (nameLines done) out₀ at)
 
 abbrev μ-loop : tie.MeasureT-loop
 μ-loop out₀ at done p₀ i₀ out p i = length done - i
@@ -18,32 +19,18 @@ abbrev μ-loop : tie.MeasureT-loop
 loop-holds : tie.Need-loop-holds Inv-loop μ-loop
 loop-holds c = (omega arith, (search needs, search (needs, left-start)))
 
-mul-word-line : tie.Need-mul-word-line Inv-loop μ-loop
-mul-word-line c = search needs
-
-shared-slice-read-word-line : tie.Need-shared-slice-read-word-line Inv-loop μ-loop
-shared-slice-read-word-line c = search needs
-
 cast-word-line : tie.Need-cast-word-line Inv-loop μ-loop
 cast-word-line c = record { fits = omega (arith, c .shared-slice-known2 .given (c .before .before .before .loop .i)) }
 
 word-line-requires : tie.Need-word-line-requires Inv-loop μ-loop
 word-line-requires c κs = search (needs, dones-room)
 
-add-i : tie.Need-add-i Inv-loop μ-loop
-add-i c = search needs
-
-loop-less : tie.Need-loop-less Inv-loop μ-loop
-loop-less c = search needs
-
 loop-again : tie.Need-loop-again Inv-loop μ-loop
 loop-again c = (search needs, (search needs, search (needs, dones-turn)))
-
-same-length : tie.Need-same-length Inv-loop μ-loop
-same-length c = search needs
 
 returns : tie.Need-returns Inv-loop μ-loop
 returns c = search (needs, dones-end)
 
 pub done-lines-spec : {M : Type 1} → statement M
-done-lines-spec = tie.close (tie.spec Inv-loop μ-loop loop-holds mul-word-line shared-slice-read-word-line cast-word-line word-line-requires add-i loop-less loop-again same-length returns)
+done-lines-spec = tie.close (tie.spec Inv-loop μ-loop loop-holds (λ c. search needs) (λ c. search needs) cast-word-line
+    word-line-requires (λ c. search needs) (λ c. search needs) loop-again (λ c. search needs) returns)

@@ -16,11 +16,9 @@ variables-requires c κs = search (needs, four-third)
 variables-requires-2 : tie.Need-variables-requires-2
 variables-requires-2 c κs = search (needs, four-fourth)
 
-same-length : tie.Need-same-length
-same-length c = search needs
-
 returns : tie.Need-returns
 returns c = search (needs, four-whole)
 
 pub four-spec : {M : Type 1} → statement M
-four-spec = tie.close (tie.spec places-requires places-requires-2 variables-requires variables-requires-2 same-length returns)
+four-spec = tie.close (tie.spec places-requires places-requires-2 variables-requires variables-requires-2
+    (λ c. search needs) returns)

@@ -13,11 +13,8 @@ closed-requires c κs = search (needs, job-second)
 done-lines-requires : tie.Need-done-lines-requires
 done-lines-requires c κs = search (needs, job-third)
 
-same-length : tie.Need-same-length
-same-length c = search needs
-
 returns : tie.Need-returns
 returns c = search (needs, job-whole)
 
 pub job-lines-spec : {M : Type 1} → statement M
-job-lines-spec = tie.close (tie.spec opened-requires closed-requires done-lines-requires same-length returns)
+job-lines-spec = tie.close (tie.spec opened-requires closed-requires done-lines-requires (λ c. search needs) returns)

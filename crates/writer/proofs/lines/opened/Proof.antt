@@ -10,11 +10,8 @@ put-requires c κs = search (needs, opening-first)
 word-requires : tie.Need-word-requires
 word-requires c κs = search (needs, opening-second)
 
-same-length : tie.Need-same-length
-same-length c = search needs
-
 returns : tie.Need-returns
 returns c = search (needs, opening-whole)
 
 pub opened-spec : {M : Type 1} → statement M
-opened-spec = tie.close (tie.spec put-requires word-requires same-length returns)
+opened-spec = tie.close (tie.spec put-requires word-requires (λ c. search needs) returns)

@@ -16,11 +16,9 @@ entries-requires c κs = (search needs, search (needs, places-third))
 put-requires-2 : tie.Need-put-requires-2
 put-requires-2 c κs = search (needs, places-fourth)
 
-same-length : tie.Need-same-length
-same-length c = search needs
-
 returns : tie.Need-returns
 returns c = search (needs, places-whole)
 
 pub places-spec : {M : Type 1} → statement M
-places-spec = tie.close (tie.spec put-requires opened-requires entries-requires put-requires-2 same-length returns)
+places-spec = tie.close (tie.spec put-requires opened-requires entries-requires put-requires-2 (λ c. search needs)
+    returns)

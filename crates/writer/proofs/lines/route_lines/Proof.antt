@@ -10,11 +10,8 @@ word-line-requires c κs = search (needs, route-first)
 step-lines-requires : tie.Need-step-lines-requires
 step-lines-requires c κs = (search needs, search (needs, route-second))
 
-same-length : tie.Need-same-length
-same-length c = search needs
-
 returns : tie.Need-returns
 returns c = search (needs, route-whole)
 
 pub route-lines-spec : {M : Type 1} → statement M
-route-lines-spec = tie.close (tie.spec word-line-requires step-lines-requires same-length returns)
+route-lines-spec = tie.close (tie.spec word-line-requires step-lines-requires (λ c. search needs) returns)

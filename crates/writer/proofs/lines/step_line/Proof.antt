@@ -7,9 +7,6 @@ use Rattle.writer.proofs.lines.step_line.Tie as tie
 opened-requires : tie.Need-opened-requires
 opened-requires c κs = search (needs, step-first)
 
-cast-entry : tie.Need-cast-entry
-cast-entry c = search needs
-
 entry-requires : tie.Need-entry-requires
 entry-requires c κs = search (needs, step-second)
 
@@ -19,11 +16,9 @@ four-requires c κs = search (needs, step-third)
 closed-requires : tie.Need-closed-requires
 closed-requires c κs = search (needs, step-fourth)
 
-same-length : tie.Need-same-length
-same-length c = search needs
-
 returns : tie.Need-returns
 returns c = search (needs, step-whole)
 
 pub step-line-spec : {M : Type 1} → statement M
-step-line-spec = tie.close (tie.spec opened-requires cast-entry entry-requires four-requires closed-requires same-length returns)
+step-line-spec = tie.close (tie.spec opened-requires (λ c. search needs) entry-requires four-requires closed-requires
+    (λ c. search needs) returns)

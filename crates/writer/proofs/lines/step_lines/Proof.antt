@@ -12,37 +12,28 @@ use Rattle.writer.proofs.lines.step_lines.Statement.{statement}
 use Rattle.writer.proofs.lines.step_lines.Tie as tie
 
 abbrev Inv-loop : tie.InvT-loop
-Inv-loop out₀ at r p₀ i₀ out p i = (length (r .steps) ≡ 64) × ((i ≤ r .len) × ((length out ≡ length out₀) × Left (formLines (drop i (stepsOf r))) out p (formLines (stepsOf r)) out₀ at))
+Inv-loop out₀ at r p₀ i₀ out p i = (length (r .steps) ≡ 64)
+    × ((i ≤ r .len) × ((length out ≡ length out₀)
+    × Left (formLines (drop i (stepsOf r))) out p (formLines (stepsOf r)) out₀ at))
 
 abbrev μ-loop : tie.MeasureT-loop
 μ-loop out₀ at r p₀ i₀ out p i = r .len - i
 
 loop-holds : tie.Need-loop-holds Inv-loop μ-loop
-loop-holds c = (full (c .before .args .t3) _ (c .before .good .1 .1 .0), (omega arith, (search needs, search (needs, left-start))))
-
-mul-s : tie.Need-mul-s Inv-loop μ-loop
-mul-s c = search needs
-
-element-copy-out-s : tie.Need-element-copy-out-s Inv-loop μ-loop
-element-copy-out-s c = search needs
+loop-holds c = (
+  full (c .before .args .t3) _ (c .before .good .1 .1 .0),
+  (omega arith, (search needs, search (needs, left-start))),
+)
 
 step-line-requires : tie.Need-step-line-requires Inv-loop μ-loop
 step-line-requires c κs = search (needs, steps-room)
 
-add-i : tie.Need-add-i Inv-loop μ-loop
-add-i c = search needs
-
-loop-less : tie.Need-loop-less Inv-loop μ-loop
-loop-less c = search needs
-
 loop-again : tie.Need-loop-again Inv-loop μ-loop
 loop-again c = (search needs, (search needs, (search needs, search (needs, steps-turn))))
-
-same-length : tie.Need-same-length Inv-loop μ-loop
-same-length c = search needs
 
 returns : tie.Need-returns Inv-loop μ-loop
 returns c = search (needs, steps-over)
 
 pub step-lines-spec : {M : Type 1} → statement M
-step-lines-spec = tie.close (tie.spec Inv-loop μ-loop loop-holds mul-s element-copy-out-s step-line-requires add-i loop-less loop-again same-length returns)
+step-lines-spec = tie.close (tie.spec Inv-loop μ-loop loop-holds (λ c. search needs) (λ c. search needs)
+    step-line-requires (λ c. search needs) (λ c. search needs) loop-again (λ c. search needs) returns)

@@ -7,11 +7,8 @@ use Rattle.writer.proofs.lines.variables.Tie as tie
 places-requires : tie.Need-places-requires
 places-requires c κs = search (needs, variables-room)
 
-same-length : tie.Need-same-length
-same-length c = search needs
-
 returns : tie.Need-returns
 returns c = search (needs, variables-whole)
 
 pub variables-spec : {M : Type 1} → statement M
-variables-spec = tie.close (tie.spec places-requires same-length returns)
+variables-spec = tie.close (tie.spec places-requires (λ c. search needs) returns)

@@ -11,7 +11,8 @@ use Rattle.layout.proofs.Letters.{word-short, row-below, letters-at}
 use Rattle.writer.proofs.lines.word.Statement.{statement}
 use Rattle.writer.proofs.lines.word.Tie as tie
 
-part-is : (w : Word) (r n : ℕ) → r ≡ numberOf w → n ≡ length (spelling w) → take (r * 6 + 1 + n - (r * 6 + 1)) (drop (r * 6 + 1) wordTable) ≡ spelling w
+part-is : (w : Word) (r n : ℕ) → r ≡ numberOf w → n ≡ length (spelling w)
+    → take (r * 6 + 1 + n - (r * 6 + 1)) (drop (r * 6 + 1) wordTable) ≡ spelling w
 part-is w r n e f =
     let long : r * 6 + 1 + n - (r * 6 + 1) ≡ length (spelling w) = omega arith in
     (λ i. take (long i) (drop (e i * 6 + 1) wordTable)) ∙ letters-at w
@@ -24,17 +25,9 @@ module _ (c : tie.After-place) where
   size : c .before .size .result ≤ 5
   size = omega (arith, c .before .size .ensures, word-short (c .before .before .before .before .args .w))
 
-  letters : take (c .place .result * 6 + 1 + c .before .size .result - (c .place .result * 6 + 1)) (drop (c .place .result * 6 + 1) wordTable) ≡ spelling (c .before .before .before .before .args .w)
+  letters : take (c .place .result * 6 + 1 + c .before .size .result - (c .place .result * 6 + 1))
+      (drop (c .place .result * 6 + 1) wordTable) ≡ spelling (c .before .before .before .before .args .w)
   letters = part-is _ _ _ (c .place .ensures) (c .before .size .ensures)
-
-slice-aggregate-size : tie.Need-slice-aggregate-size
-slice-aggregate-size c = search needs
-
-size-requires : tie.Need-size-requires
-size-requires c κs = search needs
-
-place-requires : tie.Need-place-requires
-place-requires c κs = search needs
 
 mul-first : tie.Need-mul-first
 mul-first c = omega (arith, row c)
@@ -45,12 +38,6 @@ add-first c = omega (arith, row c)
 add-last : tie.Need-add-last
 add-last c = omega (arith, row c, size c)
 
-sub-text : tie.Need-sub-text
-sub-text c = search needs
-
-part-text-start : tie.Need-part-text-start
-part-text-start c = search needs
-
 part-text-end : tie.Need-part-text-end
 part-text-end c = omega (arith, row (c .before .before), size (c .before .before))
 
@@ -59,11 +46,10 @@ text-requires c κs =
     let a = c .before .before .before in
     room-as (a .before .before .before .before .pre) (sym (letters a))
 
-same-length : tie.Need-same-length
-same-length c = search needs
-
 returns : tie.Need-returns
-returns c = emits-as (sym (letters (c .before .before .before .before .before .before))) (c .before .before .text .ensures)
+returns c = emits-as (sym (letters (c .before .before .before .before .before .before)))
+    (c .before .before .text .ensures)
 
 pub word-spec : {M : Type 1} → statement M
-word-spec = tie.close (tie.spec slice-aggregate-size size-requires place-requires mul-first add-first add-last sub-text part-text-start part-text-end text-requires same-length returns)
+word-spec = tie.close (tie.spec (λ c. search needs) (λ c κs. search needs) (λ c κs. search needs) mul-first add-first
+    add-last (λ c. search needs) (λ c. search needs) part-text-end text-requires (λ c. search needs) returns)

@@ -13,11 +13,8 @@ entry-requires c κs = search (needs, word-second)
 closed-requires : tie.Need-closed-requires
 closed-requires c κs = search (needs, word-third)
 
-same-length : tie.Need-same-length
-same-length c = search needs
-
 returns : tie.Need-returns
 returns c = search (needs, word-whole)
 
 pub word-line-spec : {M : Type 1} → statement M
-word-line-spec = tie.close (tie.spec opened-requires entry-requires closed-requires same-length returns)
+word-line-spec = tie.close (tie.spec opened-requires entry-requires closed-requires (λ c. search needs) returns)

@@ -9,16 +9,21 @@ route-lines-requires : tie.Need-route-lines-requires
 route-lines-requires c κs = (search needs, search (needs, text-first))
 
 route-lines-requires-2 : tie.Need-route-lines-requires-2
-route-lines-requires-2 c κs = let a = c .before .before .before in let s = a .before .before .before .before in (search needs, text-second (jobOf (s .args .old) (s .args .new) (s .args .done .now)) _ _ _ _ (s .pre .1) (a .route-lines .ensures))
+route-lines-requires-2 c κs = let a = c .before .before .before in let s =
+    a .before .before .before .before in (
+      search needs,
+      text-second (jobOf (s .args .old) (s .args .new) (s .args .done .now)) _ _ _ _ (s .pre .1)
+          (a .route-lines .ensures),
+    )
 
 job-lines-requires : tie.Need-job-lines-requires
-job-lines-requires c κs = let b = c .before .before .before in let a = b .before .before .before .before in let s = a .before .before .before .before in text-third (jobOf (s .args .old) (s .args .new) (s .args .done .now)) _ _ _ _ _ _ (s .pre .1) (a .route-lines .ensures) (b .route-lines2 .ensures)
-
-same-length : tie.Need-same-length
-same-length c = search needs
+job-lines-requires c κs = let b = c .before .before .before in let a = b .before .before .before .before in let s =
+    a .before .before .before .before in text-third (jobOf (s .args .old) (s .args .new) (s .args .done .now)) _ _ _ _ _
+    _ (s .pre .1) (a .route-lines .ensures) (b .route-lines2 .ensures)
 
 returns : tie.Need-returns
 returns c = search (needs, text-whole)
 
 pub text-spec : {M : Type 1} → statement M
-text-spec = tie.close (tie.spec route-lines-requires route-lines-requires-2 job-lines-requires same-length returns)
+text-spec = tie.close (tie.spec route-lines-requires route-lines-requires-2 job-lines-requires (λ c. search needs)
+    returns)

@@ -28,33 +28,20 @@ module _ (c : tie.Else1) where
       (full (start .args .new) _ (start .good .1 .0))
       (ap (λ (o : Outcome). eqb (o .number) 0) (sym (c .before .before .check-routes .ensures)) ∙ passes)
 
-check-routes-requires : tie.Need-check-routes-requires
-check-routes-requires c κs = search needs
-
-passed-requires : tie.Need-passed-requires
-passed-requires c κs = search needs
-
 returns : tie.Need-returns
 returns c =
     let a = c .before .before .before .before .before .args in
     let j = jobOf (a .old) (a .new) (a .done .now) in
-    let e = sym (c .before .passed .ensures) ∙ not-true _ (c .if1 .taken) in
-    (refused-answer j _ (c .before .before .check-routes .ensures) e _, refused-out j _ (c .before .before .check-routes .ensures) e _)
+    let e = sym (c .before .passed .ensures) ∙ not-true _ (c .if1 .taken) in (
+      refused-answer j _ (c .before .before .check-routes .ensures) e _,
+      refused-out j _ (c .before .before .check-routes .ensures) e _,
+    )
 
 write-copied-requires : tie.Need-write-copied-requires
 write-copied-requires c κs = fits (c .before .before)
 
-same-length : tie.Need-same-length
-same-length c = search needs
-
-returns-2 : tie.Need-returns-2
-returns-2 c = search needs
-
 text-requires : tie.Need-text-requires
 text-requires c κs = let f = fits (c .before .before) in (f, any-room _ _ _ f _ (c .before .if2 .left))
-
-same-length-2 : tie.Need-same-length-2
-same-length-2 c = search needs
 
 returns-3 : tie.Need-returns-3
 returns-3 c =
@@ -64,4 +51,5 @@ returns-3 c =
     (direct-answer _ _ _ f _ (test .if2 .left) _ _ w, direct-out _ _ _ f _ (test .if2 .left) _ _ w)
 
 pub write-spec : {M : Type 1} → statement M
-write-spec = tie.close (tie.spec check-routes-requires passed-requires returns write-copied-requires same-length returns-2 text-requires same-length-2 returns-3)
+write-spec = tie.close (tie.spec (λ c κs. search needs) (λ c κs. search needs) returns write-copied-requires
+    (λ c. search needs) (λ c. search needs) text-requires (λ c. search needs) returns-3)
