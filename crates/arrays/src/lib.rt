@@ -1,9 +1,9 @@
 // The operations over lent lists, lent the first records of two arrays: the first n of `a` and the first m of `b`. (A local that is a lent list of
 // records takes a walk by hand, so a program calls these.)
 use answering::Judged;
-use job::Ran;
 use lent::Counts;
 use route::Step;
+use running::Ran;
 use slice::Sliced;
 use trying::Tried;
 use writer::Wrote;
@@ -11,7 +11,7 @@ ghost use mathlib.Core.Path.{_≡_};
 ghost use Prim.Native.Nat.{_≤_};
 ghost use mathlib.Core.List.{_++_};
 ghost use lib.ListN.{length, take, drop};
-ghost use Rattle.job.specs.Run.{ran};
+ghost use Rattle.running.specs.Run.{ran};
 ghost use Rattle.slice.specs.Table.{sliced};
 ghost use Rattle.trying.specs.Try.{tried};
 ghost use Rattle.judging.specs.Judge.{judged, workAfter};

@@ -16,7 +16,7 @@ pub fn fire(nums: &[u64], at: usize, o: &mut [u8; 65536], n: usize) -> usize {
 fn run(f: Routes, o: &mut [u8; 65536], n: usize) -> usize {
     let done = f.done;
     let k = counts::names(f.len, &done);
-    let r = job::runs::run(f.old, f.new, &done[..k]);
+    let r = running::routes::run(f.old, f.new, &done[..k]);
     drive_answers::marked(o, n, r.number, r.second, r.marking)
 }
 

@@ -8,7 +8,7 @@ use Rattle.route.specs.Net.{netRow}
 use Rattle.version.specs.Limits.{nameFits}
 use Rattle.job.specs.Lines.{placesFit, stepFits, variableList, placeList, listsFit, among, stepRow, stepRows, routeRows}
 use Rattle.job.specs.Lines.{doneRow, doneRows, lineRows, checked}
-use Rattle.job.specs.Run.{runFrom, ran, performed}
+use Rattle.running.specs.Run.{runFrom, ran, performed}
 use Rattle.slice.specs.Order.{inTurn}
 use Rattle.slice.specs.Precedence.{clash, comesAfter, row}
 use Rattle.slice.specs.Slice.{variables, sweepStep, sweep, keptMask}

@@ -19,8 +19,6 @@ use Rattle.route.specs.declared.Route.{Route}
 use Rattle.route.specs.declared.Step.{Step}
 use Rattle.job.specs.Job.{Job, jobOf, flatJob, newLine}
 use Rattle.job.specs.Lines.{placesFit, stepRow, stepRows, routeRows, lineRows, checked}
-use Rattle.job.specs.Run.{ran}
-use Rattle.job.specs.declared.Ran.{Ran}
 
 -- the job with other lists of steps
 abbrev withSteps : Job → List Step → List Step → Job
@@ -181,7 +179,7 @@ module _ (j : Job) where
           ∙ ap f (old-whole (ltb-false 64 (length (j .old)) e))
       go false e false e′ = ap f (short-whole (ltb-false 64 (length (j .old)) e) (ltb-false 64 (length (j .new)) e′))
 
--- ---- rows that follow the lines, and the run
+-- ---- rows that follow the lines
 
 module _ (j k : Job) (r : Refused j k) where
   pub rows-alike : (b c : List Outcome) → first (lineRows j ++ b) ≡ first (lineRows k ++ c)
@@ -193,21 +191,13 @@ module _ (j k : Job) (r : Refused j k) where
   pub rows-off : (c : List Outcome) → eqb (first (lineRows k ++ c) .number) 0 ≡ false
   rows-off c = ap (λ (o : Outcome). eqb (o .number) 0) (rows-refuse (lineRows k) c (r .refused)) ∙ r .refused
 
-  checked-alike : checked j ≡ checked k
+  pub checked-alike : checked j ≡ checked k
   unfolding checked
   checked-alike = rows-alike _ _
 
-  checked-off : eqb (checked k .number) 0 ≡ false
+  pub checked-off : eqb (checked k .number) 0 ≡ false
   unfolding checked
   checked-off = rows-off _
-
-  pub ran-alike : ran j ≡ ran k
-  unfolding ran
-  ran-alike = rw (checked-alike, checked-off)
-
-  pub ran-off : eqb (ran k .number) 0 ≡ false
-  unfolding ran
-  ran-off = rw (checked-off) checked-off
 
 -- ---- routes by value, laid as numbers
 
@@ -229,6 +219,3 @@ module _ (old new : Route) (done : List ℕ) (n : ℕ) (a : List ℕ) (m : ℕ) 
 
   pub rows-laid : (o : Outcome) → o ≡ first (lineRows laidJob) → o ≡ first (lineRows (jobOf old new done))
   rows-laid o e = e ∙ same-laid (λ (j : Job). first (lineRows j)) (λ j k r. r .alike)
-
-  pub ran-laid : (r : Ran) → r ≡ ran laidJob → r ≡ ran (jobOf old new done)
-  ran-laid r e = e ∙ same-laid ran ran-alike

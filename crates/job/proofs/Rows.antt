@@ -21,7 +21,7 @@ use Rattle.refusal.proofs.Rows.{head-refuses, head-passes, head-passed, row-ref
 use Rattle.refusal.proofs.Rows.{rows-pass, rows-refuse, rows-passed}
 use Rattle.version.specs.Limits.{scope, nameFits}
 use Rattle.job.specs.Lines.{stepRow, stepRows, routeRows, doneRow, doneRows, lineRows, placesFit, LinesPass}
-use Rattle.job.specs.Run.{AllNamed}
+use Rattle.job.specs.Lines.{AllNamed}
 use Rattle.job.specs.Job.{Job, flatJob, afterSteps, newLine, jobLine}
 
 -- ---- the done lines

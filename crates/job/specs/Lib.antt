@@ -1,5 +1,4 @@
--- A job: two routes and a done list, the rows on its lines, and its run on the old route.
+-- A job: two routes and a done list and the rows on its lines.
 pub mod Job
 pub mod Lines
-pub mod Run
 pub mod Alone

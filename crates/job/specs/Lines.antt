@@ -2,10 +2,10 @@
 use mathlib.Core.Path.{_≡_}
 use mathlib.Core.Bool.{Bool, false, not, _&&_, _||_}
 use mathlib.Core.List.{List, [], _∷_, _++_}
-use Prim.Native.Nat.{ℕ, _+_}
+use Prim.Native.Nat.{ℕ, _+_, _≤_, _<_}
 use lib.Dec.{eqb, ltb, leb}
 use lib.Bits.{bitOr}
-use lib.ListN.{length}
+use lib.ListN.{length, getD}
 use Rattle.mask.specs.Mask.{below, within, count}
 use Rattle.refusal.specs.Rows.{unless, first}
 use Rattle.version.specs.Limits.{scope, nameFits}
@@ -84,3 +84,7 @@ checked j =
     first
     (lineRows j
     ++ (netRow 1 (j .oldPlaces) (j .old) ∷ netRow (newLine j) (j .newPlaces) (j .new) ∷ []))
+
+-- no name is 0: a step that a route lacks is blank, and no other has the name 0
+abbrev pub AllNamed : List ℕ → Type 0
+AllNamed done = (i : ℕ) → i < length done → 1 ≤ getD done i 0

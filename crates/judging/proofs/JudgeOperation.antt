@@ -13,7 +13,7 @@ use Rattle.route.specs.Flat.{stepsIn}
 use Rattle.route.specs.declared.Step.{Step}
 use Rattle.job.specs.Job.{Job, jobLine, newStart}
 use Rattle.job.specs.Lines.{lineRows}
-use Rattle.job.specs.Run.{ran, performed}
+use Rattle.running.specs.Run.{ran, performed}
 use Rattle.matching.specs.Straight.{runsStraight}
 use Rattle.matching.specs.Fit.{keptOf}
 use Rattle.matching.specs.KeptRows.{keptRows, rowsTo12}

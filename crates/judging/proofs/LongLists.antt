@@ -9,9 +9,10 @@ use Rattle.route.specs.Steps.{stepsOf}
 use Rattle.route.specs.Flat.{Laid}
 use Rattle.route.specs.declared.Route.{Route}
 use Rattle.job.specs.Job.{Job, jobOf}
-use Rattle.job.specs.Run.{ran}
-use Rattle.job.specs.declared.Ran.{Ran}
-use Rattle.job.proofs.LongLists.{Refused, ran-alike, ran-off, laidJob, same-laid}
+use Rattle.running.specs.Run.{ran}
+use Rattle.running.specs.declared.Ran.{Ran}
+use Rattle.job.proofs.LongLists.{Refused, laidJob, same-laid}
+use Rattle.running.proofs.LongLists.{ran-alike, ran-off}
 use Rattle.answering.specs.Answer.{judgeStopped}
 use Rattle.judging.specs.Judge.{judged, searched, workAfter}
 use Rattle.answering.specs.declared.Judged.{Judged}

@@ -9,7 +9,7 @@ use lib.ListN.{length, drop, replicate}
 use Rattle.mask.specs.Mask.{below}
 use Rattle.route.specs.declared.Step.{Step}
 use Rattle.job.specs.Job.{Job, jobLine, newStart}
-use Rattle.job.specs.Run.{ran, performed}
+use Rattle.running.specs.Run.{ran, performed}
 use Rattle.slice.specs.Order.{inTurn}
 use Rattle.matching.specs.Straight.{runsStraight}
 use Rattle.matching.specs.Fit.{keptOf}

@@ -9,8 +9,9 @@ use lib.ListN.{length}
 use Rattle.route.specs.declared.Step.{Step}
 use Rattle.records.specs.Loaded.{loaded}
 use Rattle.job.specs.Job.{Job, jobOf}
-use Rattle.job.specs.Run.{ran}
-use Rattle.job.proofs.LongLists.{Refused, rows-alike, rows-off, ran-alike, ran-off}
+use Rattle.running.specs.Run.{ran}
+use Rattle.job.proofs.LongLists.{Refused, rows-alike, rows-off}
+use Rattle.running.proofs.LongLists.{ran-alike, ran-off}
 use Rattle.slice.specs.Table.{sliced}
 use Rattle.trying.specs.Try.{tried}
 use Rattle.judging.specs.Judge.{judged, searched, workAfter}

@@ -1,14 +1,14 @@
 // The operations over lent lists of step records: each loads both lists and calls the operation over routes by value.
 use answering::Judged;
-use job::Ran;
 use records::load;
 use route::Step;
+use running::Ran;
 use slice::Sliced;
 use trying::Tried;
 use writer::Wrote;
 ghost use mathlib.Core.Path.{_≡_};
 ghost use lib.ListN.{length};
-ghost use Rattle.job.specs.Run.{ran};
+ghost use Rattle.running.specs.Run.{ran};
 ghost use Rattle.slice.specs.Table.{sliced};
 ghost use Rattle.trying.specs.Try.{tried};
 ghost use Rattle.judging.specs.Judge.{judged, workAfter};
@@ -33,7 +33,7 @@ pub fn run(old_places: u64, old: &[Step], new_places: u64, new: &[Step], done: &
 {
     let a = load(old_places, old);
     let b = load(new_places, new);
-    job::runs::run(a, b, done)
+    running::routes::run(a, b, done)
 }
 
 pub fn slice(old_places: u64, old: &[Step], new_places: u64, new: &[Step], done: &[u32]) -> Sliced

@@ -21,12 +21,12 @@ use Rattle.emit.proofs.Decimals.{entry-length}
 use Rattle.emit.proofs.Over.{over-map}
 use Rattle.route.specs.declared.Step.{Step}
 use Rattle.job.specs.Job.{Job, jobLine, newStart}
-use Rattle.job.specs.Run.{ran, performed}
-use Rattle.job.proofs.RunLine.{ran-fits}
+use Rattle.running.specs.Run.{ran, performed}
+use Rattle.running.proofs.RunLine.{ran-fits}
 use Rattle.slice.specs.Slice.{variables}
 use Rattle.slice.specs.Precedence.{row, comesAfter}
 use Rattle.slice.specs.Order.{inTurn}
-use Rattle.job.proofs.Performed.{length-performed}
+use Rattle.running.proofs.Performed.{length-performed}
 use Rattle.slice.proofs.InTurn.{getD-map-inTurn}
 use Rattle.slice.proofs.Laws.{row-exact}
 use Rattle.matching.specs.Straight.{fireAll, stepsOn, runsStraight}

@@ -13,7 +13,7 @@ use Rattle.route.specs.Flat.{stepsIn}
 use Rattle.route.specs.declared.Step.{Step}
 use Rattle.route.proofs.ByName.{lookup-name}
 use Rattle.route.proofs.StepList.{length-names, getD-names}
-use Rattle.job.proofs.Performed.{length-performed, performed-at}
+use Rattle.running.proofs.Performed.{length-performed, performed-at}
 use Rattle.matching.specs.Straight.{sameData, sameStep}
 use Rattle.matching.specs.inner.Matched.{matched}
 use Rattle.matching.specs.inner.Matches.{MatchesOf, present}

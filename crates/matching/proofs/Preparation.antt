@@ -15,13 +15,13 @@ use Rattle.route.specs.Flat.{stepsIn, Holds}
 use Rattle.route.specs.declared.Step.{Step}
 use Rattle.job.specs.Job.{Job, flatJob, jobLine, newStart}
 use Rattle.job.specs.Lines.{lineRows, LinesPass}
-use Rattle.job.specs.Run.{stopped, ran, performed, BegunOf}
-use Rattle.job.specs.declared.Ran.{Ran}
-use Rattle.job.specs.declared.Begun.{Begun}
+use Rattle.running.specs.Run.{stopped, ran, performed, BegunOf}
+use Rattle.running.specs.declared.Ran.{Ran}
+use Rattle.running.specs.declared.Begun.{Begun}
 use Rattle.job.proofs.Rows.{pass-fits}
-use Rattle.job.proofs.RunLine.{ran-refused, checked-lines, ran-fits}
-use Rattle.job.proofs.Performed.{length-performed, holds-performed, length-holds}
-use Rattle.job.proofs.KnownNames.{performed-names}
+use Rattle.running.proofs.RunLine.{ran-refused, checked-lines, ran-fits}
+use Rattle.running.proofs.Performed.{length-performed, holds-performed, length-holds}
+use Rattle.running.proofs.KnownNames.{performed-names}
 use Rattle.slice.specs.Slice.{variables}
 use Rattle.slice.proofs.Laws.{kept-below}
 use Rattle.matching.specs.Fit.{keptOf}

@@ -10,7 +10,7 @@ use Rattle.refusal.specs.Rows.{refuse, unless, first}
 use Rattle.route.specs.declared.Step.{Step}
 use Rattle.refusal.specs.declared.Outcome.{Outcome}
 use Rattle.job.specs.Job.{Job, jobLine, newStart}
-use Rattle.job.specs.Run.{ran, performed}
+use Rattle.running.specs.Run.{ran, performed}
 use Rattle.search.specs.Search.{isSome}
 use Rattle.matching.specs.Straight.{sameStep, runsStraight}
 use Rattle.matching.specs.Fit.{keptOf}

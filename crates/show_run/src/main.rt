@@ -10,7 +10,7 @@ mod letters;
 mod limits;
 
 fn say(label: &[u8], old: Route, new: Route, done: &[u32]) {
-    let r = job::runs::run(old, new, done);
+    let r = running::routes::run(old, new, done);
     lines::answer(label, r.number, r.second, r.marking);
 }
 

@@ -14,12 +14,13 @@ use Rattle.route.specs.Flat.{stepsIn, Laid}
 use Rattle.route.specs.declared.Route.{Route}
 use Rattle.job.specs.Job.{Job, jobOf, flatJob}
 use Rattle.job.specs.Lines.{lineRows, LinesPass}
-use Rattle.job.specs.Run.{ran, performed, BegunOf}
-use Rattle.job.specs.declared.Ran.{Ran}
-use Rattle.job.specs.declared.Begun.{Begun}
-use Rattle.job.proofs.LongLists.{Refused, ran-alike, ran-off, same-short, laid-short}
-use Rattle.job.proofs.Performed.{length-performed}
-use Rattle.job.proofs.RunLine.{ran-refused, checked-lines, ran-fits}
+use Rattle.running.specs.Run.{ran, performed, BegunOf}
+use Rattle.running.specs.declared.Ran.{Ran}
+use Rattle.running.specs.declared.Begun.{Begun}
+use Rattle.job.proofs.LongLists.{Refused, same-short, laid-short}
+use Rattle.running.proofs.LongLists.{ran-alike, ran-off}
+use Rattle.running.proofs.Performed.{length-performed}
+use Rattle.running.proofs.RunLine.{ran-refused, checked-lines, ran-fits}
 use Rattle.slice.specs.Slice.{variables, keptMask}
 use Rattle.slice.specs.Table.{table, slicedStopped, sliced}
 use Rattle.slice.specs.declared.Sliced.{Sliced}

@@ -6,7 +6,7 @@ use lib.Dec.{eqb}
 use lib.ListN.{replicate}
 use Rattle.route.specs.declared.Step.{Step}
 use Rattle.job.specs.Job.{Job}
-use Rattle.job.specs.Run.{ran, performed}
+use Rattle.running.specs.Run.{ran, performed}
 use Rattle.slice.specs.Slice.{variables, keptMask}
 use Rattle.slice.specs.Precedence.{row}
 use Rattle.slice.specs.Order.{inTurn}

@@ -13,7 +13,7 @@ use borrow.Author.Tests.{eqb-true, eq-eqb}
 use Rattle.mask.proofs.Truth.{both}
 use Rattle.route.specs.declared.Step.{Step}
 use Rattle.job.specs.Job.{Job, jobLine, newStart}
-use Rattle.job.specs.Run.{ran}
+use Rattle.running.specs.Run.{ran}
 use Rattle.slice.specs.Order.{inTurn}
 use Rattle.search.specs.Search.{isSome}
 use Rattle.matching.specs.Straight.{sameStep, fireAll, stepsOn, runsStraight}

@@ -17,7 +17,7 @@ use Rattle.mask.specs.Mask.{below}
 use Rattle.mask.proofs.Truth.{split}
 use Rattle.route.specs.declared.Step.{Step}
 use Rattle.job.specs.Job.{Job, jobLine, newStart}
-use Rattle.job.specs.Run.{ran}
+use Rattle.running.specs.Run.{ran}
 use Rattle.slice.specs.Order.{inTurn}
 use Rattle.matching.specs.Straight.{fireAll, stepsOn, runsStraight}
 use Rattle.matching.specs.Fit.{keptOf, FitAt}

@@ -12,7 +12,7 @@ use borrow.Author.Tests.{le-leb, eq-eqb, ne-eqb, eqb-true, eqb-false}
 use Rattle.mask.proofs.Truth.{split}
 use Rattle.refusal.proofs.Rows.{cond-zero, cond-zero-elim}
 use Rattle.job.specs.Job.{Job}
-use Rattle.job.specs.Run.{ran}
+use Rattle.running.specs.Run.{ran}
 use Rattle.facts.specs.Facts.{readOf}
 use Rattle.trying.specs.Try.{tried, tryStopped}
 use Rattle.trying.specs.declared.Tried.{Tried}

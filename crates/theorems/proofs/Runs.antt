@@ -13,11 +13,11 @@ use Rattle.route.specs.declared.Step.{Step}
 use Rattle.route.proofs.ByName.{lookup-name}
 use Rattle.route.proofs.StepList.{getD-names}
 use Rattle.job.specs.Job.{Job, jobLine, oldStart}
-use Rattle.job.specs.Run.{runFrom, ran, performed}
-use Rattle.job.specs.declared.Ran.{Ran}
-use Rattle.job.proofs.KnownNames.{first-fires, ran-is, performed-names}
-use Rattle.job.proofs.Performed.{length-performed, performed-at}
-use Rattle.job.proofs.RunLine.{ran-fits}
+use Rattle.running.specs.Run.{runFrom, ran, performed}
+use Rattle.running.specs.declared.Ran.{Ran}
+use Rattle.running.proofs.KnownNames.{first-fires, ran-is, performed-names}
+use Rattle.running.proofs.Performed.{length-performed, performed-at}
+use Rattle.running.proofs.RunLine.{ran-fits}
 use Rattle.slice.specs.Order.{inTurn, times}
 use Rattle.slice.proofs.InTurn.{times-inTurn}
 use Rattle.matching.specs.Straight.{fireAll}

@@ -11,7 +11,7 @@ use Rattle.route.specs.Firing.{fireNext}
 use Rattle.route.specs.Steps.{lookup}
 use Rattle.route.specs.declared.Step.{Step}
 use Rattle.job.specs.Job.{Job, oldStart, newStart}
-use Rattle.job.specs.Run.{ran, performed}
+use Rattle.running.specs.Run.{ran, performed}
 use Rattle.slice.specs.Slice.{variables}
 use Rattle.slice.specs.Order.{inTurn, times}
 use Rattle.matching.specs.Fit.{Fit}

@@ -16,10 +16,11 @@ use Rattle.route.specs.declared.Marking.{Marking}
 use Rattle.refusal.specs.declared.Outcome.{Outcome}
 use Rattle.job.specs.Job.{Job, jobOf, flatJob, jobLine, newStart}
 use Rattle.job.specs.Lines.{lineRows}
-use Rattle.job.specs.Run.{ran, performed}
-use Rattle.job.specs.declared.Ran.{Ran}
-use Rattle.job.proofs.LongLists.{Refused, ran-alike, ran-off, same-laid}
-use Rattle.job.proofs.RunLine.{ran-line}
+use Rattle.running.specs.Run.{ran, performed}
+use Rattle.running.specs.declared.Ran.{Ran}
+use Rattle.job.proofs.LongLists.{Refused, same-laid}
+use Rattle.running.proofs.LongLists.{ran-alike, ran-off}
+use Rattle.running.proofs.RunLine.{ran-line}
 use Rattle.slice.specs.Order.{inTurn}
 use Rattle.slice.specs.Table.{table}
 use Rattle.matching.specs.Straight.{fireAll, runsStraight}

@@ -13,7 +13,7 @@ use Rattle.refusal.specs.Rows.{pass, refuse}
 use Rattle.route.specs.declared.Step.{Step}
 use Rattle.refusal.specs.declared.Outcome.{Outcome}
 use Rattle.job.specs.Job.{Job, jobLine, newStart}
-use Rattle.job.specs.Run.{ran, performed}
+use Rattle.running.specs.Run.{ran, performed}
 use Rattle.slice.specs.Precedence.{comesAfter}
 use Rattle.slice.specs.Order.{inTurn, noneOf}
 use Rattle.matching.specs.Straight.{fireAll, runsStraight}

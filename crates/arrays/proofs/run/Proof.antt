@@ -3,7 +3,7 @@ use contract.Running.{givenOf, tables, tablesOf}
 use denote.Struct.Laws as LL
 use denote.Triple.Spec.{tripleOf}
 use denote.Triple.Table.{entered, cited}
-use Rattle.job.specs.Run.{ran}
+use Rattle.running.specs.Run.{ran}
 use Rattle.job.proofs.Ran as R
 use Rattle.job.proofs.Ran.Laws as R′
 use Rattle.lent.specs.Lent.{lentJob}

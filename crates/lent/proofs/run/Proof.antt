@@ -1,15 +1,15 @@
--- `run` meets its contract: both lists are loaded and `job::runs::run` is called (OverLists).
+-- `run` meets its contract: both lists are loaded and `running::routes::run` is called (OverLists).
 use mathlib.Core.Path.{refl}
 use contract.Running.{givenOf, tables, tablesOf}
 use denote.Struct.Laws as LL
 use denote.Triple.Spec.{tripleOf}
 use denote.Triple.Table.{entered, cited}
 use Rattle.job.specs.Job.{jobOf}
-use Rattle.job.specs.Run.{ran}
+use Rattle.running.specs.Run.{ran}
 use Rattle.job.proofs.Ran as R
 use Rattle.job.proofs.Ran.Laws as R′
-use Rattle.job.proofs.runs.run.Symbol as core
-use Rattle.job.proofs.runs.run.Met as core-thm
+use Rattle.running.proofs.routes.run.Symbol as core
+use Rattle.running.proofs.routes.run.Met as core-thm
 use Rattle.records.proofs.load.Symbol as load
 use Rattle.records.proofs.load.Met as load-thm
 use Rattle.lent.specs.Lent.{lentJob}

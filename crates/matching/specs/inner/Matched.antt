@@ -8,7 +8,7 @@ use Rattle.route.specs.Steps.{names}
 use Rattle.route.specs.Flat.{Holds}
 use Rattle.route.specs.declared.Step.{Step}
 use Rattle.job.specs.Job.{Job, jobLine, newStart}
-use Rattle.job.specs.Run.{performed, ran}
+use Rattle.running.specs.Run.{performed, ran}
 use Rattle.slice.specs.Slice.{variables}
 use Rattle.matching.specs.Straight.{fireAll, runsStraight}
 use Rattle.matching.specs.Fit.{keptOf}

@@ -11,7 +11,7 @@ use Rattle.mask.specs.Mask.{collect}
 use Rattle.route.specs.Steps.{blank, names}
 use Rattle.route.specs.Flat.{stepsIn}
 use Rattle.route.specs.declared.Step.{Step}
-use Rattle.job.specs.Run.{AllNamed}
+use Rattle.job.specs.Lines.{AllNamed}
 use Rattle.slice.specs.Slice.{variables}
 use Rattle.matching.specs.Straight.{sameStep}
 use Rattle.matching.specs.Fit.{keptOf}

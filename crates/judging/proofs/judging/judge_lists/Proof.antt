@@ -1,6 +1,6 @@
 -- `crate::judging::judge_lists`: row 14, then the lines, and where they pass the rest.
 use borrow.Author.Needs.{needs}
-use Rattle.job.proofs.RunLine.{lines-pass}
+use Rattle.running.proofs.RunLine.{lines-pass}
 use Rattle.judging.proofs.JudgeOperation.{judged-short, work-short, judged-line, work-line}
 use Rattle.judging.proofs.judging.judge_lists.Statement.{statement}
 use Rattle.judging.proofs.judging.judge_lists.Tie as tie

@@ -1,7 +1,7 @@
 -- `crate::matches::prepare`: the rows from 6 to 9, and else the occurrences against the new route's steps for them.
 use borrow.Author.Needs.{needs}
 use Rattle.job.proofs.Rows.{lists-fit}
-use Rattle.job.proofs.Performed.{holds-fits, holds-room, holds-count}
+use Rattle.running.proofs.Performed.{holds-fits, holds-room, holds-count}
 use Rattle.matching.proofs.Preparation.{prepared-refused, prepared-weighed, lent-few, lent-alike}
 use Rattle.matching.proofs.matches.prepare.Statement.{statement}
 use Rattle.matching.proofs.matches.prepare.Tie as tie

@@ -1,6 +1,6 @@
 -- `crate::trying::try_lists`: the lines, and where they pass the rest.
 use borrow.Author.Needs.{needs}
-use Rattle.job.proofs.RunLine.{lines-pass}
+use Rattle.running.proofs.RunLine.{lines-pass}
 use Rattle.trying.proofs.TryRows.{tried-line}
 use Rattle.trying.proofs.trying.try_lists.Statement.{statement}
 use Rattle.trying.proofs.trying.try_lists.Tie as tie

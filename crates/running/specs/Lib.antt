@@ -1,0 +1,2 @@
+-- The run of a job on its old route.
+pub mod Run
