@@ -18,7 +18,7 @@ ghost use Rattle.answering.specs.Answer.{padded, afterOf, writerOf, judg
 ghost use Rattle.answering.specs.inner.Listed.{AnswersList};
 
 // The rows of the kept, with the kept alone.
-pub fn after_rows(rows: &[u64; 64], kept: u64) -> [u64; 64]
+fn after_rows(rows: &[u64; 64], kept: u64) -> [u64; 64]
     ensures { λ r. ⌜ ((l : List Step) → now (rows .entry) ≡ table l → r ≡ map (afterOf l kept) (inTurn 0 64)) ⌝ }
 {
     let mut after = [0u64; 64];
@@ -46,7 +46,7 @@ fn mark_writers(writers: &mut [u8; 32], hit: u32, number: u8)
 }
 
 // The last writer of each of the variables: from the last occurrence to the first, over the variables that no later one writes.
-pub fn last_writers(occurrences: &[u64], vars: u32) -> [u8; 32]
+fn last_writers(occurrences: &[u64], vars: u32) -> [u8; 32]
     requires { ⌜ length (stepsIn (now occurrences)) ≤ 64 ⌝ }
     ensures { λ r. ⌜ ((new : List Step) → vars ≡ variables new → r ≡ map (writerOf new (stepsIn (now (occurrences .entry)))) (inTurn 0 32)) ⌝ }
 {

@@ -10,7 +10,7 @@ use slice::Sliced;
 use writer::Wrote;
 ghost use Prim.Native.Nat.{_≤_};
 
-pub mod out;
+mod out;
 pub mod runs;
 
 // An answer that is a refusal or a marking.

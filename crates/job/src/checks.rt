@@ -82,7 +82,7 @@ fn check_steps(places: u64, steps: &[u64], line: u64) -> Outcome
 }
 
 // A route's lines from its head on; a route with no step is refused where the next head would stand.
-pub fn check_route(places: u64, steps: &[u64], line: u64) -> Outcome
+fn check_route(places: u64, steps: &[u64], line: u64) -> Outcome
     requires { ⌜ line < 1000 ⌝ }
     ensures { λ o. ⌜ o ≡ first (routeRows line places (stepsIn (now (steps .entry)))) ⌝ }
 {

@@ -75,7 +75,7 @@ fn judge_kept(
 }
 
 // What judge answers in a job that no row to 12 refuses.
-pub fn judge_prepared(p: Prepared, occurrences: &[u64], matches: &[u64], work: &mut [u8]) -> Judged
+fn judge_prepared(p: Prepared, occurrences: &[u64], matches: &[u64], work: &mut [u8]) -> Judged
     requires { ⌜ Passing p (stepsIn (now occurrences)) (stepsIn (now matches)) ⌝ }
     requires { ⌜ 8192 ≤ length (now work) ⌝ }
     ensures { λ r. ⌜ AnswersRows p (stepsIn (now (occurrences .entry))) (stepsIn (now (matches .entry))) r ⌝ }
@@ -123,7 +123,7 @@ pub fn judge_checked(
 }
 
 // Judge over lists of steps.
-pub fn judge_lists(
+fn judge_lists(
     old_places: u64,
     old: &[u64],
     new_places: u64,

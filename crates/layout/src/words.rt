@@ -1,8 +1,7 @@
 // The one table of the nine words.
 use crate::Word;
 ghost use mathlib.Core.Path.{_≡_};
-ghost use Prim.Native.Nat.{_<_};
-ghost use lib.ListN.{length, getD};
+ghost use lib.ListN.{length};
 ghost use Rattle.layout.specs.Words.{wordTable, spelling, numberOf};
 
 // Six bytes for each word: its length, and its letters filled up with 0. A reader or a writer copies the table once and lends it.
@@ -86,14 +85,4 @@ pub fn size(table: &[u8], w: Word) -> usize
 {
     let n = place(w);
     table[n * 6] as usize
-}
-
-// The letter of a word, from 0.
-pub fn letter(table: &[u8], w: Word, k: usize) -> u8
-    requires { ⌜ now table ≡ wordTable ⌝ }
-    requires { ⌜ k < 5 ⌝ }
-    ensures { λ r. ⌜ r ≡ getD (spelling w) k 0 ⌝ }
-{
-    let n = place(w);
-    table[n * 6 + 1 + k]
 }

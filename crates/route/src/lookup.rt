@@ -8,7 +8,7 @@ ghost use lib.ListN.{length};
 ghost use Rattle.route.specs.Steps.{names, position, Hinted};
 ghost use Rattle.route.specs.Flat.{stepsIn};
 
-pub fn find(steps: &[u64], name: u32) -> Found
+fn find(steps: &[u64], name: u32) -> Found
     ensures { λ r. ⌜ r ≡ position name (names (stepsIn (now (steps .entry)))) ⌝ }
 {
     let n = flat::count(steps);

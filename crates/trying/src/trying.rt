@@ -51,7 +51,7 @@ fn straight_end(straight: End, order: &[u8], len: usize) -> End
 }
 
 // After row 12: the straight list first, and then the rows.
-pub fn try_prepared(p: Prepared, occurrences: &[u64], matches: &[u64], order: &[u8]) -> Tried
+fn try_prepared(p: Prepared, occurrences: &[u64], matches: &[u64], order: &[u8]) -> Tried
     requires { ⌜ length (stepsIn (now occurrences)) ≤ 64 ⌝ }
     requires { ⌜ ((i : ℕ) → has (p .kept) i ≡ true → i < length (stepsIn (now matches))) ⌝ }
     ensures { λ r. ⌜ ((from : ℕ) (new : List Step) → TryReady from new (stepsIn (now (occurrences .entry))) p (stepsIn (now (matches .entry))) → r ≡ tryList from new (stepsIn (now (occurrences .entry))) (now (order .entry))) ⌝ }
@@ -100,7 +100,7 @@ pub fn try_checked(
 }
 
 // Try over lists of steps.
-pub fn try_lists(
+fn try_lists(
     old_places: u64,
     old: &[u64],
     new_places: u64,

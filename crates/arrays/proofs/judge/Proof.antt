@@ -5,8 +5,8 @@ use denote.Struct.Laws as LL
 use denote.Triple.Spec.{tripleOf}
 use denote.Triple.Table.{entered, cited}
 use Rattle.judging.specs.Judge.{judged, workAfter}
-use Rattle.judging.proofs.Judged as R
-use Rattle.judging.proofs.Judged.Laws as R′
+use Rattle.answering.proofs.Judged as R
+use Rattle.answering.proofs.Judged.Laws as R′
 use Rattle.lent.specs.Lent.{lentJob}
 use Rattle.lent.proofs.judge.Symbol as over-lists
 use Rattle.lent.proofs.judge.Met as over-lists-thm

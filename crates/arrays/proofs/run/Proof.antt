@@ -4,8 +4,8 @@ use denote.Struct.Laws as LL
 use denote.Triple.Spec.{tripleOf}
 use denote.Triple.Table.{entered, cited}
 use Rattle.running.specs.Run.{ran}
-use Rattle.job.proofs.Ran as R
-use Rattle.job.proofs.Ran.Laws as R′
+use Rattle.running.proofs.Ran as R
+use Rattle.running.proofs.Ran.Laws as R′
 use Rattle.lent.specs.Lent.{lentJob}
 use Rattle.lent.proofs.run.Symbol as over-lists
 use Rattle.lent.proofs.run.Met as over-lists-thm

@@ -10,8 +10,8 @@ use denote.Triple.Table.{entered, cited}
 use denote.Triple.Walked.{needs}
 use Rattle.job.specs.Job.{jobOf}
 use Rattle.judging.specs.Judge.{judged, workAfter}
-use Rattle.judging.proofs.Judged as R
-use Rattle.judging.proofs.Judged.Laws as R′
+use Rattle.answering.proofs.Judged as R
+use Rattle.answering.proofs.Judged.Laws as R′
 use Rattle.judging.proofs.judging.judge.Symbol as core
 use Rattle.judging.proofs.judging.judge.Met as core-thm
 use Rattle.records.proofs.load.Symbol as load

@@ -6,8 +6,8 @@ use denote.Triple.Spec.{tripleOf}
 use denote.Triple.Table.{entered, cited}
 use Rattle.job.specs.Job.{jobOf}
 use Rattle.running.specs.Run.{ran}
-use Rattle.job.proofs.Ran as R
-use Rattle.job.proofs.Ran.Laws as R′
+use Rattle.running.proofs.Ran as R
+use Rattle.running.proofs.Ran.Laws as R′
 use Rattle.running.proofs.routes.run.Symbol as core
 use Rattle.running.proofs.routes.run.Met as core-thm
 use Rattle.records.proofs.load.Symbol as load
@@ -30,4 +30,4 @@ run-spec 𝓤 H 𝓜 𝓖 𝓡 =
     core.name (tablesOf 𝓤 H 𝓜 (tables 𝓤 H 𝓜 𝓡 code.env)) _
     (cited 𝓤 H _ 𝓜 𝓡 code.env load.name load.routine code.calls-records·load (load-thm.met 𝓤 H 𝓜 𝓖 𝓡)) refl
     (λ a b d. ran (jobOf a b d)) (λ p l q m d. ran (lentJob p l q m d)) ran-same
-    (cited 𝓤 H _ 𝓜 𝓡 code.env core.name core.routine code.calls-job·runs·run (core-thm.met 𝓤 H 𝓜 𝓖 𝓡)))
+    (cited 𝓤 H _ 𝓜 𝓡 code.env core.name core.routine code.calls-running·routes·run (core-thm.met 𝓤 H 𝓜 𝓖 𝓡)))
