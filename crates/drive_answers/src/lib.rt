@@ -10,7 +10,7 @@ use slice::Sliced;
 use writer::Wrote;
 ghost use Prim.Native.Nat.{_≤_};
 
-mod out;
+pub mod out;
 pub mod runs;
 
 // An answer that is a refusal or a marking.
@@ -32,7 +32,7 @@ fn figures(o: &mut [u8; 65536], n: usize, r: Judged) -> usize {
 
 // The marking, the rows and the writers.
 fn after(o: &mut [u8; 65536], n: usize, r: Judged) -> usize {
-    let mut m = out::numbers(o, n, &[r.marking.tokens]);
+    let mut m = out::number(o, n, r.marking.tokens);
     let rows = r.after;
     m = out::numbers(o, m, &rows);
     let writers = r.writers;
@@ -65,7 +65,7 @@ fn route(o: &mut [u8; 65536], n: usize, r: Route) -> usize {
 }
 
 fn names(o: &mut [u8; 65536], n: usize, len: usize, done: [u32; 64]) -> usize {
-    let m = out::numbers(o, n, &[len as u64]);
+    let m = out::number(o, n, len as u64);
     out::names(o, m, &done)
 }
 
@@ -91,16 +91,17 @@ pub fn printed(o: &mut [u8; 65536], n: usize, r: Written, work: &[u8], s: &[u8])
 }
 
 pub fn counts(o: &mut [u8; 65536], n: usize, c: Counts) -> usize {
-    let a = [c.number as u64, c.second, c.old_places, c.old_len as u64];
-    let m = out::numbers(o, n, &a);
-    out::numbers(o, m, &[c.new_places, c.new_len as u64, c.done_len as u64])
+    let old = c.old_len as u64;
+    let new = c.new_len as u64;
+    let m = out::numbers(o, n, &[c.number as u64, c.second, c.old_places, old]);
+    out::numbers(o, m, &[c.new_places, new, c.done_len as u64])
 }
 
 // A lent list afterwards: its length, then each record.
 pub fn records(o: &mut [u8; 65536], n: usize, l: [Step; 100], len: usize) -> usize
     requires { ⌜ len ≤ 100 ⌝ }
 {
-    let mut m = out::numbers(o, n, &[len as u64]);
+    let mut m = out::number(o, n, len as u64);
     let mut i = 0;
     while i < len {
         let s = l[i];

@@ -12,4 +12,4 @@ abbrev μ-loop : tie.MeasureT-loop
 
 pub records-spec : {M : Type 1} → statement M
 records-spec = tie.close (tie.spec Inv-loop μ-loop (search needs) (search needs) (search needs) (search needs)
-    (search needs) (search needs) (search needs) (search needs) (search needs) (search needs))
+    (search needs) (search needs) (search needs) (search needs) (search needs))
