@@ -32,13 +32,7 @@ fn try_sheet(sheet: &[u8], nums: &[u64], at: usize, o: &mut [u8; 65536], n: usiz
 }
 
 fn seven() -> Step {
-    Step {
-        name: 7,
-        ins: 7,
-        outs: 7,
-        reads: 7,
-        writes: 7,
-    }
+    Step::of(7, 7, 7, 7, 7)
 }
 
 // What was read, and all three lists, whose numbers were all 7.

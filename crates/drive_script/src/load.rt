@@ -49,28 +49,18 @@ fn word(nums: &[u64], at: usize, k: usize) -> u32 {
 pub fn record(nums: &[u64], at: usize, k: usize) -> Step
     requires { ⌜ k < 1000 ⌝ }
 {
-    Step {
-        name: word(nums, at, k),
-        ins: numbers::at(nums, at, k + 1),
-        outs: numbers::at(nums, at, k + 2),
-        reads: word(nums, at, k + 3),
-        writes: word(nums, at, k + 4),
-    }
-}
-
-fn blank() -> Step {
-    Step {
-        name: 0,
-        ins: 0,
-        outs: 0,
-        reads: 0,
-        writes: 0,
-    }
+    Step::of(
+        numbers::at(nums, at, k),
+        numbers::at(nums, at, k + 1),
+        numbers::at(nums, at, k + 2),
+        numbers::at(nums, at, k + 3),
+        numbers::at(nums, at, k + 4),
+    )
 }
 
 // A route by value: the place count, any `len`, and records counted.
 fn route(nums: &[u64], at: usize) -> Route {
-    let mut steps = [blank(); 64];
+    let mut steps = [Step::BLANK; 64];
     let from = std::num::wrapping_add_usize(at, 2);
     let count = length(nums, from, 64);
     let mut i = 0;
@@ -87,7 +77,7 @@ fn route(nums: &[u64], at: usize) -> Route {
 
 // Records counted.
 fn records(nums: &[u64], at: usize) -> [Step; 100] {
-    let mut list = [blank(); 100];
+    let mut list = [Step::BLANK; 100];
     let count = length(nums, at, 100);
     let mut i = 0;
     while i < count {

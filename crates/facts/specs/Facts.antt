@@ -102,8 +102,7 @@ pub record State : Type 0 where
 unfoldable pub more : (ℕ → Sheet → Sheet) → State → State
 more line k = record {
   lines = k .lines + 1;
-  sheet = cond (eqb (k .sheet .number) 0) (line (k .lines + 1) (k .sheet))
-      (k .sheet);
+  sheet = cond (eqb (k .sheet .number) 0) (line (k .lines + 1) (k .sheet)) (k .sheet);
 }
 
 unfoldable pub moreSteps : Version → Part → List Form → State → State

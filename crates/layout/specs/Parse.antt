@@ -32,73 +32,21 @@ withNum n c = record { num = n; head = c .head; ins = c .ins; outs = c .outs; re
 abbrev pub grown : ℕ → ℕ → ℕ
 grown n b = n * 10 + (b - 48)
 
+-- the line in hand with another head and other lists
+abbrev pub withForm : Line → ℕ → List ℕ → List ℕ → List ℕ → List ℕ → Line
+withForm c h i o r w = record { num = c .num; head = h; ins = i; outs = o; reads = r; writes = w }
+
 -- a number that has ended goes where the word says
 unfoldable pub stored : Word → Line → Line
-stored Old c = record {
-  num = c .num;
-  head = c .num;
-  ins = c .ins;
-  outs = c .outs;
-  reads = c .reads;
-  writes = c .writes;
-}
-stored New c = record {
-  num = c .num;
-  head = c .num;
-  ins = c .ins;
-  outs = c .outs;
-  reads = c .reads;
-  writes = c .writes;
-}
+stored Old c = withForm c (c .num) (c .ins) (c .outs) (c .reads) (c .writes)
+stored New c = withForm c (c .num) (c .ins) (c .outs) (c .reads) (c .writes)
 stored Job c = c
-stored Done c = record {
-  num = c .num;
-  head = c .num;
-  ins = c .ins;
-  outs = c .outs;
-  reads = c .reads;
-  writes = c .writes;
-}
-stored Step c = record {
-  num = c .num;
-  head = c .num;
-  ins = c .ins;
-  outs = c .outs;
-  reads = c .reads;
-  writes = c .writes;
-}
-stored In c = record {
-  num = c .num;
-  head = c .head;
-  ins = c .num ∷ c .ins;
-  outs = c .outs;
-  reads = c .reads;
-  writes = c .writes;
-}
-stored Out c = record {
-  num = c .num;
-  head = c .head;
-  ins = c .ins;
-  outs = c .num ∷ c .outs;
-  reads = c .reads;
-  writes = c .writes;
-}
-stored Read c = record {
-  num = c .num;
-  head = c .head;
-  ins = c .ins;
-  outs = c .outs;
-  reads = c .num ∷ c .reads;
-  writes = c .writes;
-}
-stored Write c = record {
-  num = c .num;
-  head = c .head;
-  ins = c .ins;
-  outs = c .outs;
-  reads = c .reads;
-  writes = c .num ∷ c .writes;
-}
+stored Done c = withForm c (c .num) (c .ins) (c .outs) (c .reads) (c .writes)
+stored Step c = withForm c (c .num) (c .ins) (c .outs) (c .reads) (c .writes)
+stored In c = withForm c (c .head) (c .num ∷ c .ins) (c .outs) (c .reads) (c .writes)
+stored Out c = withForm c (c .head) (c .ins) (c .num ∷ c .outs) (c .reads) (c .writes)
+stored Read c = withForm c (c .head) (c .ins) (c .outs) (c .num ∷ c .reads) (c .writes)
+stored Write c = withForm c (c .head) (c .ins) (c .outs) (c .reads) (c .num ∷ c .writes)
 
 -- what a byte does to the line in hand
 unfoldable pub took : Point → ℕ → Line → Line

@@ -141,11 +141,5 @@ pub fn step_row(
 pub fn step_of(l: StepLine) -> Step
     ensures { λ r. ⌜ ((v : Version) (f : Form) (places : ℕ) → Limits v → IsForm l f → places ≤ 64 → formFits v places f ≡ true → r ≡ recordOf f) ⌝ }
 {
-    Step {
-        name: (l.name % 4294967296) as u32,
-        ins: l.ins.mask,
-        outs: l.outs.mask,
-        reads: (l.reads.mask % 4294967296) as u32,
-        writes: (l.writes.mask % 4294967296) as u32,
-    }
+    Step::of(l.name, l.ins.mask, l.outs.mask, l.reads.mask, l.writes.mask)
 }

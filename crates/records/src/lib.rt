@@ -11,13 +11,7 @@ ghost use Rattle.records.specs.Loaded.{loaded, laid};
 pub fn load(places: u64, steps: &[Step]) -> Route
     ensures { λ r. ⌜ r ≡ loaded places (now (steps .entry)) ⌝ }
 {
-    let mut copied = [Step {
-        name: 0,
-        ins: 0,
-        outs: 0,
-        reads: 0,
-        writes: 0,
-    }; 64];
+    let mut copied = [Step::BLANK; 64];
     let len = steps.len();
     let mut n = len;
     if Route::STEPS < n {
@@ -54,11 +48,5 @@ fn record_at(steps: &[Step], i: usize) -> Step
     if i < steps.len() {
         return steps[i];
     }
-    Step {
-        name: 0,
-        ins: 0,
-        outs: 0,
-        reads: 0,
-        writes: 0,
-    }
+    Step::BLANK
 }

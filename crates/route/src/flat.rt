@@ -19,13 +19,13 @@ pub fn step_at(steps: &[u64], i: usize) -> Step
 {
     let at = 4 * i;
     let uses = steps[at + 3];
-    Step {
-        name: (steps[at] % 4294967296) as u32,
-        ins: steps[at + 1],
-        outs: steps[at + 2],
-        reads: (uses % 4294967296) as u32,
-        writes: (uses / 4294967296 % 4294967296) as u32,
-    }
+    Step::of(
+        steps[at],
+        steps[at + 1],
+        steps[at + 2],
+        uses,
+        uses / 4294967296,
+    )
 }
 
 pub fn name_at(steps: &[u64], i: usize) -> u32

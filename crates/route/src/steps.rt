@@ -1,20 +1,36 @@
-// A route's limits, the blank step and the empty route.
+// A step from its fields, the blank step, a route's limits and the empty route.
 use crate::Route;
 use crate::Step;
 ghost use mathlib.Core.Path.{_≡_};
+ghost use Prim.Native.Nat.{_%_};
 ghost use Rattle.route.specs.Steps.{blank, noRoute};
 
 impl Step {
     // The record with 0 in every field.
+    pub const BLANK: Step = Step {
+        name: 0,
+        ins: 0,
+        outs: 0,
+        reads: 0,
+        writes: 0,
+    };
+
     pub fn blank() -> Step
         ensures { λ r. ⌜ r ≡ blank ⌝ }
     {
+        Step::BLANK
+    }
+
+    // The record of five numbers, the name and the variables by their lowest 32 bits.
+    pub fn of(name: u64, ins: u64, outs: u64, reads: u64, writes: u64) -> Step
+        ensures { λ r. ⌜ r ≡ record { name = name % 4294967296; ins = ins; outs = outs; reads = reads % 4294967296; writes = writes % 4294967296 } ⌝ }
+    {
         Step {
-            name: 0,
-            ins: 0,
-            outs: 0,
-            reads: 0,
-            writes: 0,
+            name: (name % 4294967296) as u32,
+            ins,
+            outs,
+            reads: (reads % 4294967296) as u32,
+            writes: (writes % 4294967296) as u32,
         }
     }
 }
@@ -34,13 +50,7 @@ impl Route {
         Route {
             places: 0,
             len: 0,
-            steps: [Step {
-                name: 0,
-                ins: 0,
-                outs: 0,
-                reads: 0,
-                writes: 0,
-            }; 64],
+            steps: [Step::BLANK; 64],
         }
     }
 }

@@ -7,13 +7,7 @@ pub mod letters;
 pub mod lines;
 
 pub fn step(name: u32, ins: u64, outs: u64, reads: u32, writes: u32) -> Step {
-    Step {
-        name,
-        ins,
-        outs,
-        reads,
-        writes,
-    }
+    Step::of(name as u64, ins, outs, reads as u64, writes as u64)
 }
 
 pub fn one(places: u64, a: Step) -> Route {

@@ -11,6 +11,6 @@ abbrev μ-loop : tie.MeasureT-loop
 μ-loop nums at list₀ count i₀ list i = count - i
 
 pub records-spec : {M : Type 1} → statement M
-records-spec = tie.close (tie.spec Inv-loop μ-loop (search needs) (search needs) (search needs) (search needs)
+records-spec = tie.close (tie.spec Inv-loop μ-loop (search needs) (search needs) (search needs)
     (search needs) (search needs) (search needs) (search needs) (search needs) (search needs) (search needs)
     (search needs))

@@ -11,6 +11,6 @@ abbrev μ-loop : tie.MeasureT-loop
 μ-loop nums at steps₀ from count i₀ steps i = count - i
 
 pub route-spec : {M : Type 1} → statement M
-route-spec = tie.close (tie.spec Inv-loop μ-loop (search needs) (search needs) (search needs) (search needs)
+route-spec = tie.close (tie.spec Inv-loop μ-loop (search needs) (search needs) (search needs)
     (search needs) (search needs) (search needs) (search needs) (search needs) (search needs) (search needs)
     (search needs) (search needs) (search needs) (search needs))

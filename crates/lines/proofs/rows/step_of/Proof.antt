@@ -1,11 +1,12 @@
 -- `lines::rows::step_of`: the record of the form.
-use Rattle.lines.proofs.LineForm.{step-form}
+use mathlib.Core.Path.{_∙_}
 use borrow.Author.Needs.{needs}
+use Rattle.lines.proofs.LineForm.{step-form}
 use Rattle.lines.proofs.rows.step_of.Statement.{statement}
 use Rattle.lines.proofs.rows.step_of.Tie as tie
 
 returns : tie.Need-returns
-returns c = λ v f n limits is few fits. step-form _ f is v n limits few fits
+returns c = λ v f n limits is few fits. c .«of» .ensures ∙ step-form _ f is v n limits few fits
 
 pub step-of-spec : {M : Type 1} → statement M
-step-of-spec = tie.close (tie.spec (λ c. search needs) (λ c. search needs) (λ c. search needs) returns)
+step-of-spec = tie.close (tie.spec (λ c κs. search needs) returns)
