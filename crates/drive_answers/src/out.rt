@@ -25,7 +25,7 @@ fn puts(o: &mut [u8; 65536], n: usize, s: &[u8]) -> usize {
 }
 
 // A number and a space.
-pub fn number(o: &mut [u8; 65536], n: usize, x: u64) -> usize {
+pub(crate) fn number(o: &mut [u8; 65536], n: usize, x: u64) -> usize {
     let mut digits = [0u8; 20];
     let k = io::decimal(x, &mut digits);
     let m = puts(o, n, &digits[..k]);
@@ -43,7 +43,7 @@ pub fn end(o: &mut [u8; 65536], n: usize) -> usize {
     n
 }
 
-pub fn numbers(o: &mut [u8; 65536], n: usize, l: &[u64]) -> usize {
+pub(crate) fn numbers(o: &mut [u8; 65536], n: usize, l: &[u64]) -> usize {
     let mut m = n;
     let mut i = 0;
     while i < l.len() {
@@ -53,15 +53,15 @@ pub fn numbers(o: &mut [u8; 65536], n: usize, l: &[u64]) -> usize {
     m
 }
 
-pub fn wide8(x: u8) -> u64 {
+pub(crate) fn wide8(x: u8) -> u64 {
     x as u64
 }
 
-pub fn wide32(x: u32) -> u64 {
+pub(crate) fn wide32(x: u32) -> u64 {
     x as u64
 }
 
-pub fn bytes(o: &mut [u8; 65536], n: usize, l: &[u8]) -> usize {
+pub(crate) fn bytes(o: &mut [u8; 65536], n: usize, l: &[u8]) -> usize {
     let mut m = n;
     let mut i = 0;
     while i < l.len() {
@@ -71,7 +71,7 @@ pub fn bytes(o: &mut [u8; 65536], n: usize, l: &[u8]) -> usize {
     m
 }
 
-pub fn names(o: &mut [u8; 65536], n: usize, l: &[u32]) -> usize {
+pub(crate) fn names(o: &mut [u8; 65536], n: usize, l: &[u32]) -> usize {
     let mut m = n;
     let mut i = 0;
     while i < l.len() {

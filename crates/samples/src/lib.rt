@@ -25,7 +25,7 @@ pub fn two(places: u64, a: Step, b: Step) -> Route {
     r
 }
 
-pub fn three(places: u64, a: Step, b: Step, c: Step) -> Route {
+pub(crate) fn three(places: u64, a: Step, b: Step, c: Step) -> Route {
     let mut r = two(places, a, b);
     r.len = 3;
     r.steps[2] = c;

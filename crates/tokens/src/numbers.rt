@@ -43,7 +43,7 @@ fn ended(at: usize, value: u64) -> Numeral
     }
 }
 
-pub fn digits(v: Version, s: &[u8], from: usize) -> Numeral
+pub(crate) fn digits(v: Version, s: &[u8], from: usize) -> Numeral
     requires { ⌜ Limits v ⌝ }
     requires { ⌜ from ≤ length (now s) ⌝ }
     ensures { λ r. ⌜ NumberOn v (now (s .entry)) from true r ⌝ }
