@@ -1,4 +1,4 @@
--- "a sheet begins so", in a version of the layout
+-- That a sheet begins so, in a version of the layout
 use mathlib.Core.Path.{_≡_}
 use mathlib.Core.List.{List, _++_}
 use Prim.Native.Nat.{ℕ, suc, _≤_, _<_}

@@ -1,4 +1,4 @@
--- Running the done list on the old route: rows 8 and 9, done line by done line.
+-- Running the done list on the old route: rows 6 to 9, the last two done line by done line.
 use mathlib.Core.Path.{_≡_}
 use mathlib.Core.Bool.{cond}
 use mathlib.Core.List.{List, [], _∷_, map}
@@ -46,7 +46,7 @@ openedBoth oldPlaces old newPlaces new =
       start = record { tokens = start newPlaces new };
     }
 
--- a refusal by rows 6 to 9
+-- a refusal by row 6 or 7: no markings
 abbrev pub begunStopped : ℕ → ℕ → Begun
 begunStopped n k = record { outcome = refuse n k; marking = record { tokens = 0 }; start = record { tokens = 0 } }
 

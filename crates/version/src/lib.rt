@@ -1,4 +1,4 @@
-// The limits that differ between versions of the sheet's layout. All who read or write a sheet take them as one record.
+// The limits that differ between versions of the sheet's layout. All who read a sheet take them as one record.
 ghost use mathlib.Core.Path.{_≡_};
 ghost use Rattle.version.specs.Limits.{nameFits};
 

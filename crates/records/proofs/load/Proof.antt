@@ -1,5 +1,5 @@
 -- `load` meets its contract: a walk of its MIR, by hand. Each turn has `record_at` copy one record out of the list
--- (Reads). The array of 64 records is taken apart into its records before the loop and put together after it: in
+-- (OneRecord). The array of 64 records is taken apart into its records before the loop and put together after it: in
 -- between, i of them are copied.
 use mathlib.Core.Path.{_≡_, refl, sym, _∙_, subst}
 use Prim.Native.Nat.{ℕ, zero, suc, _+_, _*_, _<_, _≤_, _^_}

@@ -1,4 +1,4 @@
--- `sheet::Sheet::refused`: two empty routes.
+-- `facts::Sheet::refused`: two empty routes.
 use lib.ListN.{replicate}
 use borrow.Author.Needs.{needs}
 use Rattle.facts.specs.Facts.{failed}

@@ -1,4 +1,4 @@
--- `crate::judging::judge`: both routes laid as numbers; what a list has past its 65th step changes nothing.
+-- `judging::judging::judge`: both routes laid as numbers; what a list has past its 65th step changes nothing.
 use mathlib.Core.Path.{sym}
 use borrow.Author.Needs.{needs}
 use lib.Seq.{length-take-le}

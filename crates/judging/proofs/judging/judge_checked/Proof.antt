@@ -1,4 +1,4 @@
--- `crate::judging::judge_checked`: the rows to 12 as the prepared job has them, and what follows.
+-- `judging::judging::judge_checked`: the rows to 12 as the prepared job has them, and what follows.
 use borrow.Author.Needs.{needs}
 use Rattle.matching.proofs.Preparation.{numbers-room, numbers-count}
 use Rattle.judging.proofs.JudgeOperation.{judged-refused, work-refused, prepared-passing, judged-prepared}

@@ -1,4 +1,4 @@
--- `crate::judging::judge_kept`: the search over the candidates finds the first fit list of the kept.
+-- `judging::judging::judge_kept`: the search over the candidates finds the first fit list of the kept.
 use mathlib.Core.Path.{ap, _∙_, subst}
 use mathlib.Core.List.{List}
 use native.Mathlib.Omega.{arith}

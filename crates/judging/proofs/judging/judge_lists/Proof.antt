@@ -1,4 +1,4 @@
--- `crate::judging::judge_lists`: row 14, then the lines, and where they pass the rest.
+-- `judging::judging::judge_lists`: row 14, then the lines, and where they pass the rest.
 use borrow.Author.Needs.{needs}
 use Rattle.running.proofs.RunLine.{lines-pass}
 use Rattle.judging.proofs.JudgeOperation.{judged-short, work-short, judged-line, work-line}

@@ -1,4 +1,4 @@
--- `crate::judging::judge_prepared`: the straight list where there is one, else the first fit list of the kept.
+-- `judging::judging::judge_prepared`: the straight list where there is one, else the first fit list of the kept.
 use mathlib.Core.Path.{refl, _∙_}
 use borrow.Author.Needs.{needs}
 use Rattle.matching.proofs.Choice.{cond-yes, cond-no}

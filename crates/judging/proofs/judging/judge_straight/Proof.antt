@@ -1,4 +1,4 @@
--- `crate::judging::judge_straight`: all in turn, and all of them kept.
+-- `judging::judging::judge_straight`: all in turn, and all of them kept.
 use mathlib.Core.Path.{_≡_, sym, ap, _∙_, subst}
 use mathlib.Core.List.{List, map}
 use Prim.Native.Nat.{ℕ, suc, _≤_}

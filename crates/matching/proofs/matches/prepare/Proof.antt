@@ -1,4 +1,4 @@
--- `crate::matches::prepare`: the rows from 6 to 9, and else the occurrences against the new route's steps for them.
+-- `matching::matches::prepare`: the rows from 6 to 9, and else the occurrences against the new route's steps for them.
 use borrow.Author.Needs.{needs}
 use Rattle.job.proofs.Rows.{lists-fit}
 use Rattle.running.proofs.Performed.{holds-fits, holds-room, holds-count}

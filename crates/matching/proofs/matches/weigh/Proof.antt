@@ -1,4 +1,4 @@
--- `crate::matches::weigh`: what each part finds, put together.
+-- `matching::matches::weigh`: what each part finds, put together.
 use mathlib.Core.Path.{_≡_, refl, sym, ap, _∙_}
 use mathlib.Core.Bool.{true}
 use mathlib.Core.List.{List}

@@ -1,4 +1,4 @@
--- `crate::rows::kept_lines`: none of the kept is wrong, or the lowest that is.
+-- `matching::rows::kept_lines`: none of the kept is wrong, or the lowest that is.
 use Prim.Native.Nat.{ℕ, _<_}
 use native.Mathlib.Omega.{arith}
 use lib.Count.{trailingZeros}

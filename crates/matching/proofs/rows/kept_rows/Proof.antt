@@ -1,4 +1,4 @@
--- `crate::rows::kept_rows`: row 10, and else the lines.
+-- `matching::rows::kept_rows`: row 10, and else the lines.
 use mathlib.Core.Path.{_∙_}
 use borrow.Author.Needs.{needs}
 use Rattle.matching.proofs.KeptLimit.{rows-over, rows-lines}

@@ -1,4 +1,4 @@
--- `crate::rows::limited`: the two ends.
+-- `matching::rows::limited`: the two ends.
 use mathlib.Core.Path.{sym, ap, ap₂}
 use mathlib.Core.Bool.{_||_}
 use Prim.Native.Nat.{ℕ}

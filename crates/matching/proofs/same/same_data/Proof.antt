@@ -1,4 +1,4 @@
--- `crate::same::same_data`: the name, what is read, and what is written.
+-- `matching::same::same_data`: the name, what is read, and what is written.
 use Rattle.matching.proofs.SameMask.{data-tests}
 use Rattle.matching.proofs.same.same_data.Statement.{statement}
 use Rattle.matching.proofs.same.same_data.Tie as tie

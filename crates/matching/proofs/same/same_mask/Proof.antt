@@ -1,4 +1,4 @@
--- `crate::same::same_mask`: what has been gathered is the mask of those passed.
+-- `matching::same::same_mask`: what has been gathered is the mask of those passed.
 use Prim.Native.Nat.{_-_, _≤_}
 use native.Mathlib.Omega.{arith}
 use borrow.Author.Needs.{needs}

@@ -1,4 +1,4 @@
--- `job::Begun::stop`: the refusal, and no markings.
+-- `running::Begun::stop`: the refusal, and no markings.
 use mathlib.Core.Path.{ap}
 use Rattle.refusal.specs.declared.Outcome.{Outcome}
 use borrow.Author.Needs.{needs}

@@ -1,4 +1,4 @@
--- `crate::entries::by_rows`: row 16, and else the entries.
+-- `trying::entries::by_rows`: row 16, and else the entries.
 use borrow.Author.Needs.{needs}
 use Rattle.trying.proofs.TryRows.{list-passes, rows-refused, rows-tried}
 use Rattle.trying.proofs.entries.by_rows.Statement.{statement}

@@ -1,4 +1,4 @@
--- `crate::entries::check_list`: the row of the entries that are left answers for all.
+-- `trying::entries::check_list`: the row of the entries that are left answers for all.
 use mathlib.Core.Path.{_≡_, refl, sym, _∙_}
 use Prim.Native.Nat.{ℕ, _+_, _-_, _≤_, _<_}
 use native.Mathlib.Omega.{arith}

@@ -1,4 +1,4 @@
--- `crate::entries::fire_list`: the entries so far are placed, and the rows of those that are left answer for all.
+-- `trying::entries::fire_list`: the entries so far are placed, and the rows of those that are left answer for all.
 use Prim.Native.Nat.{ℕ, _-_, _≤_, _<_}
 use native.Mathlib.Omega.{arith}
 use borrow.Author.Needs.{needs}

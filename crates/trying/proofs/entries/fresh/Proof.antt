@@ -1,4 +1,4 @@
--- `crate::entries::fresh`: 0 and numbers over 64 are never kept; else one look into the mask.
+-- `trying::entries::fresh`: 0 and numbers over 64 are never kept; else one look into the mask.
 use mathlib.Core.Path.{ap, _∙_}
 use Prim.Native.Nat.{ℕ, _-_}
 use native.Mathlib.Omega.{arith}

@@ -1,4 +1,4 @@
--- `crate::trying::in_turn`: the comparison of what is left answers for all.
+-- `trying::trying::in_turn`: the comparison of what is left answers for all.
 use mathlib.Core.Path.{_≡_, ap}
 use mathlib.Core.List.{map}
 use Prim.Native.Nat.{ℕ, suc, _-_, _≤_}

@@ -1,4 +1,4 @@
--- `crate::trying::straight_end`: by the comparison.
+-- `trying::trying::straight_end`: by the comparison.
 use mathlib.Core.Path.{_≡_, sym, ap, _∙_}
 use mathlib.Core.Bool.{Bool, true, false, not, cond}
 use borrow.Author.Needs.{needs}

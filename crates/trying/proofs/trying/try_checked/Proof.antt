@@ -1,4 +1,4 @@
--- `crate::trying::try_checked`: the rows to 12, and else the list.
+-- `trying::trying::try_checked`: the rows to 12, and else the list.
 use borrow.Author.Needs.{needs}
 use Rattle.trying.proofs.TryRows.{tried-refused}
 use Rattle.matching.proofs.Preparation.{numbers-room, numbers-count, occurrences-few, kept-matched}

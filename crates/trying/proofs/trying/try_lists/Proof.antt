@@ -1,4 +1,4 @@
--- `crate::trying::try_lists`: the lines, and where they pass the rest.
+-- `trying::trying::try_lists`: the lines, and where they pass the rest.
 use borrow.Author.Needs.{needs}
 use Rattle.running.proofs.RunLine.{lines-pass}
 use Rattle.trying.proofs.TryRows.{tried-line}

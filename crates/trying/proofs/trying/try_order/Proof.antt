@@ -1,4 +1,4 @@
--- `crate::trying::try_order`: both routes laid as numbers.
+-- `trying::trying::try_order`: both routes laid as numbers.
 use mathlib.Core.Path.{sym}
 use borrow.Author.Needs.{needs}
 use lib.Seq.{length-take-le}

@@ -1,4 +1,4 @@
--- `crate::trying::try_prepared`: where the straight list ends, and else the rows.
+-- `trying::trying::try_prepared`: where the straight list ends, and else the rows.
 use borrow.Author.Needs.{needs}
 use Rattle.trying.proofs.TryRows.{list-straight, list-rows}
 use Rattle.trying.proofs.trying.try_prepared.Statement.{statement}
