@@ -13,11 +13,10 @@ use borrow.Author.Tests.{ltb-true, ltb-false}
 use Rattle.refusal.specs.Rows.{refuse, unless, first}
 use Rattle.refusal.specs.declared.Outcome.{Outcome}
 use Rattle.refusal.proofs.Rows.{rows-pass, rows-refuse, row-refuses}
-use Rattle.route.specs.Steps.{blank, stepsOf}
+use Rattle.route.specs.Steps.{blank}
 use Rattle.route.specs.Flat.{Laid}
-use Rattle.route.specs.declared.Route.{Route}
 use Rattle.route.specs.declared.Step.{Step}
-use Rattle.job.specs.Job.{Job, jobOf, flatJob, newLine}
+use Rattle.job.specs.Job.{Job, flatJob, newLine}
 use Rattle.job.specs.Lines.{placesFit, stepRow, stepRows, routeRows, lineRows, checked}
 
 -- the job with other lists of steps
@@ -199,23 +198,15 @@ module _ (j k : Job) (r : Refused j k) where
   unfolding checked
   checked-off = rows-off _
 
--- ---- routes by value, laid as numbers
+-- ---- both lists laid as numbers
 
-pub laid-short : (old new : Route) (done : List ℕ) (n : ℕ) (a : List ℕ) (m : ℕ) (b : List ℕ) → Laid (stepsOf old) n a
-    → Laid (stepsOf new) m b
-    → flatJob (old .places) (take n a) (new .places) (take m b) done ≡ short (jobOf old new done)
-laid-short old new done n a m b p q =
-    ap₂ (λ (x y : List Step). withSteps (jobOf old new done) x y) (p .steps-are) (q .steps-are)
-
-module _ (old new : Route) (done : List ℕ) (n : ℕ) (a : List ℕ) (m : ℕ) (b : List ℕ)
-    (p : Laid (stepsOf old) n a) (q : Laid (stepsOf new) m b) where
-  -- both routes as they are laid
+module _ (j : Job) (n : ℕ) (a : List ℕ) (m : ℕ) (b : List ℕ) (p : Laid (j .old) n a) (q : Laid (j .new) m b) where
   abbrev pub laidJob : Job
-  laidJob = flatJob (old .places) (take n a) (new .places) (take m b) done
+  laidJob = flatJob (j .oldPlaces) (take n a) (j .newPlaces) (take m b) (j .done)
 
-  pub same-laid : {X : Type 0} (f : Job → X) → ((j k : Job) → Refused j k → f j ≡ f k)
-      → f laidJob ≡ f (jobOf old new done)
-  same-laid f by = ap f (laid-short old new done n a m b p q) ∙ sym (same-short (jobOf old new done) f by)
+  pub same-laid : {X : Type 0} (f : Job → X) → ((j k : Job) → Refused j k → f j ≡ f k) → f laidJob ≡ f j
+  same-laid f by =
+      ap₂ (λ (x y : List Step). f (withSteps j x y)) (p .steps-are) (q .steps-are) ∙ sym (same-short j f by)
 
-  pub rows-laid : (o : Outcome) → o ≡ first (lineRows laidJob) → o ≡ first (lineRows (jobOf old new done))
+  pub rows-laid : (o : Outcome) → o ≡ first (lineRows laidJob) → o ≡ first (lineRows j)
   rows-laid o e = e ∙ same-laid (λ (j : Job). first (lineRows j)) (λ j k r. r .alike)

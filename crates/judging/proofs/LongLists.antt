@@ -5,10 +5,8 @@ use mathlib.Core.Bool.{false, cond, and-false}
 use mathlib.Core.List.{List}
 use Prim.Native.Nat.{ℕ}
 use lib.Dec.{eqb, leb}
-use Rattle.route.specs.Steps.{stepsOf}
 use Rattle.route.specs.Flat.{Laid}
-use Rattle.route.specs.declared.Route.{Route}
-use Rattle.job.specs.Job.{Job, jobOf}
+use Rattle.job.specs.Job.{Job}
 use Rattle.running.specs.Run.{ran}
 use Rattle.running.specs.declared.Ran.{Ran}
 use Rattle.job.proofs.LongLists.{Refused, laidJob, same-laid}
@@ -42,18 +40,13 @@ module _ (j k : Job) (r : Refused j k) where
   work-alike : (work : List ℕ) → workAfter j work ≡ workAfter k work
   work-alike work = work-off j off work ∙ sym (work-off k (ran-off j k r) work)
 
--- ---- both routes laid as numbers
+-- ---- both lists laid as numbers
 
-module _ (old new : Route) (done : List ℕ) (n : ℕ) (a : List ℕ) (m : ℕ) (b : List ℕ)
-    (p : Laid (stepsOf old) n a) (q : Laid (stepsOf new) m b) where
-  pub judged-laid :
-      (room : ℕ) (r : Judged) → r ≡ judged (laidJob old new done n a m b p q) room
-      → r ≡ judged (jobOf old new done) room
+module _ (j : Job) (n : ℕ) (a : List ℕ) (m : ℕ) (b : List ℕ) (p : Laid (j .old) n a) (q : Laid (j .new) m b) where
+  pub judged-laid : (room : ℕ) (r : Judged) → r ≡ judged (laidJob j n a m b p q) room → r ≡ judged j room
   judged-laid room r e =
-      e ∙ same-laid old new done n a m b p q (λ (j : Job). judged j room) (λ j k x. judged-alike j k x room)
+      e ∙ same-laid j n a m b p q (λ (j : Job). judged j room) (λ j k x. judged-alike j k x room)
 
-  pub work-laid :
-      (work w : List ℕ) → w ≡ workAfter (laidJob old new done n a m b p q) work
-      → w ≡ workAfter (jobOf old new done) work
+  pub work-laid : (work w : List ℕ) → w ≡ workAfter (laidJob j n a m b p q) work → w ≡ workAfter j work
   work-laid work w e =
-      e ∙ same-laid old new done n a m b p q (λ (j : Job). workAfter j work) (λ j k x. work-alike j k x work)
+      e ∙ same-laid j n a m b p q (λ (j : Job). workAfter j work) (λ j k x. work-alike j k x work)

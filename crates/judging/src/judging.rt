@@ -123,7 +123,7 @@ pub fn judge_checked(
 }
 
 // Judge over lists of steps.
-fn judge_lists(
+pub fn judge_lists(
     old_places: u64,
     old: &[u64],
     new_places: u64,

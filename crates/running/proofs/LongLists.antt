@@ -1,13 +1,11 @@
--- A job whose lines are refused alike runs alike; so the run of routes laid as numbers is that of the routes.
+-- A job whose lines are refused alike runs alike; so the run of lists laid as numbers is that of the lists.
 use mathlib.Core.Path.{_≡_, _∙_}
 use mathlib.Core.Bool.{false}
 use mathlib.Core.List.{List}
 use Prim.Native.Nat.{ℕ}
 use lib.Dec.{eqb}
-use Rattle.route.specs.Steps.{stepsOf}
 use Rattle.route.specs.Flat.{Laid}
-use Rattle.route.specs.declared.Route.{Route}
-use Rattle.job.specs.Job.{Job, jobOf}
+use Rattle.job.specs.Job.{Job}
 use Rattle.job.proofs.LongLists.{Refused, checked-alike, checked-off, laidJob, same-laid}
 use Rattle.running.specs.Run.{ran}
 use Rattle.running.specs.declared.Ran.{Ran}
@@ -21,6 +19,6 @@ module _ (j k : Job) (r : Refused j k) where
   unfolding ran
   ran-off = rw (checked-off j k r) (checked-off j k r)
 
-pub ran-laid : (old new : Route) (done : List ℕ) (n : ℕ) (a : List ℕ) (m : ℕ) (b : List ℕ) (p : Laid (stepsOf old) n a)
-    (q : Laid (stepsOf new) m b) (r : Ran) → r ≡ ran (laidJob old new done n a m b p q) → r ≡ ran (jobOf old new done)
-ran-laid old new done n a m b p q r e = e ∙ same-laid old new done n a m b p q ran ran-alike
+pub ran-laid : (j : Job) (n : ℕ) (a : List ℕ) (m : ℕ) (b : List ℕ) (p : Laid (j .old) n a) (q : Laid (j .new) m b)
+    (r : Ran) → r ≡ ran (laidJob j n a m b p q) → r ≡ ran j
+ran-laid j n a m b p q r e = e ∙ same-laid j n a m b p q ran ran-alike

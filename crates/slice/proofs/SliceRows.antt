@@ -9,15 +9,13 @@ use lib.Dec.{eqb}
 use lib.ListN.{length, take, length-take}
 use Rattle.refusal.specs.Rows.{first}
 use Rattle.refusal.specs.declared.Outcome.{Outcome}
-use Rattle.route.specs.Steps.{stepsOf}
 use Rattle.route.specs.Flat.{stepsIn, Laid}
-use Rattle.route.specs.declared.Route.{Route}
-use Rattle.job.specs.Job.{Job, jobOf, flatJob}
+use Rattle.job.specs.Job.{Job}
 use Rattle.job.specs.Lines.{lineRows, LinesPass}
 use Rattle.running.specs.Run.{ran, performed, BegunOf}
 use Rattle.running.specs.declared.Ran.{Ran}
 use Rattle.running.specs.declared.Begun.{Begun}
-use Rattle.job.proofs.LongLists.{Refused, same-short, laid-short}
+use Rattle.job.proofs.LongLists.{Refused, laidJob, same-laid}
 use Rattle.running.proofs.LongLists.{ran-alike, ran-off}
 use Rattle.running.proofs.Performed.{length-performed}
 use Rattle.running.proofs.RunLine.{ran-refused, checked-lines, ran-fits}
@@ -110,19 +108,12 @@ module _ (j : Job) where
           })
           ∙ sym (picked true (number-is ∙ not-false t passed))
 
--- ---- both routes laid as numbers: what a list has past its 65th step changes nothing
+-- ---- both lists laid as numbers: what a list has past its 65th step changes nothing
 
 sliced-alike : (j k : Job) → Refused j k → sliced j ≡ sliced k
 unfolding sliced
 sliced-alike j k r = rw (ran-alike j k r, ran-off j k r)
 
-pub sliced-laid :
-    (old new : Route) (done : List ℕ) (n : ℕ) (a : List ℕ) (m : ℕ) (b : List ℕ) (r : Sliced)
-    → Laid (stepsOf old) n a
-    → Laid (stepsOf new) m b
-    → r ≡ sliced (flatJob (old .places) (take n a) (new .places) (take m b) done)
-    → r ≡ sliced (jobOf old new done)
-sliced-laid old new done n a m b r p q e =
-    e
-    ∙ ap sliced (laid-short old new done n a m b p q)
-    ∙ sym (same-short (jobOf old new done) sliced sliced-alike)
+pub sliced-laid : (j : Job) (n : ℕ) (a : List ℕ) (m : ℕ) (b : List ℕ) (p : Laid (j .old) n a) (q : Laid (j .new) m b)
+    (r : Sliced) → r ≡ sliced (laidJob j n a m b p q) → r ≡ sliced j
+sliced-laid j n a m b p q r e = e ∙ same-laid j n a m b p q sliced sliced-alike

@@ -12,7 +12,13 @@ ghost use Rattle.job.specs.Job.{jobOf, flatJob};
 ghost use Rattle.slice.specs.Table.{sliced};
 
 // The rows to 9 over lists of steps, then what is kept and the table.
-fn slice_lists(old_places: u64, old: &[u64], new_places: u64, new: &[u64], done: &[u32]) -> Sliced
+pub fn slice_lists(
+    old_places: u64,
+    old: &[u64],
+    new_places: u64,
+    new: &[u64],
+    done: &[u32],
+) -> Sliced
     ensures { λ r. ⌜ r ≡ sliced (flatJob «old_places» (now (old .entry)) «new_places» (now (new .entry)) (now (done .entry))) ⌝ }
 {
     let o = check_lines(old_places, old, new_places, new, done);

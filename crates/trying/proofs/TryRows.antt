@@ -5,20 +5,18 @@ use mathlib.Core.List.{List, map}
 use mathlib.Core.Option.{Option·getD}
 use Prim.Native.Nat.{ℕ, suc}
 use lib.Dec.{eqb}
-use lib.ListN.{length, take}
+use lib.ListN.{length}
 use borrow.Author.Tests.{eqb-true, not-true, not-false}
 use Rattle.refusal.specs.Rows.{refuse, first}
-use Rattle.route.specs.Steps.{stepsOf}
 use Rattle.route.specs.Flat.{Laid}
 use Rattle.route.specs.declared.Step.{Step}
-use Rattle.route.specs.declared.Route.{Route}
 use Rattle.route.specs.declared.Marking.{Marking}
 use Rattle.refusal.specs.declared.Outcome.{Outcome}
-use Rattle.job.specs.Job.{Job, jobOf, flatJob, jobLine, newStart}
+use Rattle.job.specs.Job.{Job, jobLine, newStart}
 use Rattle.job.specs.Lines.{lineRows}
 use Rattle.running.specs.Run.{ran, performed}
 use Rattle.running.specs.declared.Ran.{Ran}
-use Rattle.job.proofs.LongLists.{Refused, same-laid}
+use Rattle.job.proofs.LongLists.{Refused, laidJob, same-laid}
 use Rattle.running.proofs.LongLists.{ran-alike, ran-off}
 use Rattle.running.proofs.RunLine.{ran-line}
 use Rattle.slice.specs.Order.{inTurn}
@@ -160,17 +158,12 @@ module _ (j : Job) (o : List ℕ) where
         (tryStopped (ran j .number) (ran j .second)))
         (sym (ap (λ (x : Ran). eqb (x .number) 0) (sym stop) ∙ sym test ∙ not-true t off))
 
--- ---- both routes laid as numbers: what a list has past its 65th step changes nothing
+-- ---- both lists laid as numbers: what a list has past its 65th step changes nothing
 
 tried-alike : (o : List ℕ) (j k : Job) → Refused j k → tried j o ≡ tried k o
 unfolding tried
 tried-alike o j k r = rw (ran-alike j k r, ran-off j k r)
 
-pub tried-laid :
-    (old new : Route) (done o : List ℕ) (n : ℕ) (a : List ℕ) (m : ℕ) (b : List ℕ) (r : Tried)
-    → Laid (stepsOf old) n a
-    → Laid (stepsOf new) m b
-    → r ≡ tried (flatJob (old .places) (take n a) (new .places) (take m b) done) o
-    → r ≡ tried (jobOf old new done) o
-tried-laid old new done o n a m b r p q e = e ∙ same-laid old new done n a m b p q (λ (j : Job). tried j o)
-    (tried-alike o)
+pub tried-laid : (o : List ℕ) (j : Job) (n : ℕ) (a : List ℕ) (m : ℕ) (b : List ℕ) (p : Laid (j .old) n a)
+    (q : Laid (j .new) m b) (r : Tried) → r ≡ tried (laidJob j n a m b p q) o → r ≡ tried j o
+tried-laid o j n a m b p q r e = e ∙ same-laid j n a m b p q (λ (j : Job). tried j o) (tried-alike o)

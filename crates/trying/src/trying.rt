@@ -100,7 +100,7 @@ pub fn try_checked(
 }
 
 // Try over lists of steps.
-fn try_lists(
+pub fn try_lists(
     old_places: u64,
     old: &[u64],
     new_places: u64,

@@ -19,12 +19,7 @@ slice-aggregate-slice-lists-2 : tie.Need-slice-aggregate-slice-lists-2
 slice-aggregate-slice-lists-2 c = sym (length-take-le _ _ (array-share-prefix-b (c .before)))
 
 returns : tie.Need-returns
-returns c =
-    let second = c .before .before .before .before in
-    let first = second .before .before .before in
-    let a = first .before .before .before .args in
-    sliced-laid (a .old) (a .new) (a .done .now) _ _ _ _ _ (first .lay .ensures) (second .lay2 .ensures)
-    (c .slice-lists .ensures)
+returns c = search (needs, sliced-laid)
 
 pub slice-spec : {M : Type 1} → statement M
 slice-spec = tie.close (tie.spec (λ c. search needs) (λ c κs. search needs) (λ c. search needs) (λ c κs. search needs)

@@ -19,12 +19,7 @@ slice-aggregate-try-lists-2 : tie.Need-slice-aggregate-try-lists-2
 slice-aggregate-try-lists-2 c = sym (length-take-le _ _ (array-share-prefix-b (c .before)))
 
 returns : tie.Need-returns
-returns c =
-    let second = c .before .before .before .before in
-    let first = second .before .before .before in
-    let a = first .before .before .before .before .args in
-    tried-laid (a .old) (a .new) (a .done .now) (a .order .now) _ _ _ _ _ (first .lay .ensures) (second .lay2 .ensures)
-    (c .try-lists .ensures)
+returns c = search (needs, tried-laid)
 
 pub try-order-spec : {M : Type 1} → statement M
 try-order-spec = tie.close (tie.spec (λ c. search needs) (λ c κs. search needs) (λ c. search needs)
