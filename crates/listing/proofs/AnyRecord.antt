@@ -16,8 +16,8 @@ use Rattle.emit.proofs.Decimals.{entry-most, entry-length}
 use Rattle.emit.proofs.Over.{over-map}
 use Rattle.slice.specs.Order.{inTurn}
 use Rattle.answering.specs.declared.Judged.{Judged}
-use Rattle.listing.specs.Listing.{close, line, movedLine, afterWord, afterLine, orderWord, orderLine, markingWord}
-use Rattle.listing.specs.Listing.{markingLine, valueWord, valueLine, valueLines, refusedWord, refusedLine}
+use Rattle.listing_lines.specs.Lines.{close, line, movedLine, afterWord, afterLine, orderWord, orderLine, markingWord}
+use Rattle.listing_lines.specs.Lines.{markingLine, valueWord, valueLine, valueLines, refusedWord, refusedLine}
 
 -- ---- as many texts as there are entries, each of at most b bytes
 

@@ -1,6 +1,4 @@
--- Laws on the listing: its lines as they are written, the answers, and how long it is.
-pub mod Line
-pub mod EachLine
+-- Laws on the listing: the answers, and how long it is.
 pub mod Lengths
 pub mod AnyRecord
 pub mod Longest

@@ -11,7 +11,7 @@ use Rattle.answering.specs.declared.Judged.{Judged}
 use Rattle.emit.specs.Emit.{Room, Emits}
 use Rattle.emit.proofs.Chains.{parts, First, Second, Third, Two, Three, first-room, second-room, third-room, two-emits}
 use Rattle.emit.proofs.Chains.{three-emits, room-as, emits-length, emits-end, emits-whole, emits-take}
-use Rattle.listing.specs.Listing.{movedLine, afterLines, orderLine, markingLine, valueLines, refusedLine}
+use Rattle.listing_lines.specs.Lines.{movedLine, afterLines, orderLine, markingLine, valueLines, refusedLine}
 use Rattle.listing.specs.Listing.{movedText, listing}
 use Rattle.listing.specs.Written.{writtenFor, outAfter}
 

@@ -38,8 +38,8 @@ use Rattle.candidates.specs.FirstFit.{firstFit}
 use Rattle.judging.specs.Judge.{judgeFound, judgeRows, judged}
 use Rattle.answering.specs.declared.Judged.{Judged}
 use Rattle.slice.proofs.InTurn.{length-inTurn}
-use Rattle.listing.specs.Listing.{line, movedLine, afterWord, afterLine, afterLines, orderWord, orderLine}
-use Rattle.listing.specs.Listing.{markingWord, markingLine, valueWord, valueLine, valueLines, refusedLine}
+use Rattle.listing_lines.specs.Lines.{line, movedLine, afterWord, afterLine, afterLines, orderWord, orderLine}
+use Rattle.listing_lines.specs.Lines.{markingWord, markingLine, valueWord, valueLine, valueLines, refusedLine}
 use Rattle.listing.specs.Listing.{movedText, listing}
 use Rattle.listing.proofs.Lengths.{size, size-cons, size-most, size-more, size-members, size-count}
 use Rattle.listing.proofs.Lengths.{below-members}

@@ -1,5 +1,4 @@
 // The listing: the text of judge's answer, written into a lent slice.
-mod lines;
 pub mod printing;
 
 // How writing ended: 0 and 0, and the bytes written; or a refusal and its second number.

@@ -1,18 +1,19 @@
 // The whole listing, and writing it into a lent slice that has room for it.
 use crate::Written;
-use crate::lines::after_lines;
-use crate::lines::marking_line;
-use crate::lines::moved_line;
-use crate::lines::order_line;
-use crate::lines::refused_line;
-use crate::lines::value_lines;
 use answering::Judged;
+use listing_lines::after_lines;
+use listing_lines::marking_line;
+use listing_lines::moved_line;
+use listing_lines::order_line;
+use listing_lines::refused_line;
+use listing_lines::value_lines;
 ghost use mathlib.Core.Path.{_≡_};
 ghost use mathlib.Core.List.{_++_};
 ghost use lib.ListN.{length};
 ghost use Prim.Native.Nat.{_<_, _≤_};
 ghost use Rattle.emit.specs.Emit.{Room, Emits};
-ghost use Rattle.listing.specs.Listing.{movedLine, afterLines, orderLine, markingLine, valueLines, listing};
+ghost use Rattle.listing_lines.specs.Lines.{movedLine, afterLines, orderLine, markingLine, valueLines};
+ghost use Rattle.listing.specs.Listing.{listing};
 ghost use Rattle.listing.specs.Written.{writtenFor, outAfter};
 
 // No answer of judge has a longer listing (proofs/Longest.antt).

@@ -19,7 +19,8 @@ use Rattle.trying.specs.declared.Tried.{Tried}
 use Rattle.judging.specs.Judge.{judged}
 use Rattle.answering.specs.Answer.{judgeStopped}
 use Rattle.answering.specs.declared.Judged.{Judged}
-use Rattle.listing.specs.Listing.{line, movedLine, movedText, refusedLine, listing}
+use Rattle.listing_lines.specs.Lines.{line, movedLine, refusedLine}
+use Rattle.listing.specs.Listing.{movedText, listing}
 use Rattle.listing.specs.Written.{writtenFor, outAfter}
 use Rattle.ops.specs.Print.{sheetAnswer, listingOf, printed, outPrinted}
 use Rattle.ops.specs.SheetTry.{triedFacts, triedSheet}
