@@ -10,11 +10,11 @@ use lib.ListN.{length, getD, set, replicate, length-set}
 use Rattle.mask.specs.Mask.{has}
 use Rattle.mask.proofs.FromLowest.{rest-less, setAt, set-lowest, set-none}
 use Rattle.route.specs.declared.Step.{Step}
-use Rattle.slice.proofs.Filled.{zeros-at}
-use Rattle.slice.specs.Precedence.{row}
-use Rattle.slice.specs.Order.{inTurn}
-use Rattle.slice.specs.Table.{table}
-use Rattle.slice.proofs.InTurn.{getD-map-inTurn}
+use Rattle.precedence.proofs.Filled.{zeros-at}
+use Rattle.precedence.specs.Precedence.{row}
+use Rattle.precedence.specs.Order.{inTurn}
+use Rattle.precedence.specs.Table.{table}
+use Rattle.precedence.proofs.InTurn.{getD-map-inTurn}
 use Rattle.answering.specs.Answer.{afterOf}
 use Rattle.answering.proofs.Filling.{filling-done}
 

@@ -5,7 +5,7 @@ use Prim.Native.Nat.{ℕ, _-_}
 use lib.ListN.{length}
 use Rattle.mask.specs.Mask.{count}
 use Rattle.route.specs.declared.Step.{Step}
-use Rattle.slice.specs.Order.{inTurn}
+use Rattle.precedence.specs.Order.{inTurn}
 use Rattle.answering.specs.Answer.{afterOf, writerOf, answer}
 use Rattle.answering.specs.inner.Listed.{placedOn}
 use Rattle.answering.specs.declared.Placed.{Placed}

@@ -6,8 +6,8 @@ use native.Mathlib.Omega.{arith}
 use native.Mathlib.Decide.{ℕ-discrete}
 use lib.ListN.{length, getD, set, length-map}
 use lib.Seq.{getD-set-same, getD-set-other, ext-getD}
-use Rattle.slice.specs.Order.{inTurn}
-use Rattle.slice.proofs.InTurn.{length-inTurn, getD-map-inTurn}
+use Rattle.precedence.specs.Order.{inTurn}
+use Rattle.precedence.proofs.InTurn.{length-inTurn, getD-map-inTurn}
 
 abbrev pub Filling : (ℕ → ℕ) → ℕ → List ℕ → Type 0
 Filling f i a = (k : ℕ) → k < i → getD a k 0 ≡ f k

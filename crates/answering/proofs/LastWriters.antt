@@ -16,9 +16,9 @@ use Rattle.mask.proofs.Laws.{has-zero, has-and, has-without}
 use Rattle.mask.proofs.FromLowest.{rest-less, setAt, set-lowest, set-none}
 use Rattle.route.specs.Steps.{blank}
 use Rattle.route.specs.declared.Step.{Step}
-use Rattle.slice.proofs.Filled.{zeros-at}
+use Rattle.precedence.proofs.Filled.{zeros-at}
 use Rattle.slice.specs.Slice.{variables}
-use Rattle.slice.specs.Order.{inTurn}
+use Rattle.precedence.specs.Order.{inTurn}
 use Rattle.answering.specs.Answer.{lastWriter, writerOf}
 use Rattle.answering.proofs.Filling.{filling-done}
 

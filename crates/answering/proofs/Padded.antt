@@ -9,10 +9,10 @@ use lib.ListN.{length, getD, take, replicate, length-append, length-replicate, l
 use lib.Seq.{length-take-le, getD-take, ext-getD}
 use borrow.Author.Tests.{ltb-true, ltb-false}
 use Rattle.mask.proofs.Truth.{split}
-use Rattle.slice.specs.Order.{inTurn}
+use Rattle.precedence.specs.Order.{inTurn}
 use Rattle.answering.specs.Answer.{padded}
-use Rattle.slice.proofs.Filled.{zeros-at}
-use Rattle.slice.proofs.InTurn.{length-inTurn, getD-map-inTurn}
+use Rattle.precedence.proofs.Filled.{zeros-at}
+use Rattle.precedence.proofs.InTurn.{length-inTurn, getD-map-inTurn}
 
 zeros-behind : (x : List ℕ) (n k : ℕ) → getD (x ++ replicate n 0) k 0 ≡ getD x k 0
 zeros-behind [] n k = zeros-at n k

@@ -9,8 +9,8 @@ use lib.Bits.{bitAnd}
 use Rattle.mask.specs.Mask.{has, count}
 use Rattle.route.specs.declared.Step.{Step}
 use Rattle.slice.specs.Slice.{variables}
-use Rattle.slice.specs.Precedence.{row}
-use Rattle.slice.specs.Order.{inTurn}
+use Rattle.precedence.specs.Precedence.{row}
+use Rattle.precedence.specs.Order.{inTurn}
 use Rattle.matching.specs.Straight.{fireAll, stepsOn}
 use Rattle.answering.specs.declared.Judged.{Judged}
 

@@ -12,8 +12,8 @@ ghost use Rattle.mask.specs.Mask.{has, count};
 ghost use Rattle.route.specs.declared.Step.{Step};
 ghost use Rattle.route.specs.Flat.{stepsIn};
 ghost use Rattle.slice.specs.Slice.{variables};
-ghost use Rattle.slice.specs.Order.{inTurn};
-ghost use Rattle.slice.specs.Table.{table};
+ghost use Rattle.precedence.specs.Order.{inTurn};
+ghost use Rattle.precedence.specs.Table.{table};
 ghost use Rattle.answering.specs.Answer.{padded, afterOf, writerOf, judgeStopped};
 ghost use Rattle.answering.specs.inner.Listed.{AnswersList};
 

@@ -9,8 +9,8 @@ use Rattle.version.specs.Limits.{nameFits}
 use Rattle.job.specs.Lines.{placesFit, stepFits, variableList, placeList, listsFit, among, stepRow, stepRows, routeRows}
 use Rattle.job.specs.Lines.{doneRow, doneRows, lineRows, checked}
 use Rattle.running.specs.Run.{runFrom, ran, performed}
-use Rattle.slice.specs.Order.{inTurn}
-use Rattle.slice.specs.Precedence.{clash, comesAfter, row}
+use Rattle.precedence.specs.Order.{inTurn}
+use Rattle.precedence.specs.Precedence.{clash, comesAfter, row}
 use Rattle.slice.specs.Slice.{variables, sweepStep, sweep, keptMask}
 use Rattle.search.specs.Search.{isSome, orElse, onwards, tryEach, search}
 use Rattle.matching.specs.Straight.{sameData, sameStep, allOf, fireAll, stepsOn, runsStraight}

@@ -14,9 +14,9 @@ use Rattle.route.specs.Steps.{blank}
 use Rattle.route.specs.declared.Step.{Step}
 use Rattle.route.specs.declared.Marking.{Marking}
 use Rattle.slice.specs.Slice.{variables}
-use Rattle.slice.specs.Order.{inTurn}
-use Rattle.slice.proofs.InTurn.{map-getD-inTurn}
-use Rattle.slice.proofs.Laws.{kept-below}
+use Rattle.precedence.specs.Order.{inTurn}
+use Rattle.precedence.proofs.InTurn.{map-getD-inTurn}
+use Rattle.slice.proofs.Sweep.{kept-below}
 use Rattle.matching.specs.Straight.{fireAll, stepsOn, runsStraight}
 use Rattle.matching.specs.Fit.{keptOf}
 use Rattle.matching.specs.KeptRows.{keptRows}

@@ -10,7 +10,7 @@ use Rattle.mask.specs.Mask.{below}
 use Rattle.route.specs.declared.Step.{Step}
 use Rattle.job.specs.Job.{Job, jobLine, newStart}
 use Rattle.running.specs.Run.{ran, performed}
-use Rattle.slice.specs.Order.{inTurn}
+use Rattle.precedence.specs.Order.{inTurn}
 use Rattle.matching.specs.Straight.{runsStraight}
 use Rattle.matching.specs.Fit.{keptOf}
 use Rattle.matching.specs.KeptRows.{keptRows}

@@ -12,7 +12,7 @@ use Rattle.job.specs.Job.{Job, jobOf}
 use Rattle.running.specs.Run.{ran}
 use Rattle.job.proofs.LongLists.{Refused, rows-alike, rows-off}
 use Rattle.running.proofs.LongLists.{ran-alike, ran-off}
-use Rattle.slice.specs.Table.{sliced}
+use Rattle.slice.specs.Slicing.{sliced}
 use Rattle.trying.specs.Try.{tried}
 use Rattle.judging.specs.Judge.{judged, searched, workAfter}
 use Rattle.writer.specs.Writes.{writeRow, wrote, outAfter}

@@ -9,7 +9,7 @@ use writer::Wrote;
 ghost use mathlib.Core.Path.{_≡_};
 ghost use lib.ListN.{length};
 ghost use Rattle.running.specs.Run.{ran};
-ghost use Rattle.slice.specs.Table.{sliced};
+ghost use Rattle.slice.specs.Slicing.{sliced};
 ghost use Rattle.trying.specs.Try.{tried};
 ghost use Rattle.judging.specs.Judge.{judged, workAfter};
 ghost use Rattle.writer.specs.Writes.{wrote, outAfter};

@@ -17,10 +17,10 @@ use Rattle.version.proofs.Limits.{name-stored}
 use Rattle.layout.specs.Text.{Form}
 use Rattle.facts.specs.Forms.{allBelow, rising, listFits, formFits, formLists, masked, recordOf}
 use Rattle.facts.proofs.Masks.{masked-below}
-use Rattle.tokens.specs.Tokens.{noEntries, added, along}
+use Rattle.tokens.specs.inner.Tokens.{noEntries, added, along}
 use Rattle.tokens.specs.declared.Entries.{Entries}
 use Rattle.tokens.proofs.Bytes.{apart}
-use Rattle.lines.specs.Lines.{IsForm, entriesFit, lineFits, lineLists}
+use Rattle.lines.specs.inner.Lines.{IsForm, entriesFit, lineFits, lineLists}
 use Rattle.lines.specs.declared.StepLine.{StepLine}
 
 right : (x : Bool) → (x && true) ≡ x

@@ -19,9 +19,9 @@ use Rattle.layout.specs.declared.Part.{Part}
 use Rattle.layout.specs.declared.Part.the-variants.{OldRoute, NewRoute, JobPart}
 use Rattle.layout.specs.declared.Point.{Point}
 use Rattle.layout.specs.declared.Point.the-variants.{Start, Open, Past, Digit, Digits, Gap, Closed, Lf, Stuck}
-use Rattle.tokens.specs.Tokens.{Spells}
+use Rattle.tokens.specs.inner.Tokens.{Spells}
 use Rattle.tokens.proofs.Bytes.{apart}
-use Rattle.lines.specs.Lines.{headWord, hasSteps}
+use Rattle.lines.specs.inner.Lines.{headWord, hasSteps}
 
 -- where another byte stands than the one that the layout has
 other : (b c : ℕ) (p : Point) → (b ≡ c → ⊥) → cond (eqb b c) p Stuck ≡ Stuck

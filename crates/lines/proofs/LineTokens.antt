@@ -12,11 +12,11 @@ use Rattle.layout.specs.Parse.{Line, noLine, withNum, stored, formOf, putStep, 
 use Rattle.layout.specs.declared.Word.the-variants.{Step, In, Out, Read, Write}
 use Rattle.layout.specs.declared.Part.{Part}
 use Rattle.layout.specs.declared.Point.the-variants.{Open, Digit}
-use Rattle.tokens.specs.Tokens.{Reading, Reached, TextOn, NumberOn, ListOn, listWord, withEntries}
+use Rattle.tokens.specs.inner.Tokens.{Reading, Reached, TextOn, NumberOn, ListOn, listWord, withEntries}
 use Rattle.tokens.specs.declared.Cursor.{Cursor}
 use Rattle.tokens.specs.declared.Numeral.{Numeral}
 use Rattle.tokens.specs.declared.Listed.{Listed}
-use Rattle.lines.specs.Lines.{hasSteps, NumberedOn, StepOn}
+use Rattle.lines.specs.inner.Lines.{hasSteps, NumberedOn, StepOn}
 use Rattle.lines.proofs.LineTexts.{end-spells, step-spells, in-spells, out-spells, read-spells, write-spells}
 use Rattle.lines.proofs.LineTexts.{write-end-spells}
 

@@ -21,7 +21,7 @@ use Rattle.version.proofs.Limits.{name-stored}
 use Rattle.mask.proofs.Truth.{both}
 use Rattle.layout.specs.Text.{Form}
 use Rattle.facts.specs.Forms.{formFits, formLists, formRow}
-use Rattle.lines.specs.Lines.{IsForm, lineFits, lineLists}
+use Rattle.lines.specs.inner.Lines.{IsForm, lineFits, lineLists}
 use Rattle.lines.specs.declared.StepLine.{StepLine}
 use Rattle.lines.proofs.LineForm.{fits-form, lists-form}
 

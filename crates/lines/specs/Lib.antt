@@ -1,3 +1,2 @@
 -- What reading one line tells, and its rows.
-pub mod Rows
-pub mod Lines
+pub mod inner

@@ -11,7 +11,7 @@ ghost use Prim.Native.Nat.{_+_, _≤_};
 ghost use lib.Dec.{eqb};
 ghost use lib.ListN.{length, getD};
 ghost use Rattle.version.specs.Limits.{Limits};
-ghost use Rattle.lines.specs.Lines.{NumberedOn, StepOn};
+ghost use Rattle.lines.specs.inner.Lines.{NumberedOn, StepOn};
 
 // A line of one word and one number: its first text, the number, and the end.
 pub fn numbered(v: Version, s: &[u8], from: usize, w: &[u8]) -> Numeral

@@ -19,8 +19,8 @@ ghost use Rattle.version.specs.declared.Version.{Version};
 ghost use Rattle.job.specs.Lines.{placesFit, doneRow};
 ghost use Rattle.layout.specs.Text.{Form};
 ghost use Rattle.facts.specs.Forms.{formFits, formRow, recordOf};
-ghost use Rattle.lines.specs.Lines.{entriesFit, lineFits, lineLists, IsForm};
-ghost use Rattle.lines.specs.Rows.{headRow, newRow, jobRow};
+ghost use Rattle.lines.specs.inner.Lines.{entriesFit, lineFits, lineLists, IsForm};
+ghost use Rattle.lines.specs.inner.Rows.{headRow, newRow, jobRow};
 
 fn places_fit(n: u64) -> bool
     ensures { λ r. ⌜ r ≡ placesFit n ⌝ }

@@ -14,7 +14,7 @@ use Rattle.mask.proofs.Count.{count-most}
 use Rattle.emit.specs.Numbers.{entry, over}
 use Rattle.emit.proofs.Decimals.{entry-most, entry-length}
 use Rattle.emit.proofs.Over.{over-map}
-use Rattle.slice.specs.Order.{inTurn}
+use Rattle.precedence.specs.Order.{inTurn}
 use Rattle.answering.specs.declared.Judged.{Judged}
 use Rattle.listing_lines.specs.Lines.{close, line, movedLine, afterWord, afterLine, orderWord, orderLine, markingWord}
 use Rattle.listing_lines.specs.Lines.{markingLine, valueWord, valueLine, valueLines, refusedWord, refusedLine}

@@ -12,7 +12,7 @@ use Rattle.mask.specs.Mask.{has, below, membersFrom, members}
 use Rattle.mask.proofs.Truth.{split}
 use Rattle.mask.proofs.Laws.{has-below}
 use Rattle.emit.specs.Numbers.{over}
-use Rattle.slice.specs.Order.{inTurn}
+use Rattle.precedence.specs.Order.{inTurn}
 
 -- the bytes of all texts
 abbrev pub size : (ℕ → List ℕ) → List ℕ → ℕ

@@ -24,11 +24,11 @@ use Rattle.job.specs.Job.{Job, jobLine, newStart}
 use Rattle.running.specs.Run.{ran, performed}
 use Rattle.running.proofs.RunLine.{ran-fits}
 use Rattle.slice.specs.Slice.{variables}
-use Rattle.slice.specs.Precedence.{row, comesAfter}
-use Rattle.slice.specs.Order.{inTurn}
+use Rattle.precedence.specs.Precedence.{row, comesAfter}
+use Rattle.precedence.specs.Order.{inTurn}
 use Rattle.running.proofs.Performed.{length-performed}
-use Rattle.slice.proofs.InTurn.{getD-map-inTurn}
-use Rattle.slice.proofs.Laws.{row-exact}
+use Rattle.precedence.proofs.InTurn.{getD-map-inTurn}
+use Rattle.precedence.proofs.Rows.{row-exact}
 use Rattle.matching.specs.Straight.{fireAll, stepsOn, runsStraight}
 use Rattle.matching.specs.Fit.{keptOf}
 use Rattle.matching.specs.KeptRows.{keptRows}
@@ -37,7 +37,7 @@ use Rattle.answering.specs.Answer.{padded, lastWriter, afterOf, writerOf, judge
 use Rattle.candidates.specs.FirstFit.{firstFit}
 use Rattle.judging.specs.Judge.{judgeFound, judgeRows, judged}
 use Rattle.answering.specs.declared.Judged.{Judged}
-use Rattle.slice.proofs.InTurn.{length-inTurn}
+use Rattle.precedence.proofs.InTurn.{length-inTurn}
 use Rattle.listing_lines.specs.Lines.{line, movedLine, afterWord, afterLine, afterLines, orderWord, orderLine}
 use Rattle.listing_lines.specs.Lines.{markingWord, markingLine, valueWord, valueLine, valueLines, refusedLine}
 use Rattle.listing.specs.Listing.{movedText, listing}

@@ -8,7 +8,7 @@ use lib.Bits.{bitAnd}
 use lib.Count.{trailingZeros}
 use lib.ListN.{getD}
 use Rattle.mask.specs.Mask.{members}
-use Rattle.slice.specs.Order.{inTurn}
+use Rattle.precedence.specs.Order.{inTurn}
 use Rattle.emit.specs.Emit.{Room, Emits}
 use Rattle.emit.specs.Numbers.{over}
 use Rattle.emit.proofs.Loops.{Left, left-start, left-room, left-turn, left-end, left-as, mask-room, mask-turn}

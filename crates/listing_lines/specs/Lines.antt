@@ -6,7 +6,7 @@ use lib.Dec.{eqb}
 use lib.ListN.{getD, take}
 use Rattle.mask.specs.Mask.{members, count}
 use Rattle.emit.specs.Numbers.{entry, over}
-use Rattle.slice.specs.Order.{inTurn}
+use Rattle.precedence.specs.Order.{inTurn}
 
 -- the fixed texts: `(moved (kept`, `) (dropped`, `))` and LF, `(after`, `(order`, `(marking`, `(value`, `(refused`, `)`
 -- and LF

@@ -23,7 +23,7 @@ use Rattle.running.proofs.RunLine.{ran-refused, checked-lines, ran-fits}
 use Rattle.running.proofs.Performed.{length-performed, holds-performed, length-holds}
 use Rattle.running.proofs.KnownNames.{performed-names}
 use Rattle.slice.specs.Slice.{variables}
-use Rattle.slice.proofs.Laws.{kept-below}
+use Rattle.slice.proofs.Sweep.{kept-below}
 use Rattle.matching.specs.Fit.{keptOf}
 use Rattle.matching.specs.KeptRows.{keptRows, rowsTo12}
 use Rattle.matching.specs.inner.Matched.{matched, Ready, PreparedOf}

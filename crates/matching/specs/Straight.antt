@@ -10,7 +10,7 @@ use lib.ListN.{length, getD}
 use Rattle.route.specs.Steps.{blank, lookup}
 use Rattle.route.specs.Firing.{ifFires}
 use Rattle.route.specs.declared.Step.{Step}
-use Rattle.slice.specs.Order.{inTurn}
+use Rattle.precedence.specs.Order.{inTurn}
 use Rattle.search.specs.Search.{isSome}
 
 unfoldable pub sameData : Step → Option Step → Bool

@@ -17,7 +17,7 @@ use Rattle.matching.proofs.Choice.{cond-yes, cond-no}
 use Rattle.listing.specs.Listing.{listing}
 use Rattle.listing.specs.Written.{writtenFor, outAfter}
 use Rattle.listing.specs.declared.Written.{Written}
-use Rattle.reader.specs.Read.{ReadTo}
+use Rattle.reader.specs.inner.Read.{ReadTo}
 use Rattle.reader.specs.declared.Counts.{Counts}
 use Rattle.ops.specs.Print.{sheetAnswer, printed, outPrinted, workPrinted}
 use Rattle.ops.proofs.ReadJob.{read-job}

@@ -19,7 +19,7 @@ use Rattle.facts.specs.declared.Sheet.{Sheet}
 use Rattle.facts.proofs.DoneNames.{read-dones}
 use Rattle.facts.proofs.PassingLines.{lines-fine}
 use Rattle.facts.proofs.Records.{reads-as, read-lines}
-use Rattle.reader.specs.Read.{ReadTo}
+use Rattle.reader.specs.inner.Read.{ReadTo}
 use Rattle.reader.specs.declared.Counts.{Counts}
 
 filled-length : (n : ℕ) (l : List Step) → length l ≤ 64 → length (filled n l .steps) ≡ 64

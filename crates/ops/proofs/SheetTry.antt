@@ -9,7 +9,7 @@ use Rattle.job.specs.Job.{Job, flatJob}
 use Rattle.matching.proofs.Choice.{cond-yes, cond-no}
 use Rattle.trying.specs.Try.{tried, tryStopped}
 use Rattle.trying.specs.declared.Tried.{Tried}
-use Rattle.reader.specs.Read.{ReadTo}
+use Rattle.reader.specs.inner.Read.{ReadTo}
 use Rattle.reader.specs.declared.Counts.{Counts}
 use Rattle.ops.specs.SheetTry.{triedFacts, triedSheet}
 use Rattle.ops.proofs.ReadJob.{read-job}

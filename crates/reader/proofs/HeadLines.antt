@@ -21,13 +21,13 @@ use Rattle.layout.specs.declared.Point.the-variants.{Start, Open}
 use Rattle.facts.specs.Facts.{State, failed, settled, headed, withOld, withNew, oldHead, newHead, jobHead, more}
 use Rattle.facts.specs.declared.Sheet.{Sheet}
 use Rattle.refusal.proofs.Rows.{head-passed, unless-elim}
-use Rattle.tokens.specs.Tokens.{Reading, Reached, TextOn}
+use Rattle.tokens.specs.inner.Tokens.{Reading, Reached, TextOn}
 use Rattle.tokens.specs.declared.Cursor.{Cursor}
 use Rattle.tokens.specs.declared.Numeral.{Numeral}
-use Rattle.lines.specs.Rows.{headRow, newRow, jobRow}
-use Rattle.lines.specs.Lines.{headWord, NumberedOn}
-use Rattle.reader.specs.Prefix.{backSteps, backDones, oldState, newState, jobState, stateOf, Upto, passed}
-use Rattle.reader.specs.Prefix.{brokenAt, Placed, NoStep, bare, OldOn, NewOn, JobOn}
+use Rattle.lines.specs.inner.Rows.{headRow, newRow, jobRow}
+use Rattle.lines.specs.inner.Lines.{headWord, NumberedOn}
+use Rattle.reader.specs.inner.Prefix.{backSteps, backDones, oldState, newState, jobState, stateOf, Upto, passed}
+use Rattle.reader.specs.inner.Prefix.{brokenAt, Placed, NoStep, bare, OldOn, NewOn, JobOn}
 use Rattle.reader.specs.declared.Pass.{Pass}
 use Rattle.reader.specs.declared.Head.{Head}
 use Rattle.lines.proofs.LineTexts.{old-spells, new-spells, job-spells}

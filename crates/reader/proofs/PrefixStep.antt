@@ -16,10 +16,10 @@ use Rattle.layout.specs.declared.Part.the-variants.{OldRoute, NewRoute}
 use Rattle.layout.specs.declared.Point.the-variants.{Open}
 use Rattle.facts.specs.Facts.{State, failed, settled, newHead, jobHead, more, moreSteps, moreDones, factsOf}
 use Rattle.facts.specs.declared.Sheet.{Sheet}
-use Rattle.tokens.specs.Tokens.{Reached}
+use Rattle.tokens.specs.inner.Tokens.{Reached}
 use Rattle.tokens.proofs.Bytes.{apart}
-use Rattle.reader.specs.Prefix.{backSteps, backDones, oldState, newState, jobState, stateOf, Prefix, Upto, passed}
-use Rattle.reader.specs.Prefix.{brokenAt}
+use Rattle.reader.specs.inner.Prefix.{backSteps, backDones, oldState, newState, jobState, stateOf, Prefix, Upto, passed}
+use Rattle.reader.specs.inner.Prefix.{brokenAt}
 
 -- ---- an outcome over the facts
 

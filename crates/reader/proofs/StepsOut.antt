@@ -12,7 +12,7 @@ use Rattle.route.specs.Flat.{stepsIn}
 use Rattle.route.specs.declared.Step.{Step}
 use Rattle.route.specs.declared.Route.{Route}
 use Rattle.route.proofs.FlatSteps.{length-flat}
-use Rattle.reader.specs.Read.{routeIn}
+use Rattle.reader.specs.inner.Read.{routeIn}
 
 pub record Copied (places len : ℕ) (l : List Step) (r : Route) (i : ℕ) : Type 0 where
   pub few : i ≤ 64

@@ -20,11 +20,11 @@ use Rattle.layout.specs.declared.Point.the-variants.{Open}
 use Rattle.facts.specs.Facts.{State, failed, settled, headed, answered, readBy, readOf}
 use Rattle.facts.specs.JobPart.{afterLines, jobPart, PastLines}
 use Rattle.facts.specs.declared.Sheet.{Sheet}
-use Rattle.tokens.specs.Tokens.{Broken}
-use Rattle.lines.specs.Lines.{hasSteps}
-use Rattle.reader.specs.Prefix.{stateOf, Prefix, Upto, passed, withRoute, withDones, OldOn, NewOn, JobOn, StepsOn}
-use Rattle.reader.specs.Prefix.{DonesOn}
-use Rattle.reader.specs.Read.{noCounts, ReadInto, ReadTo, routeIn}
+use Rattle.tokens.specs.inner.Tokens.{Broken}
+use Rattle.lines.specs.inner.Lines.{hasSteps}
+use Rattle.reader.specs.inner.Prefix.{stateOf, Prefix, Upto, passed, withRoute, withDones, OldOn, NewOn, JobOn, StepsOn}
+use Rattle.reader.specs.inner.Prefix.{DonesOn}
+use Rattle.reader.specs.inner.Read.{noCounts, ReadInto, ReadTo, routeIn}
 use Rattle.reader.specs.declared.Pass.{Pass}
 use Rattle.reader.specs.declared.Head.{Head}
 use Rattle.reader.specs.declared.Filled.{Filled}

@@ -1,3 +1,2 @@
 -- What reading tells, inside and at its end.
-pub mod Prefix
-pub mod Read
+pub mod inner

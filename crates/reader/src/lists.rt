@@ -5,7 +5,7 @@ use version::Version;
 ghost use mathlib.Core.Path.{_≡_};
 ghost use lib.ListN.{replicate};
 ghost use Rattle.version.specs.Limits.{Limits};
-ghost use Rattle.reader.specs.Read.{noCounts, ReadInto, ReadTo};
+ghost use Rattle.reader.specs.inner.Read.{noCounts, ReadInto, ReadTo};
 
 fn refused(number: u32, second: u64) -> Counts
     ensures { λ r. ⌜ r ≡ noCounts number second ⌝ }

@@ -23,7 +23,7 @@ ghost use Prim.Native.Nat.{_+_, _≤_};
 ghost use lib.ListN.{replicate};
 ghost use Rattle.version.specs.Limits.{Limits};
 ghost use Rattle.route.specs.Flat.{stepsIn};
-ghost use Rattle.reader.specs.Prefix.{brokenAt, Placed, OldOn, NewOn, JobOn, StepsOn, DonesOn};
+ghost use Rattle.reader.specs.inner.Prefix.{brokenAt, Placed, OldOn, NewOn, JobOn, StepsOn, DonesOn};
 
 fn broken(at: usize) -> Pass
     ensures { λ r. ⌜ r ≡ brokenAt at ⌝ }

@@ -6,7 +6,7 @@ use route::flat;
 ghost use mathlib.Core.Path.{_≡_};
 ghost use Rattle.route.specs.Flat.{stepsIn};
 ghost use Rattle.facts.specs.Facts.{readOf};
-ghost use Rattle.reader.specs.Read.{routeIn};
+ghost use Rattle.reader.specs.inner.Read.{routeIn};
 
 // A route by value of the steps in 256 numbers.
 fn route_in(places: u64, len: usize, list: &[u64; 256]) -> Route

@@ -20,7 +20,8 @@ use Rattle.running.proofs.LongLists.{ran-alike, ran-off}
 use Rattle.running.proofs.Performed.{length-performed}
 use Rattle.running.proofs.RunLine.{ran-refused, checked-lines, ran-fits}
 use Rattle.slice.specs.Slice.{variables, keptMask}
-use Rattle.slice.specs.Table.{table, slicedStopped, sliced}
+use Rattle.precedence.specs.Table.{table}
+use Rattle.slice.specs.Slicing.{slicedStopped, sliced}
 use Rattle.slice.specs.declared.Sliced.{Sliced}
 
 module _ (j : Job) where

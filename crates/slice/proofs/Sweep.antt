@@ -178,3 +178,11 @@ module _ (l : List Step) (vars : ℕ) where
       → (v : ℕ) × (writesAt l i v ≡ true) × (has (liveAt l vars (suc i)) v ≡ true)
   unfolding writesAt
   kept-writes i h = meets-some (getD l i blank .writes) (liveAt l vars (suc i)) (sym (kept-is i) ∙ h)
+
+-- an occurrence that writes nothing is never kept
+pub silent-not-kept : (l : List Step) (vars i : ℕ) → getD l i blank .writes ≡ 0 → has (keptMask l vars) i ≡ false
+silent-not-kept l vars i h = kept-is l vars i ∙ ap (λ (m : ℕ). meets m (liveAt l vars (suc i))) h
+
+-- only occurrences are kept
+pub kept-below : (l : List Step) (vars i : ℕ) → has (keptMask l vars) i ≡ true → i < length l
+kept-below l vars i h = let (v, w, k) = kept-writes l vars i h in written-below l i v w

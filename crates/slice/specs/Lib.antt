@@ -1,6 +1,3 @@
--- Which occurrences matter, and which must stay in order.
+-- Which occurrences matter, and the operation slice.
 pub mod Slice
-pub mod Precedence
-pub mod Order
-pub mod ByVariable
-pub mod Table
+pub mod Slicing

@@ -1,10 +1,9 @@
 // The slice and the precedence table.
 ghost use mathlib.Core.Path.{_≡_};
-ghost use Rattle.slice.specs.Table.{slicedStopped};
+ghost use Rattle.slice.specs.Slicing.{slicedStopped};
 
 pub mod slicing;
 pub mod sweeping;
-pub mod tabling;
 pub mod variables;
 
 // Occurrence k is bit k - 1 of a mask and row k - 1 of the table.

@@ -1,15 +1,15 @@
 // The operation slice: the rows to 9, then what is kept and the table.
 use crate::Sliced;
 use crate::sweeping::keep;
-use crate::tabling::table_of;
 use crate::variables::variables_of;
 use job::checks::check_lines;
+use precedence::table_of;
 use route::Route;
 use route::laying::lay;
 use running::lists::begin;
 ghost use mathlib.Core.Path.{_≡_};
 ghost use Rattle.job.specs.Job.{jobOf, flatJob};
-ghost use Rattle.slice.specs.Table.{sliced};
+ghost use Rattle.slice.specs.Slicing.{sliced};
 
 // The rows to 9 over lists of steps, then what is kept and the table.
 pub fn slice_lists(

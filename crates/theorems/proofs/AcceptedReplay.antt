@@ -16,7 +16,7 @@ use Rattle.route.specs.Steps.{lookup}
 use Rattle.route.specs.declared.Step.{Step}
 use Rattle.job.specs.Job.{Job, newStart}
 use Rattle.slice.specs.Slice.{variables}
-use Rattle.slice.specs.Order.{inTurn, times}
+use Rattle.precedence.specs.Order.{inTurn, times}
 use Rattle.matching.specs.Straight.{sameData, sameStep}
 use Rattle.matching.specs.Fit.{keptOf, FitAt}
 use Rattle.trying.specs.Try.{tried}

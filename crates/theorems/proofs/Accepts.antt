@@ -14,7 +14,7 @@ use Rattle.mask.proofs.Truth.{both}
 use Rattle.route.specs.declared.Step.{Step}
 use Rattle.job.specs.Job.{Job, jobLine, newStart}
 use Rattle.running.specs.Run.{ran}
-use Rattle.slice.specs.Order.{inTurn}
+use Rattle.precedence.specs.Order.{inTurn}
 use Rattle.search.specs.Search.{isSome}
 use Rattle.matching.specs.Straight.{sameStep, fireAll, stepsOn, runsStraight}
 use Rattle.matching.specs.Fit.{keptOf, KeptFit, FitAt, Fit}

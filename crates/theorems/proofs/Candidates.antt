@@ -10,7 +10,7 @@ use lib.Dec.{eqb}
 use lib.ListN.{length, getD}
 use borrow.Author.Tests.{eq-eqb, ne-eqb}
 use Rattle.mask.specs.Mask.{has, membersFrom, members}
-use Rattle.slice.specs.Order.{times}
+use Rattle.precedence.specs.Order.{times}
 use Rattle.theorems.proofs.Entries.{times-head, times-cons-elim}
 
 -- ---- the entries of a list, by their positions in it

@@ -7,7 +7,7 @@ use lib.Bits.{bitOr}
 use Rattle.mask.specs.Mask.{has, meets}
 use Rattle.mask.proofs.Laws.{has-or, meets-none}
 use Rattle.route.specs.declared.Step.{Step}
-use Rattle.slice.specs.Precedence.{clash}
+use Rattle.precedence.specs.Precedence.{clash}
 use Rattle.theorems.specs.Values.{Store, Work, perform}
 use Rattle.theorems.proofs.Perform.{unwritten, perform-agree}
 

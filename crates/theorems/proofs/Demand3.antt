@@ -9,7 +9,7 @@ use Rattle.route.specs.Steps.{names}
 use Rattle.route.specs.Firing.{start}
 use Rattle.route.specs.declared.Step.{Step}
 use Rattle.job.specs.Job.{Job, newStart}
-use Rattle.slice.specs.Order.{times}
+use Rattle.precedence.specs.Order.{times}
 use Rattle.matching.specs.Straight.{fireAll, stepsOn}
 use Rattle.trying.specs.Try.{tried}
 use Rattle.judging.specs.Judge.{judged}

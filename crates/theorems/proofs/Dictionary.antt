@@ -3,7 +3,7 @@ use mathlib.Core.Path.{_≡_, refl, ap, ap₂}
 use mathlib.Core.List.{List, _∷_, map}
 use Prim.Native.Nat.{ℕ, suc, _<_}
 use native.Mathlib.Omega.{arith}
-use Rattle.slice.specs.Order.{times}
+use Rattle.precedence.specs.Order.{times}
 use Rattle.search.specs.Dictionary.{NotAfter, beginning, smaller, same}
 use Rattle.theorems.proofs.Entries.{times-head}
 

@@ -10,7 +10,7 @@ use lib.ListN.{length}
 use Rattle.mask.specs.Mask.{has, membersFrom, members}
 use Rattle.route.specs.declared.Step.{Step}
 use Rattle.slice.specs.Slice.{readsAt, writesAt, keptMask}
-use Rattle.slice.specs.Order.{inTurn}
+use Rattle.precedence.specs.Order.{inTurn}
 use Rattle.slice.proofs.Sweep.{liveAt, live-end, live-stays, live-read, kept-writer}
 use Rattle.theorems.specs.Values.{Store, Work, allBlank, perform, performAll}
 use Rattle.theorems.proofs.Perform.{stepAt, Agree, unwritten, perform-agree}

@@ -13,7 +13,7 @@ use borrow.Author.Tests.{eq-eqb, ne-eqb, not-true}
 use Rattle.mask.specs.Mask.{has, bit, count}
 use Rattle.mask.proofs.Laws.{has-ext, has-zero}
 use Rattle.mask.proofs.Truth.{both}
-use Rattle.slice.specs.Order.{times, EachOnce}
+use Rattle.precedence.specs.Order.{times, EachOnce}
 use Rattle.theorems.proofs.Entries.{times-head, eachOnce-has}
 use Rattle.mask.proofs.Count.{one, one-same, one-some, one-most, has-new, has-old, count-none, count-new}
 

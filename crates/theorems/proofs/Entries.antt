@@ -10,9 +10,9 @@ use borrow.Author.Tests.{eqb-true, eq-eqb, not-true}
 use Rattle.mask.specs.Mask.{has}
 use Rattle.route.specs.Steps.{blank}
 use Rattle.route.specs.declared.Step.{Step}
-use Rattle.slice.specs.Precedence.{comesAfter}
-use Rattle.slice.specs.Order.{inTurn, times, EachOnce, noneOf, inOrder}
-use Rattle.slice.proofs.InTurn.{map-getD-inTurn}
+use Rattle.precedence.specs.Precedence.{comesAfter}
+use Rattle.precedence.specs.Order.{inTurn, times, EachOnce, noneOf, inOrder}
+use Rattle.precedence.proofs.InTurn.{map-getD-inTurn}
 use Rattle.matching.specs.Straight.{allOf, stepsOn}
 use Rattle.mask.proofs.Truth.{both}
 

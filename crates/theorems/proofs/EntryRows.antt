@@ -10,8 +10,8 @@ use Rattle.route.specs.Steps.{blank, lookup}
 use Rattle.route.specs.Firing.{fire, ifFires}
 use Rattle.route.specs.declared.Step.{Step}
 use Rattle.route.proofs.IfFires.{ifFires-can, ifFires-elim}
-use Rattle.slice.specs.Precedence.{comesAfter}
-use Rattle.slice.specs.Order.{noneOf, inOrder}
+use Rattle.precedence.specs.Precedence.{comesAfter}
+use Rattle.precedence.specs.Order.{noneOf, inOrder}
 use Rattle.matching.specs.Straight.{fireAll, stepsOn}
 use Rattle.trying.specs.Try.{tryStopped, tryAccepted, tryFrom}
 use Rattle.trying.specs.declared.Tried.{Tried}

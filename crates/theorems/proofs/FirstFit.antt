@@ -13,7 +13,7 @@ use lib.ListN.{length, getD, length-map}
 use Rattle.mask.specs.Mask.{has, members, count}
 use Rattle.mask.proofs.Laws.{has-zero}
 use Rattle.route.specs.declared.Step.{Step}
-use Rattle.slice.specs.Order.{times, EachOnce}
+use Rattle.precedence.specs.Order.{times, EachOnce}
 use Rattle.search.specs.Search.{isSome, search}
 use Rattle.matching.specs.Straight.{sameStep, fireAll, stepsOn}
 use Rattle.matching.specs.Fit.{keptOf, KeptFit}

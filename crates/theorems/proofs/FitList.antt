@@ -11,12 +11,12 @@ use lib.ListN.{length, getD}
 use Rattle.mask.proofs.Truth.{both}
 use Rattle.route.specs.Steps.{blank}
 use Rattle.route.specs.declared.Step.{Step}
-use Rattle.slice.specs.Order.{times}
+use Rattle.precedence.specs.Order.{times}
 use Rattle.search.specs.Search.{isSome}
 use Rattle.matching.specs.Straight.{allOf, sameStep, fireAll, stepsOn, runsStraight}
 use Rattle.matching.proofs.AllOf.{allOf-elim}
 use Rattle.matching.specs.Fit.{KeptFit, FitAt}
-use Rattle.slice.proofs.InTurn.{times-inTurn}
+use Rattle.precedence.proofs.InTurn.{times-inTurn}
 use Rattle.theorems.proofs.Entries.{allOf-stepsOn-elim, stepsOn-inTurn}
 
 some-of : (q : Option ℕ) → isSome q ≡ true → q ≡ some (Option·getD q 0)

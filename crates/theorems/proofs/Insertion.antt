@@ -6,7 +6,7 @@ use Prim.Native.Nat.{ℕ, _+_, _<_}
 use native.Mathlib.Omega.{arith}
 use lib.Dec.{eqb}
 use borrow.Author.Tests.{eqb-true}
-use Rattle.slice.specs.Order.{times}
+use Rattle.precedence.specs.Order.{times}
 use Rattle.theorems.proofs.Entries.{times-head}
 
 -- k is r with x put in somewhere

@@ -18,7 +18,7 @@ use Rattle.mask.proofs.Truth.{split}
 use Rattle.route.specs.declared.Step.{Step}
 use Rattle.job.specs.Job.{Job, jobLine, newStart}
 use Rattle.running.specs.Run.{ran}
-use Rattle.slice.specs.Order.{inTurn}
+use Rattle.precedence.specs.Order.{inTurn}
 use Rattle.matching.specs.Straight.{fireAll, stepsOn, runsStraight}
 use Rattle.matching.specs.Fit.{keptOf, FitAt}
 use Rattle.search.specs.Dictionary.{NotAfter}
@@ -30,7 +30,7 @@ use Rattle.answering.specs.declared.Judged.{Judged}
 use Rattle.theorems.specs.Demand3.{Runs, stepsDone, positions, FitFor, ordered}
 use Rattle.theorems.specs.Given.{Given}
 use Rattle.refusal.proofs.Rows.{cond-zero}
-use Rattle.slice.proofs.InTurn.{length-inTurn}
+use Rattle.precedence.proofs.InTurn.{length-inTurn}
 use Rattle.theorems.proofs.Runs.{done-length, steps-short}
 use Rattle.mask.proofs.Count.{count-most}
 use Rattle.theorems.proofs.EachOnce.{length-eachOnce}

@@ -17,8 +17,8 @@ use Rattle.route.specs.declared.Step.{Step}
 use Rattle.refusal.specs.declared.Outcome.{Outcome}
 use Rattle.refusal.proofs.Rows.{row-passes, rows-end, cond-zero, unless-number, first-number}
 use Rattle.slice.specs.Slice.{variables}
-use Rattle.slice.specs.Order.{times, EachOnce}
-use Rattle.slice.proofs.Laws.{kept-below}
+use Rattle.precedence.specs.Order.{times, EachOnce}
+use Rattle.slice.proofs.Sweep.{kept-below}
 use Rattle.search.specs.Search.{isSome}
 use Rattle.matching.specs.Straight.{sameData, sameStep, runsStraight}
 use Rattle.matching.specs.Fit.{keptOf, FitAt}

@@ -8,8 +8,8 @@ use lib.ListN.{length}
 use Rattle.mask.specs.Mask.{has, members}
 use Rattle.route.specs.declared.Step.{Step}
 use Rattle.slice.specs.Slice.{keptMask}
-use Rattle.slice.specs.Order.{inTurn, EachOnce, inOrder}
-use Rattle.slice.proofs.Laws.{kept-below}
+use Rattle.precedence.specs.Order.{inTurn, EachOnce, inOrder}
+use Rattle.slice.proofs.Sweep.{kept-below}
 use Rattle.theorems.specs.Values.{Store, Work, allBlank, performAll}
 use Rattle.theorems.proofs.Perform.{stepAt}
 use Rattle.theorems.proofs.Drop.{drop-unkept}

@@ -11,7 +11,7 @@ use borrow.Author.Tests.{eqb-true, eq-eqb, leb-true, le-leb}
 use Rattle.mask.specs.Mask.{has, bit}
 use Rattle.mask.proofs.Truth.{both}
 use Rattle.refusal.specs.Rows.{pass, refuse}
-use Rattle.slice.specs.Order.{EachOnce}
+use Rattle.precedence.specs.Order.{EachOnce}
 use Rattle.trying.specs.Try.{isKept, listRow}
 use Rattle.theorems.specs.Demand3.{positions}
 use Rattle.theorems.proofs.EachOnce.{marks, fresh, marks-old, eachOnce-elim, eachOnce-intro}

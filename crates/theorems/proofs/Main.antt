@@ -13,10 +13,11 @@ use Rattle.route.specs.Steps.{blank}
 use Rattle.route.specs.declared.Step.{Step}
 use Rattle.job.specs.Job.{Job, jobLine, newStart}
 use Rattle.slice.specs.Slice.{Kept, keptMask}
-use Rattle.slice.specs.Precedence.{comesAfter, row}
-use Rattle.slice.specs.Order.{inTurn, EachOnce, inOrder}
+use Rattle.precedence.specs.Precedence.{comesAfter, row}
+use Rattle.precedence.specs.Order.{inTurn, EachOnce, inOrder}
 use Rattle.slice.proofs.Closure.{kept-iff}
-use Rattle.slice.proofs.Laws.{silent-not-kept, row-exact}
+use Rattle.precedence.proofs.Rows.{row-exact}
+use Rattle.slice.proofs.Sweep.{silent-not-kept}
 use Rattle.matching.specs.Straight.{fireAll, stepsOn}
 use Rattle.matching.specs.KeptRows.{keptRows}
 use Rattle.trying.specs.Try.{tried}

@@ -11,7 +11,7 @@ use Rattle.route.specs.Steps.{names, lookup}
 use Rattle.route.specs.Firing.{fire}
 use Rattle.route.specs.declared.Step.{Step}
 use Rattle.route.proofs.Toggle.{fire-toggles}
-use Rattle.slice.specs.Order.{times}
+use Rattle.precedence.specs.Order.{times}
 use Rattle.matching.specs.Straight.{fireAll}
 use Rattle.theorems.proofs.Entries.{times-head}
 use Rattle.theorems.proofs.Insertion.{Insertion, here, there, insertion-times, take-out}

@@ -9,8 +9,8 @@ use native.Mathlib.Decide.{ℕ-discrete, decLt}
 use borrow.Author.Tests.{eq-eqb, ne-eqb, le-ltb}
 use Rattle.mask.specs.Mask.{has, membersFrom, members}
 use Rattle.route.specs.declared.Step.{Step}
-use Rattle.slice.specs.Precedence.{comesAfter}
-use Rattle.slice.specs.Order.{times, EachOnce, noneOf, inOrder}
+use Rattle.precedence.specs.Precedence.{comesAfter}
+use Rattle.precedence.specs.Order.{times, EachOnce, noneOf, inOrder}
 use Rattle.theorems.proofs.Entries.{noneOf-intro}
 
 -- ---- each once

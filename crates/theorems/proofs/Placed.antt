@@ -18,8 +18,8 @@ use Rattle.route.specs.Steps.{blank, lookup}
 use Rattle.route.specs.Firing.{fire, ifFires, fireNext}
 use Rattle.route.specs.declared.Step.{Step}
 use Rattle.route.proofs.IfFires.{ifFires-can, ifFires-elim}
-use Rattle.slice.specs.Precedence.{comesAfter}
-use Rattle.slice.specs.Order.{times, noneOf, inOrder}
+use Rattle.precedence.specs.Precedence.{comesAfter}
+use Rattle.precedence.specs.Order.{times, noneOf, inOrder}
 use Rattle.matching.specs.Straight.{fireAll, stepsOn}
 use Rattle.candidates.specs.Placing.{before, placeNext}
 use Rattle.search.proofs.Finds.{Allowed, done, then}

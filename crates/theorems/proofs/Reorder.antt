@@ -9,8 +9,8 @@ use native.Mathlib.Omega.{arith}
 use lib.Dec.{ltb}
 use borrow.Author.Tests.{ltb-false, not-true}
 use Rattle.route.specs.declared.Step.{Step}
-use Rattle.slice.specs.Precedence.{clash, comesAfter}
-use Rattle.slice.specs.Order.{times, EachOnce, noneOf, inOrder}
+use Rattle.precedence.specs.Precedence.{clash, comesAfter}
+use Rattle.precedence.specs.Order.{times, EachOnce, noneOf, inOrder}
 use Rattle.mask.proofs.Truth.{both}
 use Rattle.theorems.specs.Values.{Store, Work, perform, performAll}
 use Rattle.theorems.proofs.Perform.{stepAt}

@@ -11,7 +11,7 @@ use Rattle.route.specs.Firing.{fire}
 use Rattle.route.specs.Steps.{lookup}
 use Rattle.route.specs.declared.Step.{Step}
 use Rattle.route.proofs.IfFires.{ifFires-can, ifFires-elim}
-use Rattle.slice.specs.Order.{times}
+use Rattle.precedence.specs.Order.{times}
 use Rattle.theorems.specs.Values.{Store, Work, End, ended, readings, perform, performAll, replayFrom}
 use Rattle.theorems.proofs.Entries.{times-head}
 

@@ -18,8 +18,8 @@ use Rattle.running.specs.declared.Ran.{Ran}
 use Rattle.running.proofs.KnownNames.{first-fires, ran-is, performed-names}
 use Rattle.running.proofs.Performed.{length-performed, performed-at}
 use Rattle.running.proofs.RunLine.{ran-fits}
-use Rattle.slice.specs.Order.{inTurn, times}
-use Rattle.slice.proofs.InTurn.{times-inTurn}
+use Rattle.precedence.specs.Order.{inTurn, times}
+use Rattle.precedence.proofs.InTurn.{times-inTurn}
 use Rattle.matching.specs.Straight.{fireAll}
 use Rattle.theorems.specs.Values.{Work, allBlank, replay, performAll}
 use Rattle.theorems.specs.Demand3.{Runs, stepsDone, nameAt, wholeJob}

@@ -17,11 +17,11 @@ use Rattle.mask.proofs.Truth.{split, both}
 use Rattle.route.specs.declared.Step.{Step}
 use Rattle.job.specs.Job.{Job, newStart}
 use Rattle.slice.specs.Slice.{LastWriter, variables, writesAt}
-use Rattle.slice.specs.Precedence.{row, comesAfter}
-use Rattle.slice.specs.Order.{inTurn}
+use Rattle.precedence.specs.Precedence.{row, comesAfter}
+use Rattle.precedence.specs.Order.{inTurn}
 use Rattle.slice.proofs.Closure.{kept-iff}
-use Rattle.slice.proofs.Laws.{row-exact}
-use Rattle.slice.proofs.InTurn.{length-inTurn, getD-map-inTurn}
+use Rattle.precedence.proofs.Rows.{row-exact}
+use Rattle.precedence.proofs.InTurn.{length-inTurn, getD-map-inTurn}
 use Rattle.matching.specs.Straight.{runsStraight}
 use Rattle.matching.specs.Fit.{keptOf}
 use Rattle.answering.specs.Answer.{lastWriter, afterOf, writerOf, answer}

@@ -13,7 +13,7 @@ use Rattle.route.specs.declared.Step.{Step}
 use Rattle.job.specs.Job.{Job, oldStart, newStart}
 use Rattle.running.specs.Run.{ran, performed}
 use Rattle.slice.specs.Slice.{variables}
-use Rattle.slice.specs.Order.{inTurn, times}
+use Rattle.precedence.specs.Order.{inTurn, times}
 use Rattle.matching.specs.Fit.{Fit}
 use Rattle.trying.specs.Try.{tried}
 use Rattle.judging.specs.Judge.{judged}

@@ -5,7 +5,7 @@ use mathlib.Core.List.{List, map}
 use Prim.Native.Nat.{ℕ, suc}
 use lib.ListN.{length}
 use Rattle.job.specs.Job.{Job, newStart}
-use Rattle.slice.specs.Order.{inTurn}
+use Rattle.precedence.specs.Order.{inTurn}
 use Rattle.matching.specs.Straight.{runsStraight}
 use Rattle.search.specs.Dictionary.{NotAfter}
 use Rattle.theorems.specs.Demand3.{stepsDone, FitFor}

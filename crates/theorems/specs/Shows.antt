@@ -8,7 +8,7 @@ use lib.ListN.{length, getD, take}
 use Rattle.mask.specs.Mask.{has, count}
 use Rattle.job.specs.Job.{Job, newStart}
 use Rattle.slice.specs.Slice.{Kept, LastWriter, variables, writesAt}
-use Rattle.slice.specs.Precedence.{comesAfter}
+use Rattle.precedence.specs.Precedence.{comesAfter}
 use Rattle.matching.specs.Straight.{fireAll, stepsOn, runsStraight}
 use Rattle.answering.specs.declared.Judged.{Judged}
 use Rattle.theorems.specs.Demand3.{stepsDone, positions}

@@ -14,7 +14,7 @@ use Rattle.layout.specs.Points.{alive, next}
 use Rattle.layout.specs.Parse.{Line, Parsed, took, keep, atEnd, run, parse}
 use Rattle.layout.specs.declared.Point.{Point}
 use Rattle.layout.specs.declared.Point.the-variants.{Stuck}
-use Rattle.tokens.specs.Tokens.{Reading, Broken, Reached}
+use Rattle.tokens.specs.inner.Tokens.{Reading, Broken, Reached}
 
 pub apart : true ≡ false → ⊥
 apart h = let z : _≡_ {A = ℕ} 0 1 = cc in omega arith

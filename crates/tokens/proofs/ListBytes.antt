@@ -18,8 +18,8 @@ use Rattle.layout.specs.declared.Word.the-variants.{Old, New, Job, Done, Step, 
 use Rattle.layout.specs.declared.Part.{Part}
 use Rattle.layout.specs.declared.Point.{Point}
 use Rattle.layout.specs.declared.Point.the-variants.{Digit, Digits, Past, Closed, Stuck}
-use Rattle.tokens.specs.Tokens.{Reading, Reached, NumberOn, listWord, withEntries, noEntries, added, along}
-use Rattle.tokens.specs.Tokens.{ListOn}
+use Rattle.tokens.specs.inner.Tokens.{Reading, Reached, NumberOn, listWord, withEntries, noEntries, added, along}
+use Rattle.tokens.specs.inner.Tokens.{ListOn}
 use Rattle.tokens.specs.declared.Numeral.{Numeral}
 use Rattle.tokens.specs.declared.Entries.{Entries}
 use Rattle.tokens.specs.declared.Listed.{Listed}

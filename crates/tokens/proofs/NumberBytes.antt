@@ -20,7 +20,7 @@ use Rattle.layout.specs.declared.Word.{Word}
 use Rattle.layout.specs.declared.Part.{Part}
 use Rattle.layout.specs.declared.Point.{Point}
 use Rattle.layout.specs.declared.Point.the-variants.{Digit, Digits, Stuck}
-use Rattle.tokens.specs.Tokens.{Reading, Broken, Reached, noNumber, numberTo, NumberOn}
+use Rattle.tokens.specs.inner.Tokens.{Reading, Broken, Reached, noNumber, numberTo, NumberOn}
 use Rattle.tokens.specs.declared.Numeral.{Numeral}
 use Rattle.tokens.proofs.Bytes.{apart, byte-on, byte-stuck, bytes-over, break-on}
 

@@ -14,7 +14,7 @@ use Rattle.layout.specs.Text.{Lines}
 use Rattle.layout.specs.Points.{alive, next}
 use Rattle.layout.specs.Parse.{Line, took, keep, run}
 use Rattle.layout.specs.declared.Point.{Point}
-use Rattle.tokens.specs.Tokens.{Reading, Broken, Reached, Spells, TextOn, Agrees, Agreeing, four}
+use Rattle.tokens.specs.inner.Tokens.{Reading, Broken, Reached, Spells, TextOn, Agrees, Agreeing, four}
 use Rattle.tokens.specs.declared.Cursor.{Cursor}
 use Rattle.tokens.proofs.Bytes.{apart, byte-on, byte-stuck, bytes-over, break-on}
 

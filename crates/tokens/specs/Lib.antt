@@ -1,2 +1,2 @@
 -- What the readers of tokens tell.
-pub mod Tokens
+pub mod inner

@@ -8,7 +8,7 @@ ghost use mathlib.Core.Bool.{true};
 ghost use Prim.Native.Nat.{_≤_};
 ghost use lib.ListN.{length};
 ghost use Rattle.version.specs.Limits.{Limits};
-ghost use Rattle.tokens.specs.Tokens.{noEntries, ListOn};
+ghost use Rattle.tokens.specs.inner.Tokens.{noEntries, ListOn};
 
 fn none() -> Entries
     ensures { λ r. ⌜ r ≡ noEntries ⌝ }

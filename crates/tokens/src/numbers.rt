@@ -7,7 +7,7 @@ ghost use Prim.Native.Nat.{_-_, _≤_};
 ghost use lib.ListN.{length};
 ghost use Rattle.version.specs.Limits.{Limits};
 ghost use Rattle.layout.specs.Points.{digit};
-ghost use Rattle.tokens.specs.Tokens.{noNumber, numberTo, NumberOn};
+ghost use Rattle.tokens.specs.inner.Tokens.{noNumber, numberTo, NumberOn};
 
 // 0 to 9
 fn digit(b: u8) -> bool

@@ -5,7 +5,7 @@ ghost use mathlib.Core.Path.{_≡_};
 ghost use mathlib.Core.Bool.{true};
 ghost use Prim.Native.Nat.{_+_, _≤_, _<_};
 ghost use lib.ListN.{length};
-ghost use Rattle.tokens.specs.Tokens.{four, Agreeing, TextOn};
+ghost use Rattle.tokens.specs.inner.Tokens.{four, Agreeing, TextOn};
 
 pub const OLD: [u8; 5] = [b'(', TABLE[1], TABLE[2], TABLE[3], b' '];
 

@@ -20,11 +20,11 @@ use Rattle.route.specs.declared.Step.{Step}
 use Rattle.route.specs.declared.Marking.{Marking}
 use Rattle.route.proofs.IfFires.{ifFires-stuck, ifFires-can}
 use Rattle.slice.specs.Slice.{variables}
-use Rattle.slice.specs.Precedence.{comesAfter, row}
-use Rattle.slice.specs.Order.{noneOf}
-use Rattle.slice.specs.Table.{table}
-use Rattle.slice.proofs.Laws.{kept-below}
-use Rattle.slice.proofs.InTurn.{getD-map-inTurn}
+use Rattle.precedence.specs.Precedence.{comesAfter, row}
+use Rattle.precedence.specs.Order.{noneOf}
+use Rattle.precedence.specs.Table.{table}
+use Rattle.slice.proofs.Sweep.{kept-below}
+use Rattle.precedence.proofs.InTurn.{getD-map-inTurn}
 use Rattle.matching.specs.Fit.{keptOf}
 use Rattle.matching.specs.Straight.{sameData, sameStep}
 use Rattle.matching.proofs.Matched.{stepFor, matched-at}

@@ -15,9 +15,9 @@ use Rattle.mask.proofs.Truth.{split, both}
 use Rattle.route.specs.Steps.{blank}
 use Rattle.refusal.specs.Rows.{pass, refuse}
 use Rattle.route.specs.declared.Step.{Step}
-use Rattle.slice.specs.Precedence.{clash, comesAfter, row}
-use Rattle.slice.specs.Order.{noneOf}
-use Rattle.slice.proofs.Laws.{row-exact}
+use Rattle.precedence.specs.Precedence.{clash, comesAfter, row}
+use Rattle.precedence.specs.Order.{noneOf}
+use Rattle.precedence.proofs.Rows.{row-exact}
 use Rattle.trying.specs.Try.{isKept, listRow}
 use Rattle.matching.proofs.Either.{either}
 use Rattle.trying.proofs.Row16.{passed-entry}

@@ -19,8 +19,8 @@ use Rattle.running.specs.declared.Ran.{Ran}
 use Rattle.job.proofs.LongLists.{Refused, laidJob, same-laid}
 use Rattle.running.proofs.LongLists.{ran-alike, ran-off}
 use Rattle.running.proofs.RunLine.{ran-line}
-use Rattle.slice.specs.Order.{inTurn}
-use Rattle.slice.specs.Table.{table}
+use Rattle.precedence.specs.Order.{inTurn}
+use Rattle.precedence.specs.Table.{table}
 use Rattle.matching.specs.Straight.{fireAll, runsStraight}
 use Rattle.matching.specs.Fit.{keptOf}
 use Rattle.matching.specs.KeptRows.{keptRows, rowsTo12}

@@ -14,8 +14,8 @@ use Rattle.route.specs.declared.Step.{Step}
 use Rattle.refusal.specs.declared.Outcome.{Outcome}
 use Rattle.job.specs.Job.{Job, jobLine, newStart}
 use Rattle.running.specs.Run.{ran, performed}
-use Rattle.slice.specs.Precedence.{comesAfter}
-use Rattle.slice.specs.Order.{inTurn, noneOf}
+use Rattle.precedence.specs.Precedence.{comesAfter}
+use Rattle.precedence.specs.Order.{inTurn, noneOf}
 use Rattle.matching.specs.Straight.{fireAll, runsStraight}
 use Rattle.matching.specs.Fit.{keptOf}
 use Rattle.matching.specs.KeptRows.{keptRows}

@@ -1,9 +1,9 @@
 // Rows 16, 17 and 18: the entries of an order.
 use crate::Tried;
+use precedence::table_of;
 use refusal::Outcome;
 use route::Marking;
 use route::flat;
-use slice::tabling::table_of;
 ghost use mathlib.Core.Path.{_≡_};
 ghost use mathlib.Core.Bool.{true, not, _&&_};
 ghost use mathlib.Core.List.{List, map};
@@ -12,7 +12,7 @@ ghost use lib.ListN.{length};
 ghost use Rattle.mask.specs.Mask.{has};
 ghost use Rattle.route.specs.Flat.{stepsIn};
 ghost use Rattle.route.specs.declared.Step.{Step};
-ghost use Rattle.slice.specs.Table.{table};
+ghost use Rattle.precedence.specs.Table.{table};
 ghost use Rattle.trying.specs.Try.{isKept, listRow, tryFrom};
 ghost use Rattle.trying.specs.inner.Replayable.{Replayable, byRows};
 

@@ -18,7 +18,7 @@ ghost use Rattle.route.specs.Flat.{stepsIn};
 ghost use Rattle.route.specs.declared.Step.{Step};
 ghost use Rattle.job.specs.Job.{jobOf, flatJob};
 ghost use Rattle.job.specs.Lines.{LinesPass};
-ghost use Rattle.slice.specs.Order.{inTurn};
+ghost use Rattle.precedence.specs.Order.{inTurn};
 ghost use Rattle.matching.specs.declared.End.the-variants as ends;
 ghost use Rattle.trying.specs.Try.{sameList, tryList, tried};
 ghost use Rattle.trying.specs.inner.Replayable.{TryReady};

@@ -6,7 +6,7 @@ use Prim.Native.Nat.{ℕ, suc}
 use lib.ListN.{length}
 use Rattle.route.specs.declared.Step.{Step}
 use Rattle.slice.specs.Slice.{variables}
-use Rattle.slice.specs.Table.{table}
+use Rattle.precedence.specs.Table.{table}
 use Rattle.matching.specs.Straight.{fireAll, stepsOn}
 use Rattle.answering.specs.Answer.{padded, answer}
 use Rattle.answering.specs.declared.Placed.{Placed}

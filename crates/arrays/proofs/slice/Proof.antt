@@ -3,7 +3,7 @@ use contract.Running.{givenOf, tables, tablesOf}
 use denote.Struct.Laws as LL
 use denote.Triple.Spec.{tripleOf}
 use denote.Triple.Table.{entered, cited}
-use Rattle.slice.specs.Table.{sliced}
+use Rattle.slice.specs.Slicing.{sliced}
 use Rattle.slice.proofs.Sliced as R
 use Rattle.slice.proofs.Sliced.Laws as R′
 use Rattle.lent.specs.Lent.{lentJob}

@@ -9,8 +9,8 @@ use lib.ListN.{length}
 use Rattle.mask.specs.Mask.{below}
 use Rattle.route.specs.declared.Step.{Step}
 use Rattle.slice.specs.Slice.{variables}
-use Rattle.slice.specs.Order.{inTurn}
-use Rattle.slice.specs.Table.{table}
+use Rattle.precedence.specs.Order.{inTurn}
+use Rattle.precedence.specs.Table.{table}
 use Rattle.matching.specs.Straight.{fireAll, runsStraight}
 use Rattle.matching.specs.declared.Prepared.{Prepared}
 use Rattle.search.specs.Candidates.{cleared}

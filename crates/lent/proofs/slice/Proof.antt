@@ -5,7 +5,7 @@ use denote.Struct.Laws as LL
 use denote.Triple.Spec.{tripleOf}
 use denote.Triple.Table.{entered, cited}
 use Rattle.job.specs.Job.{jobOf}
-use Rattle.slice.specs.Table.{sliced}
+use Rattle.slice.specs.Slicing.{sliced}
 use Rattle.slice.proofs.Sliced as R
 use Rattle.slice.proofs.Sliced.Laws as R′
 use Rattle.slice.proofs.slicing.slice.Symbol as core

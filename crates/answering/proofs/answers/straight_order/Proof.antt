@@ -6,7 +6,7 @@ use native.Mathlib.Omega.{arith}
 use borrow.Author.Needs.{needs}
 use lib.Dec.{ltb}
 use lib.ListN.{length}
-use Rattle.slice.proofs.Filled.{Filled, filled-none, filled-more}
+use Rattle.precedence.proofs.Filled.{Filled, filled-none, filled-more}
 use Rattle.answering.proofs.Padded.{padded-is, turn-number}
 use Rattle.answering.proofs.answers.straight_order.Statement.{statement}
 use Rattle.answering.proofs.answers.straight_order.Tie as tie

@@ -8,8 +8,8 @@ use lib.ListN.{length}
 use Rattle.mask.specs.Mask.{below, count}
 use Rattle.route.specs.Flat.{stepsIn}
 use Rattle.route.specs.declared.Step.{Step}
-use Rattle.slice.specs.Order.{inTurn}
-use Rattle.slice.proofs.InTurn.{length-inTurn}
+use Rattle.precedence.specs.Order.{inTurn}
+use Rattle.precedence.proofs.InTurn.{length-inTurn}
 use Rattle.answering.specs.Answer.{padded, answer}
 use Rattle.judging.proofs.JudgeRows.{below-few, straight-list}
 use Rattle.judging.proofs.judging.judge_straight.Statement.{statement}

@@ -3,7 +3,7 @@ use mathlib.Core.Path.{refl}
 use borrow.Author.Tests.{le-leb, lt-leb}
 use borrow.Author.Needs.{needs}
 use Rattle.mask.proofs.Truth.{and-yes, and-no}
-use Rattle.lines.specs.Lines.{entriesFit}
+use Rattle.lines.specs.inner.Lines.{entriesFit}
 use Rattle.lines.proofs.rows.entries_fit.Statement.{statement}
 use Rattle.lines.proofs.rows.entries_fit.Tie as tie
 

@@ -5,7 +5,7 @@ use Prim.Native.Nat.{ℕ}
 use Rattle.refusal.specs.Rows.{pass, refuse}
 use Rattle.refusal.specs.declared.Outcome.{Outcome}
 use Rattle.job.specs.Lines.{placesFit}
-use Rattle.lines.specs.Rows.{headRow}
+use Rattle.lines.specs.inner.Rows.{headRow}
 use Rattle.facts.proofs.Settle.{unless-no, unless-yes}
 use borrow.Author.Needs.{needs}
 use Rattle.lines.proofs.rows.head_row.Statement.{statement}

@@ -6,7 +6,7 @@ use lib.Dec.{eqb}
 use borrow.Author.Tests.{eq-eqb, ne-eqb}
 use Rattle.refusal.specs.Rows.{pass, refuse}
 use Rattle.refusal.specs.declared.Outcome.{Outcome}
-use Rattle.lines.specs.Rows.{jobRow}
+use Rattle.lines.specs.inner.Rows.{jobRow}
 use Rattle.facts.proofs.Settle.{unless-no, unless-yes}
 use borrow.Author.Needs.{needs}
 use Rattle.lines.proofs.rows.job_row.Statement.{statement}

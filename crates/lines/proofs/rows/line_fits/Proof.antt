@@ -7,7 +7,7 @@ use borrow.Author.Tests.{le-leb, lt-leb, not-true, not-false}
 use Rattle.mask.proofs.Truth.{and-yes, and-no}
 use Rattle.version.specs.Limits.{nameFits}
 use Rattle.version.specs.declared.Version.{Version}
-use Rattle.lines.specs.Lines.{lineFits}
+use Rattle.lines.specs.inner.Lines.{lineFits}
 use Rattle.lines.specs.declared.StepLine.{StepLine}
 use borrow.Author.Needs.{needs}
 use Rattle.lines.proofs.rows.line_fits.Statement.{statement}

@@ -4,7 +4,7 @@ use mathlib.Core.Bool.{Bool, true, false, not}
 use lib.Dec.{eqb}
 use borrow.Author.Tests.{eq-eqb, ne-eqb, not-true, not-false}
 use Rattle.mask.proofs.Truth.{and-yes, and-no}
-use Rattle.lines.specs.Lines.{entriesFit, lineLists}
+use Rattle.lines.specs.inner.Lines.{entriesFit, lineLists}
 use Rattle.lines.specs.declared.StepLine.{StepLine}
 use borrow.Author.Needs.{needs}
 use Rattle.lines.proofs.rows.line_lists.Statement.{statement}

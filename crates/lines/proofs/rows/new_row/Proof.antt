@@ -9,7 +9,7 @@ use Rattle.refusal.specs.Rows.{refuse, unless, first}
 use Rattle.refusal.specs.declared.Outcome.{Outcome}
 use Rattle.refusal.proofs.Rows.{row-passes, row-refuses}
 use Rattle.job.specs.Lines.{placesFit}
-use Rattle.lines.specs.Rows.{headRow, newRow}
+use Rattle.lines.specs.inner.Rows.{headRow, newRow}
 use borrow.Author.Needs.{needs}
 use Rattle.lines.proofs.rows.new_row.Statement.{statement}
 use Rattle.lines.proofs.rows.new_row.Tie as tie

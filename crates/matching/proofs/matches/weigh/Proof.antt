@@ -10,7 +10,7 @@ use Rattle.mask.specs.Mask.{has}
 use Rattle.route.specs.Flat.{stepsIn}
 use Rattle.route.specs.declared.Step.{Step}
 use Rattle.slice.specs.Slice.{keptMask}
-use Rattle.slice.proofs.Laws.{kept-below}
+use Rattle.slice.proofs.Sweep.{kept-below}
 use Rattle.matching.specs.Fit.{keptOf}
 use Rattle.matching.proofs.matches.weigh.Statement.{statement}
 use Rattle.matching.proofs.matches.weigh.Tie as tie

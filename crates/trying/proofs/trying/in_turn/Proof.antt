@@ -5,7 +5,7 @@ use Prim.Native.Nat.{ℕ, suc, _-_, _≤_}
 use native.Mathlib.Omega.{arith}
 use borrow.Author.Needs.{needs}
 use lib.ListN.{length, drop}
-use Rattle.slice.specs.Order.{inTurn}
+use Rattle.precedence.specs.Order.{inTurn}
 use Rattle.trying.specs.Try.{sameList}
 use Rattle.trying.proofs.InTurn.{turn-length, turn-end, turn-off, turn-on}
 use Rattle.trying.proofs.trying.in_turn.Statement.{statement}

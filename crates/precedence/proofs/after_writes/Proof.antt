@@ -1,26 +1,12 @@
--- `slice::tabling::after_writes`: what is gathered of both, and the entries at the variables that are left lack the
+-- `precedence::after_writes`: what is gathered of both, and the entries at the variables that are left lack the
 -- occurrence.
 use mathlib.Core.Path.{_≡_, refl}
 use Prim.Native.Nat.{_<_, _^_}
 use borrow.Author.Needs.{needs}
 use lib.ListN.{length}
-use Rattle.slice.proofs.ByVariable.{
-  Gathering,
-  Joining,
-  Untouched,
-  gathering-init,
-  gathering-step,
-  gathering-joined,
-  gathering-both,
-  untouched-step,
-  joining-step,
-  joining-done,
-  at-lowest,
-  less-left,
-  less-narrow,
-}
-use Rattle.slice.proofs.tabling.after_writes.Statement.{statement}
-use Rattle.slice.proofs.tabling.after_writes.Tie as tie
+use Rattle.precedence.proofs.ByVariable.{Gathering, Joining, Untouched, gathering-init, gathering-step, gathering-joined, gathering-both, untouched-step, joining-step, joining-done, at-lowest, less-left, less-narrow}
+use Rattle.precedence.proofs.after_writes.Statement.{statement}
+use Rattle.precedence.proofs.after_writes.Tie as tie
 
 abbrev Inv-loop : tie.InvT-loop
 Inv-loop readers writers₀ vars own left₀ read₀ wrote₀ writers left read wrote =

@@ -6,8 +6,8 @@ ghost use Prim.Native.Nat.{ℕ, _≤_};
 ghost use lib.ListN.{length};
 ghost use lib.Bits.{bitOr};
 ghost use Rattle.route.specs.Flat.{stepsIn};
-ghost use Rattle.slice.specs.ByVariable.{ByVariable, meeting, Gathers, Joins};
-ghost use Rattle.slice.specs.Table.{table};
+ghost use Rattle.precedence.specs.inner.ByVariable.{ByVariable, meeting, Gathers, Joins};
+ghost use Rattle.precedence.specs.Table.{table};
 
 // One more occurrence that writes the variables: the earlier readers and writers of these.
 fn after_writes(readers: &[u64; 32], writers: &mut [u64; 32], vars: u32, own: u64) -> u64

@@ -18,8 +18,8 @@ use Rattle.layout.specs.declared.Point.the-variants.{Open}
 use Rattle.facts.specs.Facts.{State, failed, settled, headed, withOld, withNew, oldHead, newHead, jobHead, doneIn}
 use Rattle.facts.specs.Facts.{stepIn, more, nothing}
 use Rattle.facts.specs.declared.Sheet.{Sheet}
-use Rattle.tokens.specs.Tokens.{Reading, Broken}
-use Rattle.lines.specs.Lines.{hasSteps}
+use Rattle.tokens.specs.inner.Tokens.{Reading, Broken}
+use Rattle.lines.specs.inner.Lines.{hasSteps}
 use Rattle.reader.specs.declared.Pass.{Pass}
 use Rattle.reader.specs.declared.Head.{Head}
 use Rattle.reader.specs.declared.Filled.{Filled}

@@ -1,4 +1,4 @@
--- `slice::tabling::table_of`: the rows so far are filled, and the readers and writers of each variable are those of the
+-- `precedence::table_of`: the rows so far are filled, and the readers and writers of each variable are those of the
 -- occurrences so far.
 use mathlib.Core.Path.{_≡_, refl, ap, _∙_}
 use mathlib.Core.List.{List}
@@ -12,15 +12,15 @@ use Rattle.mask.specs.Mask.{bit}
 use Rattle.route.specs.Steps.{blank}
 use Rattle.route.specs.Flat.{stepsIn}
 use Rattle.route.specs.declared.Step.{Step}
-use Rattle.slice.specs.Precedence.{row}
-use Rattle.slice.specs.Table.{table}
-use Rattle.slice.specs.ByVariable.{ByVariable, meeting, Gathers, Joins}
-use Rattle.slice.proofs.ByVariable.{by-none, meeting-or}
-use Rattle.slice.proofs.Filled.{Filled, filled-none, filled-more, filled-all}
-use Rattle.slice.proofs.Laws.{row-past}
-use Rattle.slice.proofs.RowByVariable.{readBy, writtenBy, row-by}
-use Rattle.slice.proofs.tabling.table_of.Statement.{statement}
-use Rattle.slice.proofs.tabling.table_of.Tie as tie
+use Rattle.precedence.specs.Precedence.{row}
+use Rattle.precedence.specs.Table.{table}
+use Rattle.precedence.specs.inner.ByVariable.{ByVariable, meeting, Gathers, Joins}
+use Rattle.precedence.proofs.ByVariable.{by-none, meeting-or}
+use Rattle.precedence.proofs.Filled.{Filled, filled-none, filled-more, filled-all}
+use Rattle.precedence.proofs.Rows.{row-past}
+use Rattle.precedence.proofs.RowByVariable.{readBy, writtenBy, row-by}
+use Rattle.precedence.proofs.table_of.Statement.{statement}
+use Rattle.precedence.proofs.table_of.Tie as tie
 
 abbrev GathersBoth : List ℕ → List ℕ → ℕ → ℕ → Type 0
 GathersBoth by by′ vars m = (f g : ℕ → ℕ) (n : ℕ) → ByVariable f n by → ByVariable g n by′

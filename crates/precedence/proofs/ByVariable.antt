@@ -18,9 +18,9 @@ use Rattle.mask.specs.Mask.{has, bit, meets, collect}
 use Rattle.mask.proofs.Laws.{has-or, has-zero, has-ext, has-collect, collect-hit, collect-miss}
 use Rattle.mask.proofs.Truth.{both}
 use Rattle.mask.proofs.Lowest.{lowest-of, has-less-lowest, meets-less}
-use Rattle.slice.specs.ByVariable.{ByVariable, meeting, Gathers, Joins}
-use Rattle.slice.proofs.Filled.{zeros-at}
-use Rattle.slice.proofs.Meeting.{or-meets, and-either}
+use Rattle.precedence.specs.inner.ByVariable.{ByVariable, meeting, Gathers, Joins}
+use Rattle.precedence.proofs.Filled.{zeros-at}
+use Rattle.precedence.proofs.Meeting.{or-meets, and-either}
 
 -- what is gathered so far, and the entries at the variables that are left
 pub record Gathering (by : List ℕ) (vars left m : ℕ) : Type 0 where

@@ -1,26 +1,16 @@
--- What the slice and the table promise, each from the law on the sweep or on a collected set that says it.
+-- What a row of the table promises, each from the law on a collected set that says it.
 use mathlib.Core.Path.{_≡_, ap, ap₂, _∙_}
-use mathlib.Core.Bool.{Bool, true, false, not, _&&_, _||_, and-self-left, and-false}
+use mathlib.Core.Bool.{Bool, false, not, _&&_, _||_, and-self-left, and-false}
 use mathlib.Core.List.{List}
-use Prim.Native.Nat.{ℕ, suc, _≤_, _<_}
+use Prim.Native.Nat.{ℕ, _≤_}
 use lib.Dec.{eqb, ltb}
 use lib.Bits.{bitOr, and-zero-l, and-zero-r}
 use lib.ListN.{length, getD, List·getD-eq-default}
-use Rattle.mask.specs.Mask.{has, meets}
+use Rattle.mask.specs.Mask.{has}
 use Rattle.mask.proofs.Laws.{has-collect, collect-none}
 use Rattle.route.specs.Steps.{blank}
 use Rattle.route.specs.declared.Step.{Step}
-use Rattle.slice.specs.Slice.{keptMask}
-use Rattle.slice.specs.Precedence.{clash, comesAfter, row}
-use Rattle.slice.proofs.Sweep.{liveAt, kept-is, kept-writes, written-below}
-
--- an occurrence that writes nothing is never kept
-pub silent-not-kept : (l : List Step) (vars i : ℕ) → getD l i blank .writes ≡ 0 → has (keptMask l vars) i ≡ false
-silent-not-kept l vars i h = kept-is l vars i ∙ ap (λ (m : ℕ). meets m (liveAt l vars (suc i))) h
-
--- only occurrences are kept
-pub kept-below : (l : List Step) (vars i : ℕ) → has (keptMask l vars) i ≡ true → i < length l
-kept-below l vars i h = let (v, w, k) = kept-writes l vars i h in written-below l i v w
+use Rattle.precedence.specs.Precedence.{clash, comesAfter, row}
 
 -- a row of the table is exactly "comes after"
 pub row-exact : (l : List Step) (i j : ℕ) → has (row l i) j ≡ comesAfter l i j

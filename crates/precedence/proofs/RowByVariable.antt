@@ -13,10 +13,10 @@ use Rattle.mask.specs.Mask.{has, bit, meets}
 use Rattle.mask.proofs.Laws.{has-or, has-and, has-ext, has-below, has-collect, meets-or}
 use Rattle.route.specs.Steps.{blank}
 use Rattle.route.specs.declared.Step.{Step}
-use Rattle.slice.specs.Precedence.{clash, comesAfter, row}
-use Rattle.slice.specs.ByVariable.{meeting}
-use Rattle.slice.proofs.Laws.{row-exact}
-use Rattle.slice.proofs.Meeting.{meets-comm, or-meets}
+use Rattle.precedence.specs.Precedence.{clash, comesAfter, row}
+use Rattle.precedence.specs.inner.ByVariable.{meeting}
+use Rattle.precedence.proofs.Rows.{row-exact}
+use Rattle.precedence.proofs.Meeting.{meets-comm, or-meets}
 
 -- what each occurrence reads, what it writes, and both
 abbrev pub readBy : List Step → ℕ → ℕ

@@ -10,8 +10,8 @@ use lib.ListN.{length, getD, set, replicate, length-map}
 use lib.Seq.{getD-set-same, getD-set-other, ext-getD}
 use borrow.Author.Tests.{lt-ltb, le-ltb, ltb-true, ltb-false, eqb-true, eqb-false}
 use Rattle.mask.proofs.Truth.{split}
-use Rattle.slice.specs.Order.{inTurn}
-use Rattle.slice.proofs.InTurn.{length-inTurn, getD-map-inTurn}
+use Rattle.precedence.specs.Order.{inTurn}
+use Rattle.precedence.proofs.InTurn.{length-inTurn, getD-map-inTurn}
 
 abbrev pub Filled : (ℕ → ℕ) → ℕ → List ℕ → Type 0
 Filled f i a = (k : ℕ) → getD a k 0 ≡ cond (ltb k i) (f k) 0

@@ -9,7 +9,7 @@ use lib.Dec.{eqb}
 use lib.ListN.{length, getD, drop, drop-of-length-le}
 use lib.Seq.{drop-cons}
 use borrow.Author.Tests.{eqb-true}
-use Rattle.slice.specs.Order.{inTurn, times}
+use Rattle.precedence.specs.Order.{inTurn, times}
 
 pub length-inTurn : (i n : ℕ) → length (inTurn i n) ≡ n
 unfolding inTurn

@@ -5,7 +5,7 @@ use mathlib.Core.List.{List, [], _∷_}
 use Prim.Native.Nat.{ℕ, zero, suc, _+_}
 use lib.Dec.{eqb}
 use Rattle.mask.specs.Mask.{has}
-use Rattle.slice.specs.Precedence.{comesAfter}
+use Rattle.precedence.specs.Precedence.{comesAfter}
 use Rattle.route.specs.declared.Step.{Step}
 
 -- k positions in turn, from i on

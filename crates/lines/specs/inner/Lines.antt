@@ -15,7 +15,7 @@ use Rattle.layout.specs.declared.Part.{Part}
 use Rattle.layout.specs.declared.Part.the-variants.{OldRoute, NewRoute, JobPart}
 use Rattle.layout.specs.declared.Point.{Point}
 use Rattle.layout.specs.declared.Point.the-variants.{Open, Digit}
-use Rattle.tokens.specs.Tokens.{Reading, Reached, Spells, noEntries, along}
+use Rattle.tokens.specs.inner.Tokens.{Reading, Reached, Spells, noEntries, along}
 use Rattle.tokens.specs.declared.Numeral.{Numeral}
 use Rattle.tokens.specs.declared.Entries.{Entries}
 use Rattle.lines.specs.declared.StepLine.{StepLine}

@@ -1,22 +1,11 @@
--- `slice::tabling::after_reads`: what is gathered, and the entries at the variables that are left lack the occurrence.
+-- `precedence::after_reads`: what is gathered, and the entries at the variables that are left lack the occurrence.
 use mathlib.Core.Path.{_≡_, refl}
 use Prim.Native.Nat.{_<_, _^_}
 use borrow.Author.Needs.{needs}
 use lib.ListN.{length}
-use Rattle.slice.proofs.ByVariable.{
-  Gathering,
-  Joining,
-  gathering-init,
-  gathering-step,
-  gathering-done,
-  joining-step,
-  joining-done,
-  at-lowest,
-  less-left,
-  less-narrow,
-}
-use Rattle.slice.proofs.tabling.after_reads.Statement.{statement}
-use Rattle.slice.proofs.tabling.after_reads.Tie as tie
+use Rattle.precedence.proofs.ByVariable.{Gathering, Joining, gathering-init, gathering-step, gathering-done, joining-step, joining-done, at-lowest, less-left, less-narrow}
+use Rattle.precedence.proofs.after_reads.Statement.{statement}
+use Rattle.precedence.proofs.after_reads.Tie as tie
 
 abbrev Inv-loop : tie.InvT-loop
 Inv-loop writers readers₀ vars own left₀ wrote₀ readers left wrote =
