@@ -4,9 +4,9 @@ use mathlib.Core.Bool.{Bool, true, false, cond, _||_}
 use mathlib.Core.List.{List, [], _∷_}
 use Prim.Native.Nat.{ℕ}
 use lib.Dec.{eqb}
-use Rattle.route.specs.Steps.{position, further}
-use Rattle.route.specs.declared.Found.{Found}
-use Rattle.route.specs.declared.Found.the-variants.{At, Nothing}
+use Rattle.lookup.specs.Position.{position, further}
+use Rattle.lookup.specs.declared.Found.{Found}
+use Rattle.lookup.specs.declared.Found.the-variants.{At, Nothing}
 use Rattle.job.specs.Lines.{among}
 
 pub among-found : (n : ℕ) (l : List ℕ) (k : ℕ) → position n l ≡ At k → among n l ≡ true

@@ -8,11 +8,12 @@ use lib.Dec.{ltb}
 use lib.ListN.{length}
 use borrow.Author.Tests.{not-true, not-false, lt-ltb}
 use Rattle.refusal.specs.Rows.{pass, refuse, unless, first}
-use Rattle.route.specs.Steps.{names, position}
+use Rattle.route.specs.Steps.{names}
+use Rattle.lookup.specs.Position.{position}
 use Rattle.route.specs.declared.Step.{Step}
 use Rattle.refusal.specs.declared.Outcome.{Outcome}
-use Rattle.route.specs.declared.Found.{Found}
-use Rattle.route.specs.declared.Found.the-variants.{At, Nothing}
+use Rattle.lookup.specs.declared.Found.{Found}
+use Rattle.lookup.specs.declared.Found.the-variants.{At, Nothing}
 use Rattle.refusal.proofs.Rows.{row-passes, row-refuses, rows-end}
 use Rattle.route.proofs.StepList.{length-names}
 use Rattle.job.specs.Lines.{stepFits, listsFit, among, stepRow}

@@ -15,8 +15,7 @@ use Rattle.refusal.specs.declared.Outcome.{Outcome}
 use Rattle.refusal.proofs.Rows.{head-refuses, head-passes, row-refuses, rows-end}
 use Rattle.route.specs.Steps.{blank, names}
 use Rattle.route.specs.declared.Step.{Step}
-use Rattle.route.proofs.StepList.{length-names, list-on}
-use Rattle.route.proofs.ByName.{names-at}
+use Rattle.route.proofs.StepList.{length-names, list-on, getD-names}
 use Rattle.job.specs.Lines.{stepRow, stepRows}
 
 -- `count` steps, of which i have passed
@@ -65,7 +64,7 @@ module _ (line places i count : ℕ) (l : List Step) (o whole : Outcome) (counte
           names-on =
               ap (λ (n : ℕ). take n (names l)) (add-one i)
               ∙ take-suc (names l) i 0 (omega (arith, length-names l))
-              ∙ ap (λ (x : ℕ). take i (names l) ++ (x ∷ [])) (names-at l i ∙ ap (λ (x : Step). x .name) (sym at))
+              ∙ ap (λ (x : ℕ). take i (names l) ++ (x ∷ [])) (getD-names l i ∙ ap (λ (x : Step). x .name) (sym at))
 
   -- the 65th
   pub steps-over : i < count → i ≤ 64 → 64 ≤ i → o ≡ refuse 4 (line + 64) → o ≡ whole

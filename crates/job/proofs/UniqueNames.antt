@@ -13,8 +13,7 @@ use Rattle.refusal.specs.Rows.{first}
 use Rattle.refusal.proofs.Rows.{head-passed, row-passed, rows-passed}
 use Rattle.route.specs.Steps.{blank, names}
 use Rattle.route.specs.declared.Step.{Step}
-use Rattle.route.proofs.StepList.{length-names}
-use Rattle.route.proofs.ByName.{names-at, names-take}
+use Rattle.route.proofs.StepList.{length-names, getD-names, names-take}
 use Rattle.job.specs.Lines.{among, placesFit, stepFits, listsFit, stepRow, stepRows, routeRows}
 
 -- a name that stands among names is found there
@@ -71,7 +70,7 @@ route-unique line places l e i k h b same =
     let long : length (take k (names l)) ≡ k = length-take-le k (names l) (omega (arith, length-names l)) in
     let old : among (getD l k blank .name) (take k (names l)) ≡ true =
     among-at (getD l k blank .name) (take k (names l)) i (omega arith)
-    (getD-take k (names l) i 0 h ∙ names-at l i ∙ same) in
+    (getD-take k (names l) i 0 h ∙ getD-names l i ∙ same) in
     let z : _≡_ {A = ℕ} 0 1 = clash (sym new ∙ old) in
     omega arith
   where

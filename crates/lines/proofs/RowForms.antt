@@ -10,9 +10,9 @@ use borrow.Author.Tests.{lt-ltb, le-ltb, not-true, not-false}
 use Rattle.refusal.specs.Rows.{pass, refuse, unless, first}
 use Rattle.refusal.specs.declared.Outcome.{Outcome}
 use Rattle.refusal.proofs.Rows.{row-passes, row-refuses, rows-end}
-use Rattle.route.specs.Steps.{position}
-use Rattle.route.specs.declared.Found.{Found}
-use Rattle.route.specs.declared.Found.the-variants.{At, Nothing}
+use Rattle.lookup.specs.Position.{position}
+use Rattle.lookup.specs.declared.Found.{Found}
+use Rattle.lookup.specs.declared.Found.the-variants.{At, Nothing}
 use Rattle.job.specs.Lines.{among}
 use Rattle.job.proofs.Among.{among-found, among-missed}
 use Rattle.version.specs.Limits.{nameFits, Limits}

@@ -1,18 +1,18 @@
 // Rows 4, 2, 3 and 5 of a line.
 use crate::StepLine;
+use lookup::Found;
 use refusal::Outcome;
-use route::Found;
 use route::Route;
 use route::Step;
 use route::flat;
-use route::lookup;
 use tokens::Entries;
 use version::Version;
 ghost use mathlib.Core.Path.{_≡_};
 ghost use mathlib.Core.Bool.{true};
 ghost use Prim.Native.Nat.{ℕ, _≤_};
 ghost use lib.ListN.{length};
-ghost use Rattle.route.specs.Steps.{names, Hinted};
+ghost use Rattle.route.specs.Steps.{names};
+ghost use Rattle.lookup.specs.inner.Hints.{Hinted};
 ghost use Rattle.route.specs.Flat.{stepsIn};
 ghost use Rattle.version.specs.Limits.{Limits};
 ghost use Rattle.version.specs.declared.Version.{Version};

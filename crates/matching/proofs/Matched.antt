@@ -11,8 +11,7 @@ use borrow.Author.Tests.{ne-eqb}
 use Rattle.route.specs.Steps.{blank, names, lookup}
 use Rattle.route.specs.Flat.{stepsIn}
 use Rattle.route.specs.declared.Step.{Step}
-use Rattle.route.proofs.ByName.{lookup-name}
-use Rattle.route.proofs.StepList.{length-names, getD-names}
+use Rattle.route.proofs.StepList.{lookup-name, length-names, getD-names}
 use Rattle.running.proofs.Performed.{length-performed, performed-at}
 use Rattle.matching.specs.Straight.{sameData, sameStep}
 use Rattle.matching.specs.inner.Matched.{matched}

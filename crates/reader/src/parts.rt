@@ -13,7 +13,6 @@ use lines::rows::step_of;
 use lines::rows::step_row;
 use refusal::Outcome;
 use route::flat;
-use route::lookup;
 use tokens::texts;
 use tokens::texts::text;
 use version::Version;

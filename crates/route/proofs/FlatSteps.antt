@@ -9,7 +9,7 @@ use lib.ListN.{length, getD, set, take, replicate, length-take}
 use Rattle.route.specs.Steps.{blank, names}
 use Rattle.route.specs.Flat.{stepFrom, stepsIn}
 use Rattle.route.specs.declared.Step.{Step}
-use Rattle.route.proofs.ByName.{names-take}
+use Rattle.route.proofs.StepList.{names-take}
 
 pub length-flat : (w : List ℕ) → length (stepsIn w) ≡ length w / 4
 unfolding stepsIn

@@ -3,8 +3,6 @@ pub mod Full
 pub mod StepList
 pub mod FlatSteps
 pub mod LaidSteps
-pub mod DigitHints
 pub mod Toggle
 pub mod IfFires
 pub mod NetRows
-pub mod ByName

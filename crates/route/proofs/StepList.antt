@@ -1,16 +1,20 @@
 -- The list of a route's steps, element by element: what a loop over the array meets. The stored records come first, so
--- below 64 the list and the array agree.
+-- below 64 the list and the array agree. Then the steps' names, and the step of a name.
 use mathlib.Core.Path.{_≡_, refl, sym, ap, ap₂, _∙_}
+use mathlib.Core.Bool.{Bool, true, false, cond}
 use mathlib.Core.List.{List, [], _∷_, _++_}
+use mathlib.Core.Option.{some, Option·none-ne-some, Option·some-injective}
 use Prim.Native.Nat.{ℕ, zero, suc, _+_, _-_, _≤_, _<_, min}
 use native.Mathlib.Omega.{arith}
 use native.Mathlib.Numerals.{add-one}
+use lib.Dec.{eqb}
 use lib.ListN.{length, take, drop, getD, replicate, length-append, length-take, length-replicate, length-map}
 use lib.ListN.{List·getD-append, List·getD-map, drop-of-length-le}
 use lib.Seq.{getD-append-add, drop-cons, getD-take}
 use lib.Bits.{bitOr, or-zero-r}
+use borrow.Author.Tests.{eqb-true}
 use Rattle.mask.proofs.Laws.{or-assoc}
-use Rattle.route.specs.Steps.{blank, stepsOf, union, names}
+use Rattle.route.specs.Steps.{blank, stepsOf, union, names, lookup}
 use Rattle.route.specs.declared.Step.{Step}
 use Rattle.route.specs.declared.Route.{Route}
 
@@ -98,3 +102,19 @@ length-names l = length-map l (λ (s : Step). s .name)
 pub getD-names : (l : List Step) (i : ℕ) → getD (names l) i 0 ≡ getD l i blank .name
 unfolding names
 getD-names l i = List·getD-map (λ (s : Step). s .name) l i blank
+
+pub names-take : (n : ℕ) (l : List Step) → names (take n l) ≡ take n (names l)
+unfolding names
+names-take zero l = refl
+names-take (suc n) [] = refl
+names-take (suc n) (s ∷ l) = ap (λ (k : List ℕ). s .name ∷ k) (names-take n l)
+
+pub lookup-name : (n : ℕ) (l : List Step) (s : Step) → lookup n l ≡ some s → s .name ≡ n
+unfolding lookup
+lookup-name n [] s e = absurd (Option·none-ne-some s e)
+lookup-name n (t ∷ l) s e = go (eqb (t .name) n) refl e (lookup-name n l s)
+  where
+    go : (b : Bool) → eqb (t .name) n ≡ b → cond b (some t) (lookup n l) ≡ some s → (lookup n l ≡ some s → s .name ≡ n)
+        → s .name ≡ n
+    go true h e ih = ap (λ (x : Step). x .name) (sym (Option·some-injective t s e)) ∙ eqb-true (t .name) n h
+    go false h e ih = ih e

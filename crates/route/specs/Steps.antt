@@ -1,17 +1,14 @@
 -- A route is a count of places and a list of steps. Definitions speak of these, so that a route by value and a lent
 -- list of records share them.
-use mathlib.Core.Path.{_≡_}
 use mathlib.Core.Bool.{cond}
 use mathlib.Core.List.{List, [], _∷_, _++_, map}
 use mathlib.Core.Option.{Option, none, some}
-use Prim.Native.Nat.{ℕ, suc, _-_, _%_, _≤_, _<_}
+use Prim.Native.Nat.{ℕ, _-_}
 use lib.Dec.{eqb}
-use lib.ListN.{length, getD, take, replicate}
+use lib.ListN.{take, replicate}
 use lib.Bits.{bitOr}
 use Rattle.route.specs.declared.Step.{Step}
 use Rattle.route.specs.declared.Route.{Route}
-use Rattle.route.specs.declared.Found.{Found}
-use Rattle.route.specs.declared.Found.the-variants.{At, Nothing}
 
 -- the record with 0 in every field: what an unused entry holds
 abbrev pub blank : Step
@@ -34,23 +31,6 @@ union f (s ∷ l) = bitOr (f s) (union f l)
 -- the names of the steps, in order
 unfoldable pub names : List Step → List ℕ
 names l = map (λ (s : Step). s .name) l
-
--- the first position of a name among names
-unfoldable pub further : Found → Found
-further (At k) = At (suc k)
-further Nothing = Nothing
-
-unfoldable pub position : ℕ → List ℕ → Found
-position n [] = Nothing
-position n (x ∷ l) = cond (eqb x n) (At 0) (further (position n l))
-
--- hints for looking up among names: that of a name's last digit in base 256 is at least 1, and at most one above the
--- name's place; no hint is above the count of names
-pub record Hinted (column hint : List ℕ) : Type 0 where
-  pub room : length hint ≡ 256
-  pub held : (d : ℕ) → getD hint d 0 ≤ length column
-  pub some : (j : ℕ) → j < length column → 1 ≤ getD hint (getD column j 0 % 256) 0
-  pub low : (j : ℕ) → j < length column → getD hint (getD column j 0 % 256) 0 ≤ suc j
 
 -- the first step of that name
 unfoldable pub lookup : ℕ → List Step → Option Step

@@ -4,7 +4,6 @@ use refusal::Outcome;
 pub mod firing;
 pub mod flat;
 pub mod laying;
-pub mod lookup;
 pub mod opening;
 pub mod steps;
 
@@ -45,10 +44,4 @@ pub struct Ends {
 pub struct Opened {
     pub outcome: Outcome,
     pub marking: Marking,
-}
-
-// Where a name stands.
-pub enum Found {
-    At(usize),
-    Nothing,
 }

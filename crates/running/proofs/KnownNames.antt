@@ -8,7 +8,7 @@ use native.Mathlib.Nat.{le-of-suc-le-suc, not-suc-le-zero}
 use lib.ListN.{length, getD}
 use Rattle.route.specs.Steps.{blank, names, lookup}
 use Rattle.route.specs.declared.Step.{Step}
-use Rattle.route.proofs.ByName.{lookup-name}
+use Rattle.route.proofs.StepList.{lookup-name}
 use Rattle.route.proofs.IfFires.{Fires, ifFires-elim}
 use Rattle.job.specs.Job.{Job, jobLine, oldStart}
 use Rattle.running.specs.Run.{runFrom, ran, performed}

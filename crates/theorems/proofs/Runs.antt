@@ -10,8 +10,7 @@ use lib.ListN.{length, getD}
 use Rattle.route.specs.Firing.{fire, ifFires}
 use Rattle.route.specs.Steps.{blank, lookup}
 use Rattle.route.specs.declared.Step.{Step}
-use Rattle.route.proofs.ByName.{lookup-name}
-use Rattle.route.proofs.StepList.{getD-names}
+use Rattle.route.proofs.StepList.{lookup-name, getD-names}
 use Rattle.job.specs.Job.{Job, jobLine, oldStart}
 use Rattle.running.specs.Run.{runFrom, ran, performed}
 use Rattle.running.specs.declared.Ran.{Ran}

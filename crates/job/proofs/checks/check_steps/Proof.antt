@@ -5,11 +5,12 @@ use Prim.Native.Nat.{ℕ, _+_, _-_, _≤_}
 use native.Mathlib.Omega.{arith}
 use lib.ListN.{take, drop}
 use Rattle.refusal.specs.Rows.{first}
-use Rattle.route.specs.Steps.{names, Hinted}
+use Rattle.route.specs.Steps.{names}
+use Rattle.lookup.specs.inner.Hints.{Hinted}
 use Rattle.route.specs.Flat.{stepsIn}
 use Rattle.route.specs.declared.Step.{Step}
 use Rattle.route.proofs.FlatSteps.{flat-prefix, flat-few, flat-names}
-use Rattle.route.proofs.DigitHints.{hinted-none, hinted-on, hinted-prefix}
+use Rattle.lookup.proofs.DigitHints.{hinted-none, hinted-on, hinted-prefix}
 use Rattle.job.specs.Lines.{stepRows}
 use borrow.Author.Needs.{needs}
 use Rattle.job.proofs.StepRows.{steps-end, steps-over, steps-refused, steps-passed}

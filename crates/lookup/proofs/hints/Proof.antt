@@ -1,12 +1,13 @@
--- `route::lookup::hints`: the hints of the names passed.
+-- `lookup::hints`: the hints of the names passed.
 use Prim.Native.Nat.{_-_, _≤_}
 use lib.ListN.{take}
-use Rattle.route.specs.Steps.{names, Hinted}
+use Rattle.route.specs.Steps.{names}
+use Rattle.lookup.specs.inner.Hints.{Hinted}
 use Rattle.route.specs.Flat.{stepsIn}
 use borrow.Author.Needs.{needs}
-use Rattle.route.proofs.DigitHints.{hinted-none, hinted-on, hinted-all}
-use Rattle.route.proofs.lookup.hints.Statement.{statement}
-use Rattle.route.proofs.lookup.hints.Tie as tie
+use Rattle.lookup.proofs.DigitHints.{hinted-none, hinted-on, hinted-all}
+use Rattle.lookup.proofs.hints.Statement.{statement}
+use Rattle.lookup.proofs.hints.Tie as tie
 
 abbrev Inv-loop : tie.InvT-loop
 Inv-loop steps hint₀ n i₀ hint i = (i ≤ n) × Hinted (take i (names (stepsIn steps))) hint

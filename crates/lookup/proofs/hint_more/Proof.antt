@@ -1,8 +1,8 @@
--- `route::lookup::hint_more`: a slot that is not 0 stays.
+-- `lookup::hint_more`: a slot that is not 0 stays.
 use borrow.Author.Needs.{needs}
-use Rattle.route.proofs.DigitHints.{hinted-more, hinted-kept}
-use Rattle.route.proofs.lookup.hint_more.Statement.{statement}
-use Rattle.route.proofs.lookup.hint_more.Tie as tie
+use Rattle.lookup.proofs.DigitHints.{hinted-more, hinted-kept}
+use Rattle.lookup.proofs.hint_more.Statement.{statement}
+use Rattle.lookup.proofs.hint_more.Tie as tie
 
 returns : tie.Need-returns
 returns c l at h = search (needs, hinted-more)

@@ -3,19 +3,20 @@
 use mathlib.Core.Path.{_≡_, refl, sym, ap, _∙_}
 use mathlib.Core.Bool.{Bool, true, false, cond}
 use mathlib.Core.List.{List, [], _∷_}
-use mathlib.Core.Option.{none, some, Option·none-ne-some, Option·some-injective}
-use Prim.Native.Nat.{ℕ, zero, suc, _+_, _≤_, _<_}
+use mathlib.Core.Option.{none, some}
+use Prim.Native.Nat.{ℕ, suc, _+_, _≤_, _<_}
 use native.Mathlib.Omega.{arith}
 use native.Mathlib.Numerals.{add-one}
 use lib.Dec.{eqb}
-use lib.ListN.{length, take, drop, getD, drop-of-length-le, List·getD-map}
+use lib.ListN.{length, drop, getD, drop-of-length-le}
 use lib.Seq.{drop-cons}
-use borrow.Author.Tests.{eq-eqb, ne-eqb, eqb-true}
-use Rattle.route.specs.Steps.{blank, names, position, further, lookup}
+use borrow.Author.Tests.{eq-eqb, ne-eqb}
+use Rattle.route.specs.Steps.{blank, names, lookup}
 use Rattle.route.specs.declared.Step.{Step}
-use Rattle.route.specs.declared.Found.{Found}
-use Rattle.route.specs.declared.Found.the-variants.{At, Nothing}
-use Rattle.route.proofs.StepList.{length-names}
+use Rattle.route.proofs.StepList.{length-names, getD-names}
+use Rattle.lookup.specs.Position.{position, further}
+use Rattle.lookup.specs.declared.Found.{Found}
+use Rattle.lookup.specs.declared.Found.the-variants.{At, Nothing}
 
 -- a position in what is left after i names
 unfoldable pub moved : ℕ → Found → Found
@@ -60,16 +61,6 @@ module _ (n : ℕ) (column : List ℕ) (whole : Found) where
   unfolding moved position
   position-end i h inv = ap (λ (l : List ℕ). moved i (position n l)) (sym (drop-of-length-le column {i = i} h)) ∙ inv
 
-pub names-at : (l : List Step) (i : ℕ) → getD (names l) i 0 ≡ getD l i blank .name
-unfolding names
-names-at l i = List·getD-map (λ (s : Step). s .name) l i blank
-
-pub names-take : (n : ℕ) (l : List Step) → names (take n l) ≡ take n (names l)
-unfolding names
-names-take zero l = refl
-names-take (suc n) [] = refl
-names-take (suc n) (s ∷ l) = ap (λ (k : List ℕ). s .name ∷ k) (names-take n l)
-
 -- the turns of a search through the steps, of which there are `count`; `x` is the name at i
 module _ (n : ℕ) (l : List Step) (i count x : ℕ) (whole : Found) (counted : count ≡ length l)
     (inv : moved i (position n (drop i (names l))) ≡ whole) where
@@ -77,11 +68,11 @@ module _ (n : ℕ) (l : List Step) (i count x : ℕ) (whole : Found) (counted : 
   within-names h = omega (arith, length-names l)
 
   pub find-hit : i < count → x ≡ getD l i blank .name → x ≡ n → At i ≡ whole
-  find-hit h is e = position-hit n (names l) whole i (within-names h) inv (names-at l i ∙ sym is ∙ e)
+  find-hit h is e = position-hit n (names l) whole i (within-names h) inv (getD-names l i ∙ sym is ∙ e)
 
   pub find-miss : i < count → x ≡ getD l i blank .name → (x ≡ n → ⊥)
       → moved (i + 1) (position n (drop (i + 1) (names l))) ≡ whole
-  find-miss h is e = position-miss n (names l) whole i (within-names h) inv (λ p. e (is ∙ sym (names-at l i) ∙ p))
+  find-miss h is e = position-miss n (names l) whole i (within-names h) inv (λ p. e (is ∙ sym (getD-names l i) ∙ p))
 
   pub find-end : count ≤ i → Nothing ≡ whole
   find-end h = position-end n (names l) whole i (omega (arith, length-names l)) inv
@@ -127,13 +118,3 @@ lookup-none n (s ∷ l) e = go (eqb (s .name) n) (position n (names l)) refl e (
     go true f p q ih = cc
     go false (At j) p q ih = cc
     go false Nothing p q ih = ih p
-
-pub lookup-name : (n : ℕ) (l : List Step) (s : Step) → lookup n l ≡ some s → s .name ≡ n
-unfolding lookup
-lookup-name n [] s e = absurd (Option·none-ne-some s e)
-lookup-name n (t ∷ l) s e = go (eqb (t .name) n) refl e (lookup-name n l s)
-  where
-    go : (b : Bool) → eqb (t .name) n ≡ b → cond b (some t) (lookup n l) ≡ some s → (lookup n l ≡ some s → s .name ≡ n)
-        → s .name ≡ n
-    go true h e ih = ap (λ (x : Step). x .name) (sym (Option·some-injective t s e)) ∙ eqb-true (t .name) n h
-    go false h e ih = ih e

@@ -1,12 +1,12 @@
--- `route::lookup::find_by`: where the hint is right, it is the first place; else as `find`.
+-- `lookup::find_by`: where the hint is right, it is the first place; else as `find`.
 use mathlib.Core.Path.{refl}
 use native.Mathlib.Omega.{arith}
 use borrow.Author.Needs.{needs}
 use Rattle.route.specs.Flat.{stepsIn}
 use Rattle.route.proofs.FlatSteps.{length-flat}
-use Rattle.route.proofs.DigitHints.{hint-none, hint-few, hint-inside, hint-first}
-use Rattle.route.proofs.lookup.find_by.Statement.{statement}
-use Rattle.route.proofs.lookup.find_by.Tie as tie
+use Rattle.lookup.proofs.DigitHints.{hint-none, hint-few, hint-inside, hint-first}
+use Rattle.lookup.proofs.find_by.Statement.{statement}
+use Rattle.lookup.proofs.find_by.Tie as tie
 
 cast-k-2 : tie.Need-cast-k-2
 cast-k-2 c =

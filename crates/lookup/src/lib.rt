@@ -1,12 +1,19 @@
 // Look-up by name in a list of steps.
-use crate::Found;
-use crate::flat;
+use route::flat;
 ghost use mathlib.Core.Path.{_≡_};
 ghost use mathlib.Core.List.{List, [], _∷_, _++_};
 ghost use Prim.Native.Nat.{ℕ, _≤_, _<_};
 ghost use lib.ListN.{length};
-ghost use Rattle.route.specs.Steps.{names, position, Hinted};
+ghost use Rattle.route.specs.Steps.{names};
+ghost use Rattle.lookup.specs.Position.{position};
+ghost use Rattle.lookup.specs.inner.Hints.{Hinted};
 ghost use Rattle.route.specs.Flat.{stepsIn};
+
+// Where a name stands.
+pub enum Found {
+    At(usize),
+    Nothing,
+}
 
 fn find(steps: &[u64], name: u32) -> Found
     ensures { λ r. ⌜ r ≡ position name (names (stepsIn (now (steps .entry)))) ⌝ }

@@ -10,13 +10,15 @@ use lib.Dec.{eqb}
 use lib.ListN.{length, take, drop, getD, set, replicate, length-set, length-append, length-replicate, List·getD-append}
 use lib.Seq.{length-take-le, take-all, take-suc, getD-at, getD-set-same, getD-set-other}
 use borrow.Author.Tests.{eqb-true, eqb-false}
-use Rattle.route.specs.Steps.{blank, names, position, Hinted}
+use Rattle.route.specs.Steps.{blank, names}
+use Rattle.lookup.specs.Position.{position}
+use Rattle.lookup.specs.inner.Hints.{Hinted}
 use Rattle.route.specs.Flat.{stepsIn}
 use Rattle.route.specs.declared.Step.{Step}
-use Rattle.route.specs.declared.Found.the-variants.{At, Nothing}
-use Rattle.route.proofs.StepList.{length-names}
+use Rattle.lookup.specs.declared.Found.the-variants.{At, Nothing}
+use Rattle.route.proofs.StepList.{length-names, getD-names}
 use Rattle.route.proofs.FlatSteps.{flat-names}
-use Rattle.route.proofs.ByName.{moved, moved-none, names-at, position-hit, position-miss, position-end}
+use Rattle.lookup.proofs.Position.{moved, moved-none, position-hit, position-miss, position-end}
 
 -- ---- gathering: no names, one name more
 
@@ -119,7 +121,7 @@ module _ (l : List Step) (hint : List ℕ) (i count : ℕ) (counted : count ≡ 
       longer =
           ap (λ (n : ℕ). take n (names l)) (add-one i)
           ∙ take-suc (names l) i 0 (omega (arith, length-names l))
-          ∙ ap (λ (y : ℕ). take i (names l) ++ (y ∷ [])) (names-at l i ∙ sym is)
+          ∙ ap (λ (y : ℕ). take i (names l) ++ (y ∷ [])) (getD-names l i ∙ sym is)
 
   pub hinted-all : count ≤ i → Hinted (names l) hint
   hinted-all b = subst (λ (c : List ℕ). Hinted c hint) (take-all i (names l) (omega (arith, length-names l))) h
@@ -169,4 +171,4 @@ module _ (l : List Step) (hint : List ℕ) (n k : ℕ) (h : Hinted (names l) hin
 
     -- a name that stands where its hint says
     pub hint-first : (x : ℕ) → x ≡ getD l (k - 1) blank .name → x ≡ n → At (k - 1) ≡ position n (names l)
-    hint-first x at here = hint-hit (names l) hint n k h is some (names-at l (k - 1) ∙ sym at ∙ here)
+    hint-first x at here = hint-hit (names l) hint n k h is some (getD-names l (k - 1) ∙ sym at ∙ here)

@@ -1,13 +1,14 @@
--- `route::lookup::find`: the position is the one found in what is left, moved on by what has been passed.
+-- `lookup::find`: the position is the one found in what is left, moved on by what has been passed.
 use mathlib.Core.Path.{_≡_}
 use Prim.Native.Nat.{_-_, _≤_}
 use lib.ListN.{drop}
 use borrow.Author.Needs.{needs}
-use Rattle.route.specs.Steps.{names, position}
+use Rattle.route.specs.Steps.{names}
+use Rattle.lookup.specs.Position.{position}
 use Rattle.route.specs.Flat.{stepsIn}
-use Rattle.route.proofs.ByName.{moved, moved-none, find-hit, find-miss, find-end}
-use Rattle.route.proofs.lookup.find.Statement.{statement}
-use Rattle.route.proofs.lookup.find.Tie as tie
+use Rattle.lookup.proofs.Position.{moved, moved-none, find-hit, find-miss, find-end}
+use Rattle.lookup.proofs.find.Statement.{statement}
+use Rattle.lookup.proofs.find.Tie as tie
 
 abbrev Inv-loop : tie.InvT-loop
 Inv-loop steps name n i₀ i =

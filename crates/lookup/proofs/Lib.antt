@@ -1,0 +1,3 @@
+-- Laws on look-up by name, which proofs of this crate and of those above it cite.
+pub mod Position
+pub mod DigitHints

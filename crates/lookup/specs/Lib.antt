@@ -1,0 +1,3 @@
+-- Look-up by name.
+pub mod Position
+pub mod inner
