@@ -35,7 +35,8 @@ fn after_rows(rows: &[u64; 64], kept: u64) -> [u64; 64]
 fn mark_writers(writers: &mut [u8; 32], hit: u32, number: u8)
     requires { ⌜ length (now writers) ≡ 32 ⌝ }
     ensures { λ _. ⌜ length (now (writers .exit)) ≡ 32 ⌝ }
-    ensures { λ _. ⌜ ((v : ℕ) → v < 32 → getD (now (writers .exit)) v 0 ≡ cond (has hit v) number (getD (now (writers .entry)) v 0)) ⌝ }
+    ensures { λ _. ⌜ ((v : ℕ) → v < 32
+        → getD (now (writers .exit)) v 0 ≡ cond (has hit v) number (getD (now (writers .entry)) v 0)) ⌝ }
 {
     let mut left = hit;
     while left != 0 {
@@ -45,10 +46,12 @@ fn mark_writers(writers: &mut [u8; 32], hit: u32, number: u8)
     }
 }
 
-// The last writer of each of the variables: from the last occurrence to the first, over the variables that no later one writes.
+// The last writer of each of the variables: from the last occurrence to the first, over the variables that no later one
+// writes.
 fn last_writers(occurrences: &[u64], vars: u32) -> [u8; 32]
     requires { ⌜ length (stepsIn (now occurrences)) ≤ 64 ⌝ }
-    ensures { λ r. ⌜ ((new : List Step) → vars ≡ variables new → r ≡ map (writerOf new (stepsIn (now (occurrences .entry)))) (inTurn 0 32)) ⌝ }
+    ensures { λ r. ⌜ ((new : List Step) → vars ≡ variables new
+        → r ≡ map (writerOf new (stepsIn (now (occurrences .entry)))) (inTurn 0 32)) ⌝ }
 {
     let mut writers = [0u8; 32];
     let mut left = vars;

@@ -3,7 +3,8 @@ use route::Marking;
 
 pub mod answers;
 
-// What the listing shows. Occurrence k is bit k - 1 of a mask and entry k - 1 of `after`; an order and a writer hold occurrence numbers.
+// What the listing shows. Occurrence k is bit k - 1 of a mask and entry k - 1 of `after`; an order and a writer hold
+// occurrence numbers.
 pub struct Judged {
     pub number: u32,
     pub second: u64,

@@ -1,5 +1,5 @@
-// The operations over lent lists, lent the first records of two arrays: the first n of `a` and the first m of `b`. (A local that is a lent list of
-// records takes a walk by hand, so a program calls these.)
+// The operations over lent lists, lent the first records of two arrays: the first n of `a` and the first m of `b`. (A
+// local that is a lent list of records takes a walk by hand, so a program calls these.)
 use answering::Judged;
 use lent::Counts;
 use route::Step;
@@ -119,7 +119,8 @@ pub fn read(
     ensures { λ r. ⌜ (r .counts ≡ counted (readOf (now (sheet .entry))) n m (length (now (done .entry))))
         × ((r .old ≡ laid (r .counts .«old_len») (readOf (now (sheet .entry)) .old .steps) (take n a) ++ drop n a)
         × ((r .new ≡ laid (r .counts .«new_len») (readOf (now (sheet .entry)) .new .steps) (take m b) ++ drop m b)
-        × (now (done .exit) ≡ laid (r .counts .«done_len») (readOf (now (sheet .entry)) .done) (now (done .entry))))) ⌝ }
+        × (now (done .exit) ≡ laid (r .counts .«done_len») (readOf (now (sheet .entry)) .done)
+        (now (done .entry))))) ⌝ }
 {
     let mut old = a;
     let mut new = b;

@@ -1,14 +1,16 @@
-// drive: a script of operations on standard input, and on standard output what each answers: a line for each, up to the first that isn't whole.
-// A script is numbers in base ten with spaces or LFs between, for each operation its own number and its arguments. The program takes the first
-// 65,536 bytes and reads no further.
+// drive: a script of operations on standard input, and on standard output what each answers: a line for each, up to the
+// first that isn't whole. A script is numbers in base ten with spaces or LFs between, for each operation its own number
+// and its arguments. The program takes the first 65,536 bytes and reads no further.
 //
 //     1                  fire: tokens and a record
-//     2, 3, 4, 5, 8      run, slice, try, judge and write over two routes by value and a done list; then the order, the work or the out slice
+//     2, 3, 4, 5, 8      run, slice, try, judge and write over two routes by value and a done list; then the order, the
+//                        work or the out slice
 //     6, 7, 9, 10        read, the job part, print and try over a sheet; then both slices, or the order
 //     12, 13, 14, 15, 18 as 2 to 5 and 8, over lent lists
 //     16                 read into lent lists of three lengths
 //
-// An answer is all its numbers, and every slice that was lent as it then stands. The second program says the same of scripts (reference/src/script.rs).
+// An answer is all its numbers, and every slice that was lent as it then stands. The second program says the same of
+// scripts (reference/src/script.rs).
 use drive_answers::out;
 use drive_script::ends;
 use drive_script::numbers;

@@ -1,4 +1,5 @@
-// Where an argument ends that begins at a number of the script; STOP where it isn't whole or has a number past its limit.
+// Where an argument ends that begins at a number of the script; STOP where it isn't whole or has a number past its
+// limit.
 use crate::numbers;
 
 pub const STOP: usize = 18446744073709551615;

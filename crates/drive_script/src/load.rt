@@ -14,7 +14,8 @@ pub struct Routes {
     pub done: [u32; 100],
 }
 
-// Two lent lists, the first n records of `a` and the first m of `b`, their place counts, and the first `len` of the done names.
+// Two lent lists, the first n records of `a` and the first m of `b`, their place counts, and the first `len` of the
+// done names.
 pub struct Lent {
     pub p: u64,
     pub a: [Step; 100],

@@ -1,5 +1,5 @@
-// Emitters: each writes its text into a lent slice from `at` on and returns the place after it. The caller sees to it that there is
-// room for the text, so that no byte is tested for room.
+// Emitters: each writes its text into a lent slice from `at` on and returns the place after it. The caller sees to it
+// that there is room for the text, so that no byte is tested for room.
 ghost use mathlib.Core.List.{[], _∷_};
 ghost use Prim.Native.Nat.{_+_, _<_, _≤_, _/_, _%_};
 ghost use Rattle.mask.specs.Mask.{members};
@@ -78,7 +78,8 @@ pub fn entry(out: &mut [u8], at: usize, n: u64) -> usize
 pub fn entries(out: &mut [u8], at: usize, m: u64, first: u64) -> usize
     requires { ⌜ first ≤ 1 ⌝ }
     requires { ⌜ Room (over (λ v. entryText (first + v)) (members 64 m)) (now out) at ⌝ }
-    ensures { λ r. ⌜ Emits (over (λ v. entryText (first + v)) (members 64 m)) (now (out .entry)) at (now (out .exit)) r ⌝ }
+    ensures { λ r. ⌜ Emits (over (λ v. entryText (first + v)) (members 64 m)) (now (out .entry)) at
+        (now (out .exit)) r ⌝ }
 {
     let mut end = at;
     let mut left = m;

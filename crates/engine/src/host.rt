@@ -31,11 +31,15 @@ pub extern "C" fn reroute_print(
     second: &mut u64,
     written: &mut u64,
 ) -> u32
-    ensures { λ r. ⌜ r ≡ printed (now (sheet .entry)) (length (now (work .entry))) (length (now (out .entry))) .number ⌝ }
-    ensures { λ _. ⌜ now (second .exit) ≡ printed (now (sheet .entry)) (length (now (work .entry))) (length (now (out .entry))) .second ⌝ }
-    ensures { λ _. ⌜ now (written .exit) ≡ printed (now (sheet .entry)) (length (now (work .entry))) (length (now (out .entry))) .written ⌝ }
+    ensures { λ r. ⌜ r ≡ printed (now (sheet .entry)) (length (now (work .entry)))
+        (length (now (out .entry))) .number ⌝ }
+    ensures { λ _. ⌜ now (second .exit) ≡ printed (now (sheet .entry)) (length (now (work .entry)))
+        (length (now (out .entry))) .second ⌝ }
+    ensures { λ _. ⌜ now (written .exit) ≡ printed (now (sheet .entry)) (length (now (work .entry)))
+        (length (now (out .entry))) .written ⌝ }
     ensures { λ _. ⌜ now (work .exit) ≡ workPrinted (now (sheet .entry)) (now (work .entry)) ⌝ }
-    ensures { λ _. ⌜ now (out .exit) ≡ outPrinted (now (sheet .entry)) (length (now (work .entry))) (now (out .entry)) ⌝ }
+    ensures { λ _. ⌜ now (out .exit) ≡ outPrinted (now (sheet .entry)) (length (now (work .entry)))
+        (now (out .entry)) ⌝ }
 {
     let w = print(sheet, work, out);
     *second = w.second;

@@ -158,7 +158,8 @@ step-stand v p n places j f s e few =
     ∙ ap (λ (o : Outcome). settled o (inRoute p (stepped (filled places (map recordOf j)) (recordOf f)) s))
     (row ∙ sym (outer f))))
     (settle (formRow v n places (length (formNames j)) (formNames j) f ∷ []) _ _ _
-    (λ passes. let below : length (formNames j) < 64 = room v n places (length (formNames j)) (formNames j) f passes in (
+    (λ passes. let below : length (formNames j) < 64 = room v n places (length (formNames j)) (formNames j) f passes
+    in (
       ap (λ (r : Route). inRoute p r s) (filled-more places (map recordOf j) (recordOf f)
           (omega (arith, length-map j recordOf, names-long))
           ∙ ap (filled places) (sym (map-more Form Step recordOf j f))),

@@ -1,4 +1,5 @@
-// What a sheet's lines tell: rows 4, 2, 3 and 5, and the facts. The definitions and their laws are the substance; the reader is above.
+// What a sheet's lines tell: rows 4, 2, 3 and 5, and the facts. The definitions and their laws are the substance; the
+// reader is above.
 use route::Route;
 ghost use mathlib.Core.Path.{_≡_};
 ghost use Rattle.facts.specs.Facts.{failed};

@@ -129,7 +129,8 @@ pub fn check_lines(
     new: &[u64],
     done: &[u32],
 ) -> Outcome
-    ensures { λ o. ⌜ o ≡ first (lineRows (flatJob «old_places» (now (old .entry)) «new_places» (now (new .entry)) (now (done .entry)))) ⌝ }
+    ensures { λ o. ⌜ o ≡ first
+        (lineRows (flatJob «old_places» (now (old .entry)) «new_places» (now (new .entry)) (now (done .entry)))) ⌝ }
 {
     let a = check_route(old_places, old, 1);
     if !a.passed() {

@@ -1,4 +1,5 @@
-// The operation judge: row 14, the lines, the rows to 12, then the straight list where there is one, else the first fit list of the kept.
+// The operation judge: row 14, the lines, the rows to 12, then the straight list where there is one, else the first fit
+// list of the kept.
 use answering::Judged;
 use answering::Placed;
 use answering::answers::answered;
@@ -79,7 +80,8 @@ fn judge_prepared(p: Prepared, occurrences: &[u64], matches: &[u64], work: &mut 
     requires { ⌜ Passing p (stepsIn (now occurrences)) (stepsIn (now matches)) ⌝ }
     requires { ⌜ 8192 ≤ length (now work) ⌝ }
     ensures { λ r. ⌜ AnswersRows p (stepsIn (now (occurrences .entry))) (stepsIn (now (matches .entry))) r ⌝ }
-    ensures { λ _. ⌜ Works p (stepsIn (now (occurrences .entry))) (stepsIn (now (matches .entry))) (now (work .entry)) (now (work .exit)) ⌝ }
+    ensures { λ _. ⌜ Works p (stepsIn (now (occurrences .entry))) (stepsIn (now (matches .entry))) (now (work .entry))
+        (now (work .exit)) ⌝ }
 {
     let rows = table_of(occurrences);
     let straight = p.straight;
@@ -100,8 +102,12 @@ pub fn judge_checked(
 ) -> Judged
     requires { ⌜ LinesPass (flatJob «old_places» (now old) «new_places» (now new) (now done)) ⌝ }
     requires { ⌜ 8192 ≤ length (now work) ⌝ }
-    ensures { λ r. ⌜ r ≡ judged (flatJob «old_places» (now (old .entry)) «new_places» (now (new .entry)) (now (done .entry))) (length (now (work .entry))) ⌝ }
-    ensures { λ _. ⌜ now (work .exit) ≡ workAfter (flatJob «old_places» (now (old .entry)) «new_places» (now (new .entry)) (now (done .entry))) (now (work .entry)) ⌝ }
+    ensures { λ r. ⌜ r ≡ judged
+        (flatJob «old_places» (now (old .entry)) «new_places» (now (new .entry)) (now (done .entry)))
+        (length (now (work .entry))) ⌝ }
+    ensures { λ _. ⌜ now (work .exit) ≡ workAfter
+        (flatJob «old_places» (now (old .entry)) «new_places» (now (new .entry)) (now (done .entry)))
+        (now (work .entry)) ⌝ }
 {
     let mut occurrences = [0u64; 256];
     let mut matches = [0u64; 256];
@@ -131,8 +137,12 @@ pub fn judge_lists(
     done: &[u32],
     work: &mut [u8],
 ) -> Judged
-    ensures { λ r. ⌜ r ≡ judged (flatJob «old_places» (now (old .entry)) «new_places» (now (new .entry)) (now (done .entry))) (length (now (work .entry))) ⌝ }
-    ensures { λ _. ⌜ now (work .exit) ≡ workAfter (flatJob «old_places» (now (old .entry)) «new_places» (now (new .entry)) (now (done .entry))) (now (work .entry)) ⌝ }
+    ensures { λ r. ⌜ r ≡ judged
+        (flatJob «old_places» (now (old .entry)) «new_places» (now (new .entry)) (now (done .entry)))
+        (length (now (work .entry))) ⌝ }
+    ensures { λ _. ⌜ now (work .exit) ≡ workAfter
+        (flatJob «old_places» (now (old .entry)) «new_places» (now (new .entry)) (now (done .entry)))
+        (now (work .entry)) ⌝ }
 {
     if work.len() < WORK {
         return stop(14, 0);

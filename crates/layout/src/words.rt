@@ -4,7 +4,8 @@ ghost use mathlib.Core.Path.{_≡_};
 ghost use lib.ListN.{length};
 ghost use Rattle.layout.specs.Words.{wordTable, spelling, numberOf};
 
-// Six bytes for each word: its length, and its letters filled up with 0. A reader or a writer copies the table once and lends it.
+// Six bytes for each word: its length, and its letters filled up with 0. A reader or a writer copies the table once and
+// lends it.
 pub const TABLE: [u8; 54] = [
     3,
     111,

@@ -121,7 +121,9 @@ pub fn step_row(
 ) -> Outcome
     requires { ⌜ Limits v ⌝ }
     requires { ⌜ Hinted (names (stepsIn (now steps))) (now hint) ⌝ }
-    ensures { λ o. ⌜ ((f : Form) → IsForm l f → o ≡ formRow v line places (length (stepsIn (now (steps .entry)))) (names (stepsIn (now (steps .entry)))) f) ⌝ }
+    ensures { λ o. ⌜ ((f : Form) → IsForm l f
+        → o ≡ formRow v line places (length (stepsIn (now (steps .entry))))
+        (names (stepsIn (now (steps .entry)))) f) ⌝ }
 {
     if Route::STEPS <= flat::count(steps) {
         return Outcome::refuse(4, line);
@@ -139,7 +141,8 @@ pub fn step_row(
 }
 
 pub fn step_of(l: StepLine) -> Step
-    ensures { λ r. ⌜ ((v : Version) (f : Form) (places : ℕ) → Limits v → IsForm l f → places ≤ 64 → formFits v places f ≡ true → r ≡ recordOf f) ⌝ }
+    ensures { λ r. ⌜ ((v : Version) (f : Form) (places : ℕ) → Limits v → IsForm l f → places ≤ 64
+        → formFits v places f ≡ true → r ≡ recordOf f) ⌝ }
 {
     Step::of(l.name, l.ins.mask, l.outs.mask, l.reads.mask, l.writes.mask)
 }

@@ -21,7 +21,8 @@ const ENOUGH: usize = 7053;
 
 fn first_lines(out: &mut [u8], at: usize, a: Judged) -> usize
     requires { ⌜ Room (movedLine (a .kept) (a .dropped) ++ afterLines (a .kept) (a .after)) (now out) at ⌝ }
-    ensures { λ r. ⌜ Emits (movedLine (a .kept) (a .dropped) ++ afterLines (a .kept) (a .after)) (now (out .entry)) at (now (out .exit)) r ⌝ }
+    ensures { λ r. ⌜ Emits (movedLine (a .kept) (a .dropped) ++ afterLines (a .kept) (a .after)) (now (out .entry)) at
+        (now (out .exit)) r ⌝ }
 {
     let rows = a.after;
     let end = moved_line(out, at, a.kept, a.dropped);
@@ -29,8 +30,11 @@ fn first_lines(out: &mut [u8], at: usize, a: Judged) -> usize
 }
 
 fn last_lines(out: &mut [u8], at: usize, a: Judged) -> usize
-    requires { ⌜ Room (orderLine (a .len) (a .order) ++ (markingLine (a .marking .tokens) ++ valueLines (a .writers))) (now out) at ⌝ }
-    ensures { λ r. ⌜ Emits (orderLine (a .len) (a .order) ++ (markingLine (a .marking .tokens) ++ valueLines (a .writers))) (now (out .entry)) at (now (out .exit)) r ⌝ }
+    requires { ⌜ Room (orderLine (a .len) (a .order) ++ (markingLine (a .marking .tokens) ++ valueLines (a .writers)))
+        (now out) at ⌝ }
+    ensures { λ r. ⌜ Emits
+        (orderLine (a .len) (a .order) ++ (markingLine (a .marking .tokens) ++ valueLines (a .writers)))
+        (now (out .entry)) at (now (out .exit)) r ⌝ }
 {
     let order = a.order;
     let writers = a.writers;

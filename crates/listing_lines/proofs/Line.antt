@@ -15,7 +15,8 @@ use Rattle.emit.specs.Numbers.{entry, over}
 use Rattle.emit.proofs.Chains.{parts, First, Second, Third, Three, first-room, second-room, third-room, three-emits}
 use Rattle.emit.proofs.Chains.{emits-none}
 use Rattle.emit.proofs.Over.{from-zero, from-one}
-use Rattle.listing_lines.specs.Lines.{close, line, movedWord, droppedWord, movedEnd, movedLine, afterWord, afterLine}
+use Rattle.listing_lines.specs.Lines.{close, line, movedWord, droppedWord, movedEnd, movedLine, afterWord}
+use Rattle.listing_lines.specs.Lines.{afterLine}
 use Rattle.listing_lines.specs.Lines.{orderWord, orderLine, markingWord, markingLine, valueWord, valueLine}
 use Rattle.listing_lines.specs.Lines.{refusedWord, refusedLine}
 

@@ -7,7 +7,8 @@ ghost use mathlib.Core.List.{_++_};
 ghost use Prim.Native.Nat.{_<_, min};
 ghost use Rattle.emit.specs.Emit.{Room, Emits};
 ghost use Rattle.emit.specs.Numbers.{over, entry as entryText};
-ghost use Rattle.listing_lines.specs.Lines.{refusedLine, movedLine, afterLine, afterLines, orderLine, markingLine, valueLine, valueLines};
+ghost use Rattle.listing_lines.specs.Lines.{refusedLine, movedLine, afterLine, afterLines, orderLine};
+ghost use Rattle.listing_lines.specs.Lines.{markingLine, valueLine, valueLines};
 
 // A word and an entry.
 fn figure(out: &mut [u8], at: usize, w: &[u8], n: u64) -> usize

@@ -32,7 +32,8 @@ fn find(steps: &[u64], name: u32) -> Found
 // One more name, at `place`: the first of its last digit stays.
 pub fn hint_more(hint: &mut [u8; 256], name: u32, place: usize)
     requires { ⌜ place < 64 ⌝ }
-    ensures { λ _. ⌜ ((l : List ℕ) → length l ≡ place → Hinted l (now (hint .entry)) → Hinted (l ++ (name ∷ [])) (now (hint .exit))) ⌝ }
+    ensures { λ _. ⌜ ((l : List ℕ) → length l ≡ place → Hinted l (now (hint .entry))
+        → Hinted (l ++ (name ∷ [])) (now (hint .exit))) ⌝ }
 {
     let digit = (name % 256) as usize;
     if hint[digit] == 0 {

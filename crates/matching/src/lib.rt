@@ -13,8 +13,8 @@ pub enum End {
     Stuck,
 }
 
-// A job whose lines pass, after the rows to 12: their outcome, the line of `(job)` and, where no row to 9 refuses, the new route's start,
-// where the straight list ends, the kept occurrences, and the new route's variables.
+// A job whose lines pass, after the rows to 12: their outcome, the line of `(job)` and, where no row to 9 refuses, the
+// new route's start, where the straight list ends, the kept occurrences, and the new route's variables.
 pub struct Prepared {
     pub outcome: Outcome,
     pub line: u64,

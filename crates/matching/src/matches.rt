@@ -38,7 +38,8 @@ fn refused(outcome: Outcome, line: u64) -> Prepared
 fn weigh(new: &[u64], occurrences: &[u64], matches: &[u64], start: Marking, line: u64) -> Prepared
     requires { ⌜ (length (stepsIn (now occurrences)) ≤ 64) × (line ≤ 900) ⌝ }
     requires { ⌜ length (stepsIn (now matches)) ≡ length (stepsIn (now occurrences)) ⌝ }
-    ensures { λ r. ⌜ (MatchesOf (stepsIn (now (new .entry))) (stepsIn (now (occurrences .entry))) (now (matches .entry)) → Weighed line (start .tokens) (stepsIn (now (new .entry))) (stepsIn (now (occurrences .entry))) r) ⌝ }
+    ensures { λ r. ⌜ (MatchesOf (stepsIn (now (new .entry))) (stepsIn (now (occurrences .entry))) (now (matches .entry))
+        → Weighed line (start .tokens) (stepsIn (now (new .entry))) (stepsIn (now (occurrences .entry))) r) ⌝ }
 {
     let vars = variables_of(new);
     let kept = keep(occurrences, vars);
@@ -67,7 +68,9 @@ pub fn prepare(
 ) -> Prepared
     requires { ⌜ LinesPass (flatJob «old_places» (now old) «new_places» (now new) (now done)) ⌝ }
     requires { ⌜ (256 ≤ length (now occurrences)) × (256 ≤ length (now matches)) ⌝ }
-    ensures { λ r. ⌜ PreparedOf (flatJob «old_places» (now (old .entry)) «new_places» (now (new .entry)) (now (done .entry))) r (now (occurrences .exit)) (now (matches .exit)) ⌝ }
+    ensures { λ r. ⌜ PreparedOf
+        (flatJob «old_places» (now (old .entry)) «new_places» (now (new .entry)) (now (done .entry))) r
+        (now (occurrences .exit)) (now (matches .exit)) ⌝ }
 {
     let line = job_line(old, new);
     let b = begin(old_places, old, new_places, new, done, occurrences);

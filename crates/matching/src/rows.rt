@@ -32,7 +32,8 @@ fn limited(straight: End, kept: u64) -> bool
 fn kept_lines(kept: u64, same: u64, matches: &[u64], line: u64) -> Outcome
     requires { ⌜ line ≤ 1000 ⌝ }
     requires { ⌜ ((i : ℕ) → has kept i ≡ true → (i < 64) × (i < length (stepsIn (now matches)))) ⌝ }
-    ensures { λ r. ⌜ ((new l : List Step) → MatchesOf new l (now (matches .entry)) → same ≡ sameMask new l → r ≡ first (keptLines new l line (members 64 kept))) ⌝ }
+    ensures { λ r. ⌜ ((new l : List Step) → MatchesOf new l (now (matches .entry)) → same ≡ sameMask new l
+        → r ≡ first (keptLines new l line (members 64 kept))) ⌝ }
 {
     let wrong = mask::without64(kept, same);
     if wrong == 0 {
@@ -49,7 +50,8 @@ fn kept_lines(kept: u64, same: u64, matches: &[u64], line: u64) -> Outcome
 pub fn kept_rows(kept: u64, same: u64, matches: &[u64], straight: End, line: u64) -> Outcome
     requires { ⌜ line ≤ 900 ⌝ }
     requires { ⌜ ((i : ℕ) → has kept i ≡ true → (i < 64) × (i < length (stepsIn (now matches)))) ⌝ }
-    ensures { λ r. ⌜ ((from : ℕ) (new l : List Step) → MatchesOf new l (now (matches .entry)) → kept ≡ keptOf new l → same ≡ sameMask new l → straight ≡ straightEnd from new l → r ≡ keptRows line from new l) ⌝ }
+    ensures { λ r. ⌜ ((from : ℕ) (new l : List Step) → MatchesOf new l (now (matches .entry)) → kept ≡ keptOf new l
+        → same ≡ sameMask new l → straight ≡ straightEnd from new l → r ≡ keptRows line from new l) ⌝ }
 {
     if !limited(straight, kept) {
         return Outcome::refuse(10, line);

@@ -27,7 +27,8 @@ fn same_data(s: Step, t: Step) -> bool
 pub fn same_mask(occurrences: &[u64], matches: &[u64]) -> u64
     requires { ⌜ length (stepsIn (now occurrences)) ≤ 64 ⌝ }
     requires { ⌜ length (stepsIn (now matches)) ≡ length (stepsIn (now occurrences)) ⌝ }
-    ensures { λ r. ⌜ ((new : List Step) → MatchesOf new (stepsIn (now (occurrences .entry))) (now (matches .entry)) → r ≡ sameMask new (stepsIn (now (occurrences .entry)))) ⌝ }
+    ensures { λ r. ⌜ ((new : List Step) → MatchesOf new (stepsIn (now (occurrences .entry))) (now (matches .entry))
+        → r ≡ sameMask new (stepsIn (now (occurrences .entry)))) ⌝ }
 {
     let n = flat::count(occurrences);
     let mut same = 0u64;

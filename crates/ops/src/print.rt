@@ -41,7 +41,8 @@ fn answer(sheet: &[u8], work: &mut [u8]) -> Judged
 pub fn print(sheet: &[u8], work: &mut [u8], out: &mut [u8]) -> Written
     ensures { λ r. ⌜ r ≡ printed (now (sheet .entry)) (length (now (work .entry))) (length (now (out .entry))) ⌝ }
     ensures { λ _. ⌜ now (work .exit) ≡ workPrinted (now (sheet .entry)) (now (work .entry)) ⌝ }
-    ensures { λ _. ⌜ now (out .exit) ≡ outPrinted (now (sheet .entry)) (length (now (work .entry))) (now (out .entry)) ⌝ }
+    ensures { λ _. ⌜ now (out .exit) ≡ outPrinted (now (sheet .entry)) (length (now (work .entry)))
+        (now (out .entry)) ⌝ }
 {
     if work.len() < WORK {
         return Written {

@@ -11,7 +11,8 @@ ghost use Rattle.precedence.specs.Table.{table};
 
 // One more occurrence that writes the variables: the earlier readers and writers of these.
 fn after_writes(readers: &[u64; 32], writers: &mut [u64; 32], vars: u32, own: u64) -> u64
-    ensures { λ r. ⌜ ((f g : ℕ → ℕ) (n : ℕ) → ByVariable f n (now (readers .entry)) → ByVariable g n (now (writers .entry)) → r ≡ bitOr (meeting f vars n) (meeting g vars n)) ⌝ }
+    ensures { λ r. ⌜ ((f g : ℕ → ℕ) (n : ℕ) → ByVariable f n (now (readers .entry))
+        → ByVariable g n (now (writers .entry)) → r ≡ bitOr (meeting f vars n) (meeting g vars n)) ⌝ }
     ensures { λ _. ⌜ Joins (now (writers .entry)) vars own (now (writers .exit)) ⌝ }
 {
     let mut left = vars;

@@ -18,7 +18,8 @@ use Rattle.facts.specs.Facts.{State, failed, settled, newHead, jobHead, more, m
 use Rattle.facts.specs.declared.Sheet.{Sheet}
 use Rattle.tokens.specs.inner.Tokens.{Reached}
 use Rattle.tokens.proofs.Bytes.{apart}
-use Rattle.reader.specs.inner.Prefix.{backSteps, backDones, oldState, newState, jobState, stateOf, Prefix, Upto, passed}
+use Rattle.reader.specs.inner.Prefix.{backSteps, backDones, oldState, newState, jobState, stateOf, Prefix, Upto}
+use Rattle.reader.specs.inner.Prefix.{passed}
 use Rattle.reader.specs.inner.Prefix.{brokenAt}
 
 -- ---- an outcome over the facts

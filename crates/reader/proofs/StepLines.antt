@@ -32,7 +32,8 @@ use Rattle.facts.specs.declared.Sheet.{Sheet}
 use Rattle.refusal.proofs.Rows.{head-passed, unless-elim}
 use Rattle.tokens.proofs.Bytes.{apart}
 use Rattle.lines.specs.inner.Lines.{hasSteps, IsForm, StepOn}
-use Rattle.reader.specs.inner.Prefix.{backSteps, oldState, newState, stateOf, Prefix, Upto, passed, brokenAt, Placed}
+use Rattle.reader.specs.inner.Prefix.{backSteps, oldState, newState, stateOf, Prefix, Upto, passed, brokenAt}
+use Rattle.reader.specs.inner.Prefix.{Placed}
 use Rattle.reader.specs.inner.Prefix.{bare, withRoute, StepsOn}
 use Rattle.lines.specs.declared.StepLine.{StepLine}
 use Rattle.reader.specs.declared.Pass.{Pass}

@@ -6,7 +6,8 @@ pub mod part;
 mod parts;
 pub mod reads;
 
-// Where reading stands between two lines: the place and whether the layout holds to there, how many lines there were, and their outcome.
+// Where reading stands between two lines: the place and whether the layout holds to there, how many lines there were,
+// and their outcome.
 pub struct Pass {
     pub at: usize,
     pub ok: bool,
@@ -26,7 +27,8 @@ pub struct Filled {
     pub len: usize,
 }
 
-// What reading gives besides the lists: a refusal and its second number, or 0 and 0 and both place counts and all three lengths.
+// What reading gives besides the lists: a refusal and its second number, or 0 and 0 and both place counts and all three
+// lengths.
 pub struct Counts {
     pub number: u32,
     pub second: u64,

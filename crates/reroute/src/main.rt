@@ -1,4 +1,5 @@
-// reroute: a sheet on standard input, its listing on standard output. It takes the first 65,536 bytes and reads no further.
+// reroute: a sheet on standard input, its listing on standard output. It takes the first 65,536 bytes and reads no
+// further.
 fn main() {
     let mut sheet = io::large_buffer();
     let n = io::read_full(0, &mut sheet);

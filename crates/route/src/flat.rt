@@ -1,4 +1,5 @@
-// Lent lists of steps: four numbers for each step, so that a list is lent as numbers and a step is copied out or put in.
+// Lent lists of steps: four numbers for each step, so that a list is lent as numbers and a step is copied out or put
+// in.
 use crate::Step;
 ghost use mathlib.Core.Path.{_≡_};
 ghost use Prim.Native.Nat.{_<_};

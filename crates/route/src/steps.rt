@@ -23,7 +23,13 @@ impl Step {
 
     // The record of five numbers, the name and the variables by their lowest 32 bits.
     pub fn of(name: u64, ins: u64, outs: u64, reads: u64, writes: u64) -> Step
-        ensures { λ r. ⌜ r ≡ record { name = name % 4294967296; ins = ins; outs = outs; reads = reads % 4294967296; writes = writes % 4294967296 } ⌝ }
+        ensures { λ r. ⌜ r ≡ record {
+          name = name % 4294967296;
+          ins = ins;
+          outs = outs;
+          reads = reads % 4294967296;
+          writes = writes % 4294967296;
+        } ⌝ }
     {
         Step {
             name: (name % 4294967296) as u32,

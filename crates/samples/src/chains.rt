@@ -85,8 +85,8 @@ pub fn turned(n: usize) -> Route
     row(n, step(100, last >> 1, last, 0, 1), true)
 }
 
-// The steps of `line(16)` side by side, but the last waits for a step that isn't done: no order of the 16 fires, and every set of the
-// other 15 can be reached.
+// The steps of `line(16)` side by side, but the last waits for a step that isn't done: no order of the 16 fires, and
+// every set of the other 15 can be reached.
 pub fn stuck() -> Route {
     let mut r = row(16, step(100, 1, 1 << 16, 0, 1), false);
     r.places = 34;

@@ -1,4 +1,5 @@
-// What the programs that show the engine at work share: 01's examples as records, routes at the limits, and how an answer is printed.
+// What the programs that show the engine at work share: 01's examples as records, routes at the limits, and how an
+// answer is printed.
 use route::Route;
 use route::Step;
 

@@ -1,5 +1,5 @@
-// Prints judge's and try's answers on records: 01's examples A to L, the limit of 16 kept, loops, the search at its worst, work slices and
-// orders of every kind.
+// Prints judge's and try's answers on records: 01's examples A to L, the limit of 16 kept, loops, the search at its
+// worst, work slices and orders of every kind.
 use answering::Judged;
 use samples::letters::Sample;
 

@@ -1,7 +1,8 @@
-// The operations over jobs whose routes are lent lists of 0, 1, 64, 65 and 100 step records, over one whose sixth record has no in-place, and over
-// one whose answer takes a search. A line shows both lengths and then, of each operation, its two numbers and: run, its marking; slice, its mask of
-// kept ones; try, its marking; judge, its order's length, its marking and the first byte of the work slice; write, how many bytes it wrote and the
-// first of them. Both slices hold 46 before. A line of reading shows how many steps a route of the sheet has and both lengths.
+// The operations over jobs whose routes are lent lists of 0, 1, 64, 65 and 100 step records, over one whose sixth
+// record has no in-place, and over one whose answer takes a search. A line shows both lengths and then, of each
+// operation, its two numbers and: run, its marking; slice, its mask of kept ones; try, its marking; judge, its order's
+// length, its marking and the first byte of the work slice; write, how many bytes it wrote and the first of them. Both
+// slices hold 46 before. A line of reading shows how many steps a route of the sheet has and both lengths.
 use arrays::Filled;
 use route::Step;
 ghost use Prim.Native.Nat.{_≤_};
@@ -133,7 +134,8 @@ fn show_filled(r: Filled) {
     names(new);
 }
 
-// A sheet read into n and m records and room for three names, which all hold 7: the answer, and what stands in the lists after it.
+// A sheet read into n and m records and room for three names, which all hold 7: the answer, and what stands in the
+// lists after it.
 fn show_sheet(sheet: &[u8], n: usize, m: usize)
     requires { ⌜ (n ≤ 100) × (m ≤ 100) ⌝ }
 {

@@ -1,5 +1,5 @@
-// Prints run's answers on records: the route parts of 01's examples, the limits, and a wrong record for each row; then fire's.
-// Each line is a label, the number, the second number and the marking.
+// Prints run's answers on records: the route parts of 01's examples, the limits, and a wrong record for each row; then
+// fire's. Each line is a label, the number, the second number and the marking.
 use route::Route;
 use samples::letters as routes;
 use samples::lines;

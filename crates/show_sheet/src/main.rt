@@ -1,5 +1,6 @@
-// Reads sheets from standard input, each ended by `%`, and writes for each: the refusal's two numbers, the two place counts, the two
-// step counts, how many done names, and the length of the job part. Before that the first sheet is read cut off at every length.
+// Reads sheets from standard input, each ended by `%`, and writes for each: the refusal's two numbers, the two place
+// counts, the two step counts, how many done names, and the length of the job part. Before that the first sheet is read
+// cut off at every length.
 fn number(n: u64) {
     io::print_decimal(1, n);
     io::write_all(1, b" ");

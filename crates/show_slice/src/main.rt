@@ -1,5 +1,5 @@
-// Prints the slices and tables of 01's examples and of a looped job: a line with the number, the second number and the kept
-// occurrences as a mask, then a line for each row of the table that isn't empty.
+// Prints the slices and tables of 01's examples and of a looped job: a line with the number, the second number and the
+// kept occurrences as a mask, then a line for each row of the table that isn't empty.
 use route::Route;
 use samples::letters;
 use samples::letters::Sample;

@@ -1,6 +1,6 @@
-// Reads a sheet, writes its records back into slices one byte short, exactly long enough and longer, and then records that rows 4, 2, 3
-// and 5 refuse. For each it shows the refusal's two numbers, the bytes written, how many bytes agree with the sheet, and the slice,
-// which holds dots before.
+// Reads a sheet, writes its records back into slices one byte short, exactly long enough and longer, and then records
+// that rows 4, 2, 3 and 5 refuse. For each it shows the refusal's two numbers, the bytes written, how many bytes agree
+// with the sheet, and the slice, which holds dots before.
 use route::Route;
 
 fn number(n: u64) {

@@ -19,7 +19,8 @@ pub fn slice_lists(
     new: &[u64],
     done: &[u32],
 ) -> Sliced
-    ensures { λ r. ⌜ r ≡ sliced (flatJob «old_places» (now (old .entry)) «new_places» (now (new .entry)) (now (done .entry))) ⌝ }
+    ensures { λ r. ⌜ r ≡ sliced
+        (flatJob «old_places» (now (old .entry)) «new_places» (now (new .entry)) (now (done .entry))) ⌝ }
 {
     let o = check_lines(old_places, old, new_places, new, done);
     if !o.passed() {

@@ -49,11 +49,13 @@ fn check_list(order: &[u8], kept: u64) -> Outcome
     Outcome::pass()
 }
 
-// Rows 17 and 18 for each entry, by the precedence table. The entries still to come are the kept ones that are not placed.
+// Rows 17 and 18 for each entry, by the precedence table. The entries still to come are the kept ones that are not
+// placed.
 fn fire_list(order: &[u8], kept: u64, rows: [u64; 64], matches: &[u64], from: Marking) -> Tried
     requires { ⌜ listRow kept 0 1 (now order) .number ≡ 0 ⌝ }
     requires { ⌜ ((i : ℕ) → has kept i ≡ true → i < length (stepsIn (now matches))) ⌝ }
-    ensures { λ r. ⌜ ((new l : List Step) → Replayable new l kept (stepsIn (now (matches .entry))) → rows ≡ table l → r ≡ tryFrom new l (from .tokens) 1 (map (λ (b : ℕ). b - 1) (now (order .entry)))) ⌝ }
+    ensures { λ r. ⌜ ((new l : List Step) → Replayable new l kept (stepsIn (now (matches .entry))) → rows ≡ table l
+        → r ≡ tryFrom new l (from .tokens) 1 (map (λ (b : ℕ). b - 1) (now (order .entry)))) ⌝ }
 {
     let mut placed = 0u64;
     let mut m = from;
@@ -88,7 +90,9 @@ pub fn by_rows(
 ) -> Tried
     requires { ⌜ length (stepsIn (now occurrences)) ≤ 64 ⌝ }
     requires { ⌜ ((i : ℕ) → has kept i ≡ true → i < length (stepsIn (now matches))) ⌝ }
-    ensures { λ r. ⌜ ((new : List Step) → Replayable new (stepsIn (now (occurrences .entry))) kept (stepsIn (now (matches .entry))) → r ≡ byRows new (stepsIn (now (occurrences .entry))) (from .tokens) (now (order .entry))) ⌝ }
+    ensures { λ r. ⌜ ((new : List Step)
+        → Replayable new (stepsIn (now (occurrences .entry))) kept (stepsIn (now (matches .entry)))
+        → r ≡ byRows new (stepsIn (now (occurrences .entry))) (from .tokens) (now (order .entry))) ⌝ }
 {
     let o = check_list(order, kept);
     if !o.passed() {

@@ -54,7 +54,9 @@ fn straight_end(straight: End, order: &[u8], len: usize) -> End
 fn try_prepared(p: Prepared, occurrences: &[u64], matches: &[u64], order: &[u8]) -> Tried
     requires { ⌜ length (stepsIn (now occurrences)) ≤ 64 ⌝ }
     requires { ⌜ ((i : ℕ) → has (p .kept) i ≡ true → i < length (stepsIn (now matches))) ⌝ }
-    ensures { λ r. ⌜ ((from : ℕ) (new : List Step) → TryReady from new (stepsIn (now (occurrences .entry))) p (stepsIn (now (matches .entry))) → r ≡ tryList from new (stepsIn (now (occurrences .entry))) (now (order .entry))) ⌝ }
+    ensures { λ r. ⌜ ((from : ℕ) (new : List Step)
+        → TryReady from new (stepsIn (now (occurrences .entry))) p (stepsIn (now (matches .entry)))
+        → r ≡ tryList from new (stepsIn (now (occurrences .entry))) (now (order .entry))) ⌝ }
 {
     let straight = p.straight;
     let End::At(marking) = straight_end(straight, order, flat::count(occurrences)) else {
@@ -78,7 +80,9 @@ pub fn try_checked(
     order: &[u8],
 ) -> Tried
     requires { ⌜ LinesPass (flatJob «old_places» (now old) «new_places» (now new) (now done)) ⌝ }
-    ensures { λ r. ⌜ r ≡ tried (flatJob «old_places» (now (old .entry)) «new_places» (now (new .entry)) (now (done .entry))) (now (order .entry)) ⌝ }
+    ensures { λ r. ⌜ r ≡ tried
+        (flatJob «old_places» (now (old .entry)) «new_places» (now (new .entry)) (now (done .entry)))
+        (now (order .entry)) ⌝ }
 {
     let mut occurrences = [0u64; 256];
     let mut matches = [0u64; 256];
@@ -108,7 +112,9 @@ pub fn try_lists(
     done: &[u32],
     order: &[u8],
 ) -> Tried
-    ensures { λ r. ⌜ r ≡ tried (flatJob «old_places» (now (old .entry)) «new_places» (now (new .entry)) (now (done .entry))) (now (order .entry)) ⌝ }
+    ensures { λ r. ⌜ r ≡ tried
+        (flatJob «old_places» (now (old .entry)) «new_places» (now (new .entry)) (now (done .entry)))
+        (now (order .entry)) ⌝ }
 {
     let o = check_lines(old_places, old, new_places, new, done);
     if !o.passed() {

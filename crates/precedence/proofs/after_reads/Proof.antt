@@ -3,7 +3,8 @@ use mathlib.Core.Path.{_≡_, refl}
 use Prim.Native.Nat.{_<_, _^_}
 use borrow.Author.Needs.{needs}
 use lib.ListN.{length}
-use Rattle.precedence.proofs.ByVariable.{Gathering, Joining, gathering-init, gathering-step, gathering-done, joining-step, joining-done, at-lowest, less-left, less-narrow}
+use Rattle.precedence.proofs.ByVariable.{Gathering, Joining, gathering-init, gathering-step, gathering-done}
+use Rattle.precedence.proofs.ByVariable.{joining-step, joining-done, at-lowest, less-left, less-narrow}
 use Rattle.precedence.proofs.after_reads.Statement.{statement}
 use Rattle.precedence.proofs.after_reads.Tie as tie
 

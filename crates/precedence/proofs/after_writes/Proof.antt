@@ -4,7 +4,9 @@ use mathlib.Core.Path.{_≡_, refl}
 use Prim.Native.Nat.{_<_, _^_}
 use borrow.Author.Needs.{needs}
 use lib.ListN.{length}
-use Rattle.precedence.proofs.ByVariable.{Gathering, Joining, Untouched, gathering-init, gathering-step, gathering-joined, gathering-both, untouched-step, joining-step, joining-done, at-lowest, less-left, less-narrow}
+use Rattle.precedence.proofs.ByVariable.{Gathering, Joining, Untouched, gathering-init, gathering-step}
+use Rattle.precedence.proofs.ByVariable.{gathering-joined, gathering-both, untouched-step, joining-step}
+use Rattle.precedence.proofs.ByVariable.{joining-done, at-lowest, less-left, less-narrow}
 use Rattle.precedence.proofs.after_writes.Statement.{statement}
 use Rattle.precedence.proofs.after_writes.Tie as tie
 
