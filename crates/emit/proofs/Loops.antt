@@ -15,10 +15,10 @@ use Rattle.emit.specs.Emit.{Room, Emits}
 use Rattle.emit.specs.Numbers.{over}
 use Rattle.emit.proofs.Chains.{emits-length, sets-append}
 
--- where `todo` is written next, the whole text is written, and there is room for it
-pub record Left (todo out : List ℕ) (at : ℕ) (whole start : List ℕ) (first : ℕ) : Type 0 where
-  pub bytes : sets out at todo ≡ sets start first whole
-  pub place : at + length todo ≡ first + length whole
+-- where `rest` is written next, the whole text is written, and there is room for it
+pub record Left (rest out : List ℕ) (at : ℕ) (whole start : List ℕ) (first : ℕ) : Type 0 where
+  pub bytes : sets out at rest ≡ sets start first whole
+  pub place : at + length rest ≡ first + length whole
   pub same : length out ≡ length start
   pub fits : first + length whole ≤ length start
 
