@@ -9,22 +9,18 @@ use Rattle.layout.specs.Words.{spelling}
 use Rattle.layout.specs.Text.{Form, Lines, number, entries, listed, stepLine, wordLine, jobLine, stepLines}
 use Rattle.layout.specs.Text.{doneLines, jobText, text, Short, Shorts, ShortForm, ShortForms, ShortLines}
 use Rattle.layout.specs.Points.{digit, alive, expect, chosen, spelt, inList, pastWord, ended, more, closed, next}
-use Rattle.layout.specs.Parse.{Line, Parsed, noLine, noLines, withNum, stored, took, formOf, putStep, putLine}
-use Rattle.layout.specs.Parse.{keep, atEnd, run, parse}
+use Rattle.layout.specs.Parse.{Line, Parsed, noLine, noLines, withNum, stored, withEntries, took, putStep}
+use Rattle.layout.specs.Parse.{putLine, keep, atEnd, run, parse}
 use Rattle.layout.specs.declared.Word.{Word}
 use Rattle.layout.specs.declared.Word.the-variants.{Old, New, Done, Step, In, Out, Read, Write}
 use Rattle.layout.specs.declared.Part.{Part}
 use Rattle.layout.specs.declared.Part.the-variants.{OldRoute, NewRoute, JobPart}
 use Rattle.layout.specs.declared.Point.the-variants.{Start, Open, Past, Digit, Digits, Closed}
 use Rattle.layout.proofs.Numbers.{number-run}
+use Rattle.layout.proofs.LineLists.{formOf-lineWith}
 
 module _ (v : Version) (limits : Limits v) where
   -- ---- the entries of a list
-
-  -- a list's entries in turn, each put away by its word
-  unfoldable pub pushed : Word → List ℕ → Line → Line
-  pushed w [] c = c
-  pushed w (n ∷ l) c = pushed w l (stored w (withNum n c))
 
   module _ (w : Word) (p : Part) (t : Lines) (past-on : (c : Line) (s : List ℕ)
       → run v (Past w p) c t (32 ∷ s) ≡ run v (Digit w p) c t s)
@@ -40,148 +36,38 @@ module _ (v : Version) (limits : Limits v) where
       one-more n (m ∷ l) c s h = number-run v limits w p c t n 32 (number m (entries l (41 ∷ s))) h refl
 
       rest-run : (l : List ℕ) (c : Line) (s : List ℕ) → Shorts v l
-          → run v (Digits w p 0) c t (entries l (41 ∷ s)) ≡ run v (Closed w p) (pushed w l (stored w c)) t s
-      unfolding entries pushed
+          → run v (Digits w p 0) c t (entries l (41 ∷ s)) ≡ run v (Closed w p) (withEntries w l (stored w c)) t s
+      unfolding entries withEntries
       rest-run [] c s h = num-end c s
       rest-run (n ∷ l) c s h = num-on c (number n (entries l (41 ∷ s))) ∙ one-more n l (stored w c) s (h .0)
           ∙ rest-run l (withNum n (stored w c)) s (h .1)
 
       list-run : (l : List ℕ) (c : Line) (s : List ℕ) → Shorts v l
-          → run v (Past w p) c t (entries l (41 ∷ s)) ≡ run v (Closed w p) (pushed w l c) t s
-      unfolding entries pushed
+          → run v (Past w p) c t (entries l (41 ∷ s)) ≡ run v (Closed w p) (withEntries w l c) t s
+      unfolding entries withEntries
       list-run [] c s h = past-end c s
       list-run (n ∷ l) c s h = past-on c (number n (entries l (41 ∷ s))) ∙ one-more n l c s (h .0)
           ∙ rest-run l (withNum n c) s (h .1)
 
   pub ins-run : (p : Part) (t : Lines) (l : List ℕ) (c : Line) (s : List ℕ) → Shorts v l
-      → run v (Past In p) c t (entries l (41 ∷ s)) ≡ run v (Closed In p) (pushed In l c) t s
+      → run v (Past In p) c t (entries l (41 ∷ s)) ≡ run v (Closed In p) (withEntries In l c) t s
   unfolding run next pastWord inList more ended alive digit expect took keep
   ins-run p t = list-run In p t (λ c s. refl) (λ c s. refl) (λ c s. refl) (λ c s. refl)
 
   pub outs-run : (p : Part) (t : Lines) (l : List ℕ) (c : Line) (s : List ℕ) → Shorts v l
-      → run v (Past Out p) c t (entries l (41 ∷ s)) ≡ run v (Closed Out p) (pushed Out l c) t s
+      → run v (Past Out p) c t (entries l (41 ∷ s)) ≡ run v (Closed Out p) (withEntries Out l c) t s
   unfolding run next pastWord inList more ended alive digit expect took keep
   outs-run p t = list-run Out p t (λ c s. refl) (λ c s. refl) (λ c s. refl) (λ c s. refl)
 
   pub reads-run : (p : Part) (t : Lines) (l : List ℕ) (c : Line) (s : List ℕ) → Shorts v l
-      → run v (Past Read p) c t (entries l (41 ∷ s)) ≡ run v (Closed Read p) (pushed Read l c) t s
+      → run v (Past Read p) c t (entries l (41 ∷ s)) ≡ run v (Closed Read p) (withEntries Read l c) t s
   unfolding run next pastWord inList more ended alive digit expect took keep
   reads-run p t = list-run Read p t (λ c s. refl) (λ c s. refl) (λ c s. refl) (λ c s. refl)
 
   pub writes-run : (p : Part) (t : Lines) (l : List ℕ) (c : Line) (s : List ℕ) → Shorts v l
-      → run v (Past Write p) c t (entries l (41 ∷ s)) ≡ run v (Closed Write p) (pushed Write l c) t s
+      → run v (Past Write p) c t (entries l (41 ∷ s)) ≡ run v (Closed Write p) (withEntries Write l c) t s
   unfolding run next pastWord inList more ended alive digit expect took keep
   writes-run p t = list-run Write p t (λ c s. refl) (λ c s. refl) (λ c s. refl) (λ c s. refl)
-
-  -- ---- what the four lists leave in the line
-
-  lastOf : ℕ → List ℕ → ℕ
-  lastOf n [] = n
-  lastOf n (m ∷ l) = lastOf m l
-
-  pushed-ins : (l : List ℕ) (c : Line) → pushed In l c
-      ≡ record {
-        num = lastOf (c .num) l;
-        head = c .head;
-        ins = reverseAux l (c .ins);
-        outs = c .outs;
-        reads = c .reads;
-        writes = c .writes;
-      }
-  unfolding pushed stored lastOf
-  pushed-ins [] c = refl
-  pushed-ins (n ∷ l) c = pushed-ins l (stored In (withNum n c))
-
-  pushed-outs : (l : List ℕ) (c : Line) → pushed Out l c
-      ≡ record {
-        num = lastOf (c .num) l;
-        head = c .head;
-        ins = c .ins;
-        outs = reverseAux l (c .outs);
-        reads = c .reads;
-        writes = c .writes;
-      }
-  unfolding pushed stored lastOf
-  pushed-outs [] c = refl
-  pushed-outs (n ∷ l) c = pushed-outs l (stored Out (withNum n c))
-
-  pushed-reads : (l : List ℕ) (c : Line) → pushed Read l c
-      ≡ record {
-        num = lastOf (c .num) l;
-        head = c .head;
-        ins = c .ins;
-        outs = c .outs;
-        reads = reverseAux l (c .reads);
-        writes = c .writes;
-      }
-  unfolding pushed stored lastOf
-  pushed-reads [] c = refl
-  pushed-reads (n ∷ l) c = pushed-reads l (stored Read (withNum n c))
-
-  pushed-writes : (l : List ℕ) (c : Line) → pushed Write l c
-      ≡ record {
-        num = lastOf (c .num) l;
-        head = c .head;
-        ins = c .ins;
-        outs = c .outs;
-        reads = c .reads;
-        writes = reverseAux l (c .writes);
-      }
-  unfolding pushed stored lastOf
-  pushed-writes [] c = refl
-  pushed-writes (n ∷ l) c = pushed-writes l (stored Write (withNum n c))
-
-  -- the line of a step, before its LF
-  unfoldable pub gathered : Form → Line
-  gathered f = pushed Write (f .writes) (pushed Read (f .reads)
-      (pushed Out (f .outs) (pushed In (f .ins) (record
-      { num = f .name; head = f .name; ins = []; outs = []; reads = []; writes = [] }))))
-
-  pub gathered-form : (f : Form) → formOf (gathered f) ≡ f
-  unfolding gathered
-  gathered-form f =
-      ap formOf
-      (pushed-writes (f .writes) _
-      ∙ ap again (pushed-reads (f .reads) _)
-      ∙ ap twice (pushed-outs (f .outs) _)
-      ∙ ap thrice (pushed-ins (f .ins) _))
-      ∙ (λ i. record {
-        name = f .name;
-        ins = reverse-reverse (f .ins) i;
-        outs = reverse-reverse (f .outs) i;
-        reads = reverse-reverse (f .reads) i;
-        writes = reverse-reverse (f .writes) i;
-      })
-    where
-      again : Line → Line
-      again c = record {
-        num = lastOf (c .num) (f .writes);
-        head = c .head;
-        ins = c .ins;
-        outs = c .outs;
-        reads = c .reads;
-        writes = reverseAux (f .writes) (c .writes);
-      }
-
-      twice : Line → Line
-      twice c = again (record {
-        num = lastOf (c .num) (f .reads);
-        head = c .head;
-        ins = c .ins;
-        outs = c .outs;
-        reads = reverseAux (f .reads) (c .reads);
-        writes = c .writes;
-      })
-
-      thrice : Line → Line
-      thrice c = twice (record {
-        num = lastOf (c .num) (f .outs);
-        head = c .head;
-        ins = c .ins;
-        outs = reverseAux (f .outs) (c .outs);
-        reads = c .reads;
-        writes = c .writes;
-      })
 
   -- ---- the lines
 
@@ -191,14 +77,13 @@ module _ (v : Version) (limits : Limits v) where
         (number (f .name) (listed In (f .ins) (listed Out (f .outs)
         (listed Read (f .reads) (listed Write (f .writes) (41 ∷ 10 ∷ s)))))) ≡ run v (Open p) noLine (putStep p f t) s
     unfolding listed run next pastWord ended more closed spelt spelling alive digit expect took stored keep putLine
-        gathered
     step-run s =
         number-run v limits Step p noLine t (f .name) 32 _ (short .name) refl
         ∙ ins-run p t (f .ins) _ _ (short .ins)
         ∙ outs-run p t (f .outs) _ _ (short .outs)
         ∙ reads-run p t (f .reads) _ _ (short .reads)
         ∙ writes-run p t (f .writes) _ _ (short .writes)
-        ∙ ap (λ (g : Form). run v (Open p) noLine (putStep p g t) s) (gathered-form f)
+        ∙ ap (λ (g : Form). run v (Open p) noLine (putStep p g t) s) (formOf-lineWith f)
 
   pub old-step : (t : Lines) (f : Form) (s : List ℕ) → ShortForm v f
       → run v (Open OldRoute) noLine t (stepLine f s) ≡ run v (Open OldRoute) noLine (putStep OldRoute f t) s

@@ -1,6 +1,7 @@
 -- Laws on the layout: the table of words, and that the points are the text.
 pub mod Letters
 pub mod Numbers
+pub mod LineLists
 pub mod Complete
 pub mod Back
 pub mod Sound

@@ -1,18 +1,19 @@
 -- The lines through their tokens.
 -- Assumes nothing.
-use mathlib.Core.Path.{_≡_, refl, ap, _∙_, subst}
+use mathlib.Core.Path.{_≡_, refl, subst}
 use mathlib.Core.Bool.{true}
-use mathlib.Core.List.{List, [], _∷_, reverseAux, reverse-reverse}
+use mathlib.Core.List.{List, [], _∷_}
 use Prim.Native.Nat.{ℕ, _+_}
 use native.Mathlib.Omega.{arith}
 use lib.ListN.{getD}
 use Rattle.version.specs.declared.Version.{Version}
 use Rattle.layout.specs.Text.{Form, Lines}
-use Rattle.layout.specs.Parse.{Line, noLine, withNum, stored, formOf, putStep, putLine}
+use Rattle.layout.specs.Parse.{noLine, withNum, putStep, putLine}
 use Rattle.layout.specs.declared.Word.the-variants.{Step, In, Out, Read, Write}
 use Rattle.layout.specs.declared.Part.{Part}
 use Rattle.layout.specs.declared.Point.the-variants.{Open, Digit}
-use Rattle.tokens.specs.inner.Tokens.{Reading, Reached, TextOn, NumberOn, ListOn, listWord, withEntries}
+use Rattle.layout.proofs.LineLists.{lineWith, formOf-lineWith}
+use Rattle.tokens.specs.inner.Tokens.{Reading, Reached, TextOn, NumberOn, ListOn, listWord}
 use Rattle.tokens.specs.declared.Cursor.{Cursor}
 use Rattle.tokens.specs.declared.Numeral.{Numeral}
 use Rattle.tokens.specs.declared.Listed.{Listed}
@@ -32,113 +33,6 @@ numbered-on v s from w a n e first number end =
           (number .goes x q c t (first .goes v p c t (Digit x q) c t way r));
     }
 
--- ---- the line in hand with its lists
-
--- the number in hand after a list
-last : List ℕ → ℕ → ℕ
-last [] m = m
-last (n ∷ l) m = last l n
-
-in-is : (l : List ℕ) (c : Line) → withEntries In l c
-    ≡ record {
-      num = last l (c .num);
-      head = c .head;
-      ins = reverseAux l (c .ins);
-      outs = c .outs;
-      reads = c .reads;
-      writes = c .writes;
-    }
-unfolding withEntries stored last
-in-is [] c = refl
-in-is (n ∷ l) c = in-is l (stored In (withNum n c))
-
-out-is : (l : List ℕ) (c : Line) → withEntries Out l c
-    ≡ record {
-      num = last l (c .num);
-      head = c .head;
-      ins = c .ins;
-      outs = reverseAux l (c .outs);
-      reads = c .reads;
-      writes = c .writes;
-    }
-unfolding withEntries stored last
-out-is [] c = refl
-out-is (n ∷ l) c = out-is l (stored Out (withNum n c))
-
-read-is : (l : List ℕ) (c : Line) → withEntries Read l c
-    ≡ record {
-      num = last l (c .num);
-      head = c .head;
-      ins = c .ins;
-      outs = c .outs;
-      reads = reverseAux l (c .reads);
-      writes = c .writes;
-    }
-unfolding withEntries stored last
-read-is [] c = refl
-read-is (n ∷ l) c = read-is l (stored Read (withNum n c))
-
-write-is : (l : List ℕ) (c : Line) → withEntries Write l c
-    ≡ record {
-      num = last l (c .num);
-      head = c .head;
-      ins = c .ins;
-      outs = c .outs;
-      reads = c .reads;
-      writes = reverseAux l (c .writes);
-    }
-unfolding withEntries stored last
-write-is [] c = refl
-write-is (n ∷ l) c = write-is l (stored Write (withNum n c))
-
--- the line of a name and four lists
-abbrev lineWith : ℕ → List ℕ → List ℕ → List ℕ → List ℕ → Line
-lineWith v i o r w = withEntries Write w (withEntries Read r
-    (withEntries Out o (withEntries In i (stored Step (withNum v noLine)))))
-
-abbrev formWith : ℕ → List ℕ → List ℕ → List ℕ → List ℕ → Form
-formWith v i o r w = record { name = v; ins = i; outs = o; reads = r; writes = w }
-
-form-is : (v : ℕ) (i o r w : List ℕ) → formOf (lineWith v i o r w) ≡ formWith v i o r w
-unfolding stored
-form-is v i o r w =
-    ap formOf
-    (write-is w _
-    ∙ ap (λ (c : Line). record {
-      num = last w (c .num);
-      head = c .head;
-      ins = c .ins;
-      outs = c .outs;
-      reads = c .reads;
-      writes = reverseAux w (c .writes);
-    })
-    (read-is r _
-    ∙ ap (λ (c : Line). record {
-      num = last r (c .num);
-      head = c .head;
-      ins = c .ins;
-      outs = c .outs;
-      reads = reverseAux r (c .reads);
-      writes = c .writes;
-    })
-    (out-is o _
-    ∙ ap (λ (c : Line). record {
-      num = last o (c .num);
-      head = c .head;
-      ins = c .ins;
-      outs = reverseAux o (c .outs);
-      reads = c .reads;
-      writes = c .writes;
-    })
-    (in-is i _))))
-    ∙ (λ j. record {
-      name = v;
-      ins = reverse-reverse i j;
-      outs = reverse-reverse o j;
-      reads = reverse-reverse r j;
-      writes = reverse-reverse w j;
-    })
-
 -- ---- a step's line, token by token
 
 module _ (v : Version) (s : List ℕ) (from : ℕ) (a : Cursor) (n : Numeral) (b : Cursor) (i : Listed) (c : Cursor)
@@ -154,9 +48,20 @@ module _ (v : Version) (s : List ℕ) (from : ℕ) (a : Cursor) (n : Numeral) (b
     (he : TextOn s (r .at) (r .ok) (32 ∷ 40 ∷ 119 ∷ 114 ∷ 105 ∷ 116 ∷ 101 ∷ []) e)
     (hw : ListOn v s (e .at) (e .ok) w)
     (hf : TextOn s (w .at) (w .ok) (41 ∷ 10 ∷ []) f) where
+  -- the form that was read
+  abbrev read : Form
+  read =
+      record {
+        name = n .value;
+        ins = hi .entries;
+        outs = ho .entries;
+        reads = hr .entries;
+        writes = hw .entries;
+      }
+
   reads-step : (q : Part) (t : Lines) → hasSteps q ≡ true → getD s (from + 1) 0 ≡ 115
       → Reading v s from (Open q) noLine t → Reached v s (f .at) (f .ok) (Open q) noLine
-      (putLine Write q (lineWith (n .value) (hi .entries) (ho .entries) (hr .entries) (hw .entries)) t)
+      (putLine Write q (lineWith read) t)
   unfolding listWord Reached
   reads-step q t route is h =
       let at-name = hn .goes Step q noLine t (ha .goes v _ _ _ _ _ _ (step-spells v s from q noLine t route is) h) in
@@ -194,8 +99,8 @@ module _ (v : Version) (s : List ℕ) (from : ℕ) (a : Cursor) (n : Numeral) (b
           hf .past h,
         );
         within = hf .within;
-        form = formWith (n .value) (hi .entries) (ho .entries) (hr .entries) (hw .entries);
+        form = read;
         is = record { name = refl; ins = hi .kept; outs = ho .kept; reads = hr .kept; writes = hw .kept };
         goes = λ q t route is h. subst (λ (x : Form). Reached v s (f .at) (f .ok) (Open q) noLine (putStep q x t))
-            (form-is (n .value) (hi .entries) (ho .entries) (hr .entries) (hw .entries)) (reads-step q t route is h);
+            (formOf-lineWith read) (reads-step q t route is h);
       }

@@ -10,7 +10,7 @@ use Rattle.mask.specs.Mask.{bit}
 use Rattle.version.specs.declared.Version.{Version}
 use Rattle.layout.specs.Text.{Lines}
 use Rattle.layout.specs.Points.{alive, next}
-use Rattle.layout.specs.Parse.{Line, Parsed, withNum, stored, took, keep, atEnd, run, parse}
+use Rattle.layout.specs.Parse.{Line, Parsed, withNum, withEntries, took, keep, atEnd, run, parse}
 use Rattle.layout.specs.declared.Word.{Word}
 use Rattle.layout.specs.declared.Word.the-variants.{Old, New, Job, Done, Step, In, Out, Read, Write}
 use Rattle.layout.specs.declared.Part.{Part}
@@ -95,11 +95,6 @@ listWord In = true
 listWord Out = true
 listWord Read = true
 listWord Write = true
-
--- the line with these entries of a word's list
-unfoldable pub withEntries : Word → List ℕ → Line → Line
-withEntries w [] c = c
-withEntries w (n ∷ l) c = withEntries w l (stored w (withNum n c))
 
 abbrev pub noEntries : Entries
 noEntries = record { mask = 0; top = 0; count = 0; falls = false }
