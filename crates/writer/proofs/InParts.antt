@@ -189,28 +189,31 @@ module _ (done : List ℕ) where
   job-whole = three-emits _ _ _ _ job-parts
 
 -- the whole text
-module _ (j : Job) where
+module _ (oldPlaces : ℕ) (old : List Step) (newPlaces : ℕ) (new : List Step) (done : List ℕ) where
+  abbrev job : Job
+  job = record { oldPlaces = oldPlaces; old = old; newPlaces = newPlaces; new = new; done = done }
+
   abbrev oldText : List ℕ
-  oldText = routeText W.Old (j .oldPlaces) (j .old) []
+  oldText = routeText W.Old oldPlaces old []
 
   abbrev newText : List ℕ
-  newText = routeText W.New (j .newPlaces) (j .new) []
+  newText = routeText W.New newPlaces new []
 
-  text-parts : written j ≡ parts (oldText ∷ newText ∷ jobText (j .done) ∷ [])
+  text-parts : written job ≡ parts (oldText ∷ newText ∷ jobText done ∷ [])
   unfolding written linesOf text parts
   text-parts =
-      route-front W.Old (j .oldPlaces) (j .old) (routeText W.New (j .newPlaces) (j .new) (jobText (j .done)))
-      ∙ ap (λ (t : List ℕ). oldText ++ t) (route-front W.New (j .newPlaces) (j .new) (jobText (j .done))
-      ∙ ap (λ (t : List ℕ). newText ++ t) (sym (append-nil (jobText (j .done)))))
+      route-front W.Old oldPlaces old (routeText W.New newPlaces new (jobText done))
+      ∙ ap (λ (t : List ℕ). oldText ++ t) (route-front W.New newPlaces new (jobText done)
+      ∙ ap (λ (t : List ℕ). newText ++ t) (sym (append-nil (jobText done))))
 
-  pub text-first : First (written j) oldText
+  pub text-first : First (written job) oldText
   text-first = first-room _ _ _ text-parts
 
-  pub text-second : Second (written j) oldText newText
+  pub text-second : Second (written job) oldText newText
   text-second = second-room _ _ _ _ text-parts
 
-  pub text-third : Third (written j) oldText newText (jobText (j .done))
+  pub text-third : Third (written job) oldText newText (jobText done)
   text-third = third-room _ _ _ _ _ text-parts
 
-  pub text-whole : Three (written j) oldText newText (jobText (j .done))
+  pub text-whole : Three (written job) oldText newText (jobText done)
   text-whole = three-emits _ _ _ _ text-parts

@@ -5,6 +5,7 @@ pub mod Longest
 pub mod InParts
 pub mod EachLine
 pub mod Answers
+pub mod LongLists
 pub mod Trips
 pub mod TextsInFront
 pub mod WrittenText

@@ -1,6 +1,6 @@
 -- The round trips for the operations: what write leaves in a slice, read takes back; what read accepts, write gives
 -- back. Assumes nothing.
-use mathlib.Core.Path.{_≡_, refl, sym, ap, _∙_}
+use mathlib.Core.Path.{_≡_, sym, ap, _∙_}
 use mathlib.Core.Bool.{Bool, true, cond}
 use mathlib.Core.List.{List, _++_}
 use Prim.Native.Nat.{ℕ, _+_, _≤_}
@@ -54,9 +54,8 @@ pub read-writes : (s o : List ℕ) → readOf s .number ≡ 0 → length s ≤ l
 read-writes s o z room =
     let j : Job = jobRead (readOf s) in
     let same : written j ≡ s = read-then-write scope-limits s z in
-    let rows : Passes (lineRows j) = eq-eqb _ 0 (read-lines s z) in
     let long : length s ≡ length (written j) = ap length (sym same) in (
-      sym (passed-answer j _ refl rows o (length s) long room),
-      sym (passed-out j _ refl rows o (length s) long room _
+      sym (passed-answer j (read-lines s z) o (length s) long room),
+      sym (passed-out j (read-lines s z) o (length s) long room _
           (ap (λ (t : List ℕ). t ++ drop (length t) o) (sym same))),
     )

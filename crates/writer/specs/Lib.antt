@@ -1,5 +1,4 @@
 -- What writing a job gives.
 pub mod Written
 pub mod Parts
-pub mod Fits
 pub mod Writes

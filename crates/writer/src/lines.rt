@@ -3,13 +3,12 @@ use emit::entries;
 use emit::entry;
 use emit::put;
 use layout::Word;
-use route::Route;
 use route::Step;
+use route::flat;
 ghost use mathlib.Core.List.{[], map};
-ghost use Prim.Native.Nat.{_≤_, _<_};
 ghost use Rattle.mask.specs.Mask.{members};
 ghost use Rattle.emit.specs.Emit.{Room, Emits};
-ghost use Rattle.route.specs.Steps.{stepsOf};
+ghost use Rattle.route.specs.Flat.{stepsIn};
 ghost use Rattle.layout.specs.Words.{spelling};
 ghost use Rattle.layout.specs.Text.{listed, stepLine, stepLines, wordLine, doneLines, jobText};
 ghost use Rattle.facts.specs.Back.{formOf};
@@ -92,15 +91,15 @@ fn word_line(out: &mut [u8], at: usize, w: Word, n: u64) -> usize
     closed(out, b)
 }
 
-fn step_lines(out: &mut [u8], at: usize, r: Route) -> usize
-    requires { ⌜ r .len ≤ 64 ⌝ }
-    requires { ⌜ Room (stepLines (map formOf (stepsOf r)) []) (now out) at ⌝ }
-    ensures { λ p. ⌜ Emits (stepLines (map formOf (stepsOf r)) []) (now (out .entry)) at (now (out .exit)) p ⌝ }
+fn step_lines(out: &mut [u8], at: usize, steps: &[u64]) -> usize
+    requires { ⌜ Room (stepLines (map formOf (stepsIn (now steps))) []) (now out) at ⌝ }
+    ensures { λ r. ⌜ Emits (stepLines (map formOf (stepsIn (now (steps .entry)))) []) (now (out .entry)) at (now (out .exit)) r ⌝ }
 {
+    let n = flat::count(steps);
     let mut p = at;
     let mut i = 0;
-    while i < r.len {
-        let s = r.steps[i];
+    while i < n {
+        let s = flat::step_at(steps, i);
         p = step_line(out, p, s);
         i += 1;
     }
@@ -108,13 +107,12 @@ fn step_lines(out: &mut [u8], at: usize, r: Route) -> usize
 }
 
 // A route's head and its steps.
-pub fn route_lines(out: &mut [u8], at: usize, w: Word, r: Route) -> usize
-    requires { ⌜ r .len ≤ 64 ⌝ }
-    requires { ⌜ Room (routeText w (r .places) (stepsOf r) []) (now out) at ⌝ }
-    ensures { λ p. ⌜ Emits (routeText w (r .places) (stepsOf r) []) (now (out .entry)) at (now (out .exit)) p ⌝ }
+pub fn route_lines(out: &mut [u8], at: usize, w: Word, places: u64, steps: &[u64]) -> usize
+    requires { ⌜ Room (routeText w places (stepsIn (now steps)) []) (now out) at ⌝ }
+    ensures { λ r. ⌜ Emits (routeText w places (stepsIn (now (steps .entry))) []) (now (out .entry)) at (now (out .exit)) r ⌝ }
 {
-    let p = word_line(out, at, w, r.places);
-    step_lines(out, p, r)
+    let p = word_line(out, at, w, places);
+    step_lines(out, p, steps)
 }
 
 fn done_lines(out: &mut [u8], at: usize, done: &[u32]) -> usize

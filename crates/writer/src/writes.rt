@@ -3,36 +3,50 @@ use crate::Wrote;
 use crate::lines;
 use layout::Word;
 use route::Route;
+use route::laying::lay;
 ghost use mathlib.Core.Path.{_≡_};
 ghost use lib.ListN.{length};
 ghost use Rattle.emit.specs.Emit.{Room, Emits};
-ghost use Rattle.job.specs.Job.{jobOf};
+ghost use Rattle.job.specs.Job.{jobOf, flatJob};
+ghost use Rattle.job.specs.Lines.{LinesPass};
 ghost use Rattle.writer.specs.Written.{written};
-ghost use Rattle.writer.specs.Fits.{Fits};
 ghost use Rattle.writer.specs.Writes.{wrote, outAfter};
 
 // No job whose lines pass has a longer text (proofs/Bound.antt).
 const LONGEST: usize = 18136;
 
 // The whole text, from the slice's start.
-fn text(out: &mut [u8], old: Route, new: Route, done: &[u32]) -> usize
-    requires { ⌜ Fits old new (now done) ⌝ }
-    requires { ⌜ Room (written (jobOf old new (now done))) (now out) 0 ⌝ }
-    ensures { λ r. ⌜ Emits (written (jobOf old new (now (done .entry)))) (now (out .entry)) 0 (now (out .exit)) r ⌝ }
+fn text(
+    out: &mut [u8],
+    old_places: u64,
+    old: &[u64],
+    new_places: u64,
+    new: &[u64],
+    done: &[u32],
+) -> usize
+    requires { ⌜ Room (written (flatJob «old_places» (now old) «new_places» (now new) (now done))) (now out) 0 ⌝ }
+    ensures { λ r. ⌜ Emits (written (flatJob «old_places» (now (old .entry)) «new_places» (now (new .entry)) (now (done .entry)))) (now (out .entry)) 0 (now (out .exit)) r ⌝ }
 {
-    let a = lines::route_lines(out, 0, Word::Old, old);
-    let b = lines::route_lines(out, a, Word::New, new);
+    let a = lines::route_lines(out, 0, Word::Old, old_places, old);
+    let b = lines::route_lines(out, a, Word::New, new_places, new);
     lines::job_lines(out, b, done)
 }
 
 // Where the slice may be too short, the text is written apart and copied if it fits.
-fn write_copied(old: Route, new: Route, done: &[u32], out: &mut [u8]) -> Wrote
-    requires { ⌜ Fits old new (now done) ⌝ }
-    ensures { λ r. ⌜ (r ≡ wrote (jobOf old new (now (done .entry))) (length (now (out .entry))))
-        × (now (out .exit) ≡ outAfter (jobOf old new (now (done .entry))) (now (out .entry))) ⌝ }
+fn write_copied(
+    old_places: u64,
+    old: &[u64],
+    new_places: u64,
+    new: &[u64],
+    done: &[u32],
+    out: &mut [u8],
+) -> Wrote
+    requires { ⌜ LinesPass (flatJob «old_places» (now old) «new_places» (now new) (now done)) ⌝ }
+    ensures { λ r. ⌜ (r ≡ wrote (flatJob «old_places» (now (old .entry)) «new_places» (now (new .entry)) (now (done .entry))) (length (now (out .entry))))
+        × (now (out .exit) ≡ outAfter (flatJob «old_places» (now (old .entry)) «new_places» (now (new .entry)) (now (done .entry))) (now (out .entry))) ⌝ }
 {
     let mut apart = [0u8; LONGEST];
-    let end = text(&mut apart, old, new, done);
+    let end = text(&mut apart, old_places, old, new_places, new, done);
     if out.len() < end {
         return Wrote {
             number: 15,
@@ -48,11 +62,19 @@ fn write_copied(old: Route, new: Route, done: &[u32], out: &mut [u8]) -> Wrote
     }
 }
 
-pub fn write(old: Route, new: Route, done: &[u32], out: &mut [u8]) -> Wrote
-    ensures { λ r. ⌜ (r ≡ wrote (jobOf old new (now (done .entry))) (length (now (out .entry))))
-        × (now (out .exit) ≡ outAfter (jobOf old new (now (done .entry))) (now (out .entry))) ⌝ }
+// Write over lists of steps.
+pub fn write_lists(
+    old_places: u64,
+    old: &[u64],
+    new_places: u64,
+    new: &[u64],
+    done: &[u32],
+    out: &mut [u8],
+) -> Wrote
+    ensures { λ r. ⌜ (r ≡ wrote (flatJob «old_places» (now (old .entry)) «new_places» (now (new .entry)) (now (done .entry))) (length (now (out .entry))))
+        × (now (out .exit) ≡ outAfter (flatJob «old_places» (now (old .entry)) «new_places» (now (new .entry)) (now (done .entry))) (now (out .entry))) ⌝ }
 {
-    let o = job::routes::check_routes(old, new, done);
+    let o = job::checks::check_lines(old_places, old, new_places, new, done);
     if !o.passed() {
         return Wrote {
             number: o.number,
@@ -61,12 +83,24 @@ pub fn write(old: Route, new: Route, done: &[u32], out: &mut [u8]) -> Wrote
         };
     }
     if out.len() < LONGEST {
-        return write_copied(old, new, done, out);
+        return write_copied(old_places, old, new_places, new, done, out);
     }
-    let end = text(out, old, new, done);
+    let end = text(out, old_places, old, new_places, new, done);
     Wrote {
         number: 0,
         second: 0,
         written: end as u64,
     }
+}
+
+// The operation write, on records by value.
+pub fn write(old: Route, new: Route, done: &[u32], out: &mut [u8]) -> Wrote
+    ensures { λ r. ⌜ (r ≡ wrote (jobOf old new (now (done .entry))) (length (now (out .entry))))
+        × (now (out .exit) ≡ outAfter (jobOf old new (now (done .entry))) (now (out .entry))) ⌝ }
+{
+    let mut a = [0u64; 260];
+    let mut b = [0u64; 260];
+    let n = lay(old, &mut a);
+    let m = lay(new, &mut b);
+    write_lists(old.places, &a[..n], new.places, &b[..m], done, out)
 }

@@ -5,7 +5,7 @@ use native.Mathlib.Omega.{arith}
 use lib.ListN.{length, drop}
 use borrow.Author.Needs.{needs}
 use Rattle.emit.proofs.Loops.{Left, left-start}
-use Rattle.writer.proofs.EachLine.{nameLines, dones-room, dones-turn, dones-end}
+use Rattle.writer.proofs.EachLine.{nameLines, names-lined, each-room, each-turn, each-end}
 use Rattle.writer.proofs.lines.done_lines.Statement.{statement}
 use Rattle.writer.proofs.lines.done_lines.Tie as tie
 
@@ -23,13 +23,13 @@ cast-word-line : tie.Need-cast-word-line Inv-loop μ-loop
 cast-word-line c = record { fits = omega (arith, c .shared-slice-known2 .given (c .before .before .before .loop .i)) }
 
 word-line-requires : tie.Need-word-line-requires Inv-loop μ-loop
-word-line-requires c κs = search (needs, dones-room)
+word-line-requires c κs = search (needs, each-room names-lined 0)
 
 loop-again : tie.Need-loop-again Inv-loop μ-loop
-loop-again c = (search needs, (search needs, search (needs, dones-turn)))
+loop-again c = (search needs, (search needs, search (needs, each-turn names-lined 0)))
 
 returns : tie.Need-returns Inv-loop μ-loop
-returns c = search (needs, dones-end)
+returns c = search (needs, each-end names-lined 0)
 
 pub done-lines-spec : {M : Type 1} → statement M
 done-lines-spec = tie.close (tie.spec Inv-loop μ-loop loop-holds (λ c. search needs) (λ c. search needs) cast-word-line

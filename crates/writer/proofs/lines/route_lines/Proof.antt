@@ -8,7 +8,7 @@ word-line-requires : tie.Need-word-line-requires
 word-line-requires c κs = search (needs, route-first)
 
 step-lines-requires : tie.Need-step-lines-requires
-step-lines-requires c κs = (search needs, search (needs, route-second))
+step-lines-requires c κs = search (needs, route-second)
 
 returns : tie.Need-returns
 returns c = search (needs, route-whole)

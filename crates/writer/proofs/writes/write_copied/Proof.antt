@@ -6,7 +6,7 @@ use Rattle.writer.proofs.writes.write_copied.Statement.{statement}
 use Rattle.writer.proofs.writes.write_copied.Tie as tie
 
 text-requires : tie.Need-text-requires
-text-requires c κs = (search needs, search (needs, any-room, apart-long))
+text-requires c κs = search (needs, any-room)
 
 returns : tie.Need-returns
 returns c = (search (needs, copy-short, apart-long), search (needs, copy-none, apart-long))
