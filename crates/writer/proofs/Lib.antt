@@ -2,10 +2,8 @@
 pub mod Round
 pub mod Bound
 pub mod Longest
-pub mod InParts
-pub mod EachLine
 pub mod Answers
 pub mod LongLists
 pub mod Trips
-pub mod TextsInFront
+pub mod WholeText
 pub mod WrittenText

@@ -1,4 +1,3 @@
 -- What writing a job gives.
 pub mod Written
-pub mod Parts
 pub mod Writes

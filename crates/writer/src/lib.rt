@@ -1,5 +1,4 @@
 // Writing: the sheet that a job's records give, into a lent slice.
-mod lines;
 pub mod writes;
 
 // 0, 0 and the bytes written; or a refusal, and nothing written.

@@ -1,6 +1,5 @@
 // Write: rows 4, 2, 3, 5, then 15.
 use crate::Wrote;
-use crate::lines;
 use layout::Word;
 use route::Route;
 use route::laying::lay;
@@ -27,9 +26,9 @@ fn text(
     requires { ⌜ Room (written (flatJob «old_places» (now old) «new_places» (now new) (now done))) (now out) 0 ⌝ }
     ensures { λ r. ⌜ Emits (written (flatJob «old_places» (now (old .entry)) «new_places» (now (new .entry)) (now (done .entry)))) (now (out .entry)) 0 (now (out .exit)) r ⌝ }
 {
-    let a = lines::route_lines(out, 0, Word::Old, old_places, old);
-    let b = lines::route_lines(out, a, Word::New, new_places, new);
-    lines::job_lines(out, b, done)
+    let a = emit_lines::route_lines(out, 0, Word::Old, old_places, old);
+    let b = emit_lines::route_lines(out, a, Word::New, new_places, new);
+    emit_lines::job_lines(out, b, done)
 }
 
 // Where the slice may be too short, the text is written apart and copied if it fits.

@@ -1,6 +1,6 @@
 -- `writer::writes::text`: the two routes, then the job part.
 use borrow.Author.Needs.{needs}
-use Rattle.writer.proofs.InParts.{text-first, text-second, text-third, text-whole}
+use Rattle.writer.proofs.WholeText.{text-first, text-second, text-third, text-whole}
 use Rattle.writer.proofs.writes.text.Statement.{statement}
 use Rattle.writer.proofs.writes.text.Tie as tie
 
