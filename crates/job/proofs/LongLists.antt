@@ -207,6 +207,3 @@ module _ (j : Job) (n : ℕ) (a : List ℕ) (m : ℕ) (b : List ℕ) (p : Laid (
   pub same-laid : {X : Type 0} (f : Job → X) → ((j k : Job) → Refused j k → f j ≡ f k) → f laidJob ≡ f j
   same-laid f by =
       ap₂ (λ (x y : List Step). f (withSteps j x y)) (p .steps-are) (q .steps-are) ∙ sym (same-short j f by)
-
-  pub rows-laid : (o : Outcome) → o ≡ first (lineRows laidJob) → o ≡ first (lineRows j)
-  rows-laid o e = e ∙ same-laid (λ (j : Job). first (lineRows j)) (λ j k r. r .alike)

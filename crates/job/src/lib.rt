@@ -2,4 +2,3 @@
 
 pub mod checks;
 mod lines;
-pub mod routes;

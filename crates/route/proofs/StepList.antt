@@ -37,13 +37,7 @@ module _ (r : Route) (full : length (r .steps) ≡ 64) where
       (length-replicate (r .len - 64) blank)
       ∙ omega arith
 
-  -- the step at i, and those after it
-  pub steps-more : (i : ℕ) → i < r .len → drop i (stepsOf r) ≡ getD (stepsOf r) i blank ∷ drop (i + 1) (stepsOf r)
-  steps-more i h =
-      drop-cons (stepsOf r) i blank (omega (arith, length-steps))
-      ∙ ap {B = List Step} (λ (n : ℕ). getD (stepsOf r) i blank ∷ drop n (stepsOf r)) (sym (add-one i))
-
-  -- below 64 it is the record stored at i
+  -- below 64 the step at i is the record stored there
   pub steps-at : (i : ℕ) → i < r .len → i < 64 → getD (stepsOf r) i blank ≡ getD (r .steps) i blank
   unfolding stepsOf
   steps-at i h k =
@@ -60,13 +54,7 @@ module _ (r : Route) (full : length (r .steps) ≡ 64) where
       let stored : length (take (r .len) (r .steps)) ≤ i = omega (arith, length-take (r .len) (r .steps), full) in
       getD-past (take (r .len) (r .steps)) (replicate (r .len - 64) blank) i blank stored ∙ blank-at (r .len - 64) _
 
-  pub steps-on : (i : ℕ) → i < r .len → i < 64 → drop i (stepsOf r) ≡ getD (r .steps) i blank ∷ drop (i + 1) (stepsOf r)
-  steps-on i h k = steps-more i h ∙ ap {B = List Step} (λ (s : Step). s ∷ drop (i + 1) (stepsOf r)) (steps-at i h k)
-
-  pub steps-end : (i : ℕ) → r .len ≤ i → drop i (stepsOf r) ≡ []
-  steps-end i h = drop-of-length-le (stepsOf r) {i = i} (omega (arith, length-steps))
-
--- the same of any list of steps, of which there are `count`; `s` is the one at i
+-- any list of steps, of which there are `count`; `s` is the one at i, and the others follow
 pub list-on : (l : List Step) (i : ℕ) (s : Step) (count : ℕ) → count ≡ length l → i < count → s ≡ getD l i blank
     → drop i l ≡ s ∷ drop (i + 1) l
 list-on l i s count counted h is =
