@@ -1,14 +1,13 @@
 -- The texts of a sheet in the parts that calls write, and the room that each call has.
 -- Assumes nothing.
-use mathlib.Core.Path.{_≡_, refl, sym, ap, _∙_}
+use mathlib.Core.Path.{_≡_, refl, sym, ap, ap₂, _∙_}
 use mathlib.Core.List.{List, [], _∷_, _++_, append-nil, map}
 use Prim.Native.Nat.{ℕ, _+_, _^_, _<_}
 use Rattle.mask.specs.Mask.{members}
 use Rattle.mask.proofs.FromLowest.{members-narrow}
-use Rattle.emit.specs.Emit.{Emits}
 use Rattle.emit.specs.Numbers.{decimal, entry, over}
 use Rattle.emit.proofs.Chains.{parts, First, Second, Third, Fourth, Two, Three, Four, first-room, second-room}
-use Rattle.emit.proofs.Chains.{third-room, fourth-room, two-emits, three-emits, four-emits, emits-as, room-as}
+use Rattle.emit.proofs.Chains.{third-room, fourth-room, two-emits, three-emits, four-emits}
 use Rattle.emit.proofs.Over.{from-zero}
 use Rattle.route.specs.declared.Step.{Step}
 use Rattle.layout.specs.Words.{spelling}
@@ -38,76 +37,67 @@ pub closing-whole : Two closing (41 ∷ []) (10 ∷ [])
 unfolding parts
 closing-whole = two-emits closing (41 ∷ []) (10 ∷ []) refl
 
--- a list of places
+-- a list
 module _ (w : Word) (m : ℕ) where
   abbrev numbers : List ℕ
   numbers = over (λ (v : ℕ). entry (0 + v)) (members 64 m)
 
-  places-parts : listed w (members 64 m) [] ≡ parts ((32 ∷ []) ∷ opening w ∷ numbers ∷ (41 ∷ []) ∷ [])
+  list-parts : listed w (members 64 m) [] ≡ parts ((32 ∷ []) ∷ opening w ∷ numbers ∷ (41 ∷ []) ∷ [])
   unfolding listed members parts
-  places-parts =
+  list-parts =
       ap (λ (t : List ℕ). 32 ∷ 40 ∷ (spelling w ++ t))
       (entries-are (members 64 m) (41 ∷ []) ∙ ap (λ (t : List ℕ). t ++ (41 ∷ [])) (sym (from-zero (members 64 m))))
 
-  pub places-first : First (listed w (members 64 m) []) (32 ∷ [])
-  places-first = first-room _ _ _ places-parts
+  pub list-first : First (listed w (members 64 m) []) (32 ∷ [])
+  list-first = first-room _ _ _ list-parts
 
-  pub places-second : Second (listed w (members 64 m) []) (32 ∷ []) (opening w)
-  places-second = second-room _ _ _ _ places-parts
+  pub list-second : Second (listed w (members 64 m) []) (32 ∷ []) (opening w)
+  list-second = second-room _ _ _ _ list-parts
 
-  pub places-third : Third (listed w (members 64 m) []) (32 ∷ []) (opening w) numbers
-  places-third = third-room _ _ _ _ _ places-parts
+  pub list-third : Third (listed w (members 64 m) []) (32 ∷ []) (opening w) numbers
+  list-third = third-room _ _ _ _ _ list-parts
 
-  pub places-fourth : Fourth (listed w (members 64 m) []) (32 ∷ []) (opening w) numbers (41 ∷ [])
-  places-fourth = fourth-room _ _ _ _ _ _ places-parts
+  pub list-fourth : Fourth (listed w (members 64 m) []) (32 ∷ []) (opening w) numbers (41 ∷ [])
+  list-fourth = fourth-room _ _ _ _ _ _ list-parts
 
-  pub places-whole : Four (listed w (members 64 m) []) (32 ∷ []) (opening w) numbers (41 ∷ [])
-  places-whole = four-emits _ _ _ _ _ places-parts
-
-  -- a mask of 32 bits has no member from 32 on
-  module _ (h : m < 2 ^ 32) where
-    variables-are : listed w (members 32 m) [] ≡ listed w (members 64 m) []
-    variables-are = ap (λ (l : List ℕ). listed w l []) (sym (members-narrow 32 32 m h))
-
-    pub variables-room : First (listed w (members 32 m) []) (listed w (members 64 m) [])
-    variables-room o n r = room-as r variables-are
-
-    pub variables-whole : (o p : List ℕ) (n k : ℕ) → Emits (listed w (members 64 m) []) o n p k
-        → Emits (listed w (members 32 m) []) o n p k
-    variables-whole o p n k x = emits-as variables-are x
+  pub list-whole : Four (listed w (members 64 m) []) (32 ∷ []) (opening w) numbers (41 ∷ [])
+  list-whole = four-emits _ _ _ _ _ list-parts
 
 -- a step
 module _ (s : Step) where
-  abbrev list : Word → List ℕ → List ℕ
-  list w l = listed w l []
+  -- its lists; a mask of 32 bits has no member from 32 on
+  module _ (reads : s .reads < 2 ^ 32) (writes : s .writes < 2 ^ 32) where
+    abbrev list : Word → ℕ → List ℕ
+    list w m = listed w (members 64 m) []
 
-  four-parts : lists (formOf s) [] ≡ parts (list W.In (members 64 (s .ins)) ∷ list W.Out (members 64 (s .outs))
-      ∷ list W.Read (members 32 (s .reads)) ∷ list W.Write (members 32 (s .writes)) ∷ [])
-  unfolding formOf parts
-  four-parts =
-      listed-front W.In (members 64 (s .ins)) _ ∙ ap (λ (t : List ℕ). list W.In (members 64 (s .ins)) ++ t)
-      (listed-front W.Out (members 64 (s .outs)) _ ∙ ap (λ (t : List ℕ). list W.Out (members 64 (s .outs)) ++ t)
-      (listed-front W.Read (members 32 (s .reads)) _
-      ∙ ap (λ (t : List ℕ). list W.Read (members 32 (s .reads)) ++ t)
-      (sym (append-nil (list W.Write (members 32 (s .writes)))))))
+    four-parts : lists (formOf s) [] ≡ parts (list W.In (s .ins) ∷ list W.Out (s .outs) ∷ list W.Read (s .reads)
+        ∷ list W.Write (s .writes) ∷ [])
+    unfolding formOf parts
+    four-parts =
+        ap₂ (λ (r w : List ℕ). listed W.In (members 64 (s .ins)) (listed W.Out (members 64 (s .outs))
+        (listed W.Read r (listed W.Write w []))))
+        (sym (members-narrow 32 32 (s .reads) reads)) (sym (members-narrow 32 32 (s .writes) writes))
+        ∙ listed-front W.In (members 64 (s .ins)) _ ∙ ap (λ (t : List ℕ). list W.In (s .ins) ++ t)
+        (listed-front W.Out (members 64 (s .outs)) _ ∙ ap (λ (t : List ℕ). list W.Out (s .outs) ++ t)
+        (listed-front W.Read (members 64 (s .reads)) _ ∙ ap (λ (t : List ℕ). list W.Read (s .reads) ++ t)
+        (sym (append-nil (list W.Write (s .writes))))))
 
-  pub four-first : First (lists (formOf s) []) (list W.In (members 64 (s .ins)))
-  four-first = first-room _ _ _ four-parts
+    pub four-first : First (lists (formOf s) []) (list W.In (s .ins))
+    four-first = first-room _ _ _ four-parts
 
-  pub four-second : Second (lists (formOf s) []) (list W.In (members 64 (s .ins))) (list W.Out (members 64 (s .outs)))
-  four-second = second-room _ _ _ _ four-parts
+    pub four-second : Second (lists (formOf s) []) (list W.In (s .ins)) (list W.Out (s .outs))
+    four-second = second-room _ _ _ _ four-parts
 
-  pub four-third : Third (lists (formOf s) []) (list W.In (members 64 (s .ins))) (list W.Out (members 64 (s .outs)))
-      (list W.Read (members 32 (s .reads)))
-  four-third = third-room _ _ _ _ _ four-parts
+    pub four-third : Third (lists (formOf s) []) (list W.In (s .ins)) (list W.Out (s .outs)) (list W.Read (s .reads))
+    four-third = third-room _ _ _ _ _ four-parts
 
-  pub four-fourth : Fourth (lists (formOf s) []) (list W.In (members 64 (s .ins))) (list W.Out (members 64 (s .outs)))
-      (list W.Read (members 32 (s .reads))) (list W.Write (members 32 (s .writes)))
-  four-fourth = fourth-room _ _ _ _ _ _ four-parts
+    pub four-fourth : Fourth (lists (formOf s) []) (list W.In (s .ins)) (list W.Out (s .outs))
+        (list W.Read (s .reads)) (list W.Write (s .writes))
+    four-fourth = fourth-room _ _ _ _ _ _ four-parts
 
-  pub four-whole : Four (lists (formOf s) []) (list W.In (members 64 (s .ins))) (list W.Out (members 64 (s .outs)))
-      (list W.Read (members 32 (s .reads))) (list W.Write (members 32 (s .writes)))
-  four-whole = four-emits _ _ _ _ _ four-parts
+    pub four-whole : Four (lists (formOf s) []) (list W.In (s .ins)) (list W.Out (s .outs)) (list W.Read (s .reads))
+        (list W.Write (s .writes))
+    four-whole = four-emits _ _ _ _ _ four-parts
 
   step-parts : stepLine (formOf s) [] ≡ parts (opening W.Step ∷ entry (s .name) ∷ lists (formOf s) [] ∷ closing ∷ [])
   unfolding stepLine formOf entry parts

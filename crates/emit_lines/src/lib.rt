@@ -44,7 +44,8 @@ fn closed(out: &mut [u8], at: usize) -> usize
     put(out, p, 10)
 }
 
-fn places(out: &mut [u8], at: usize, w: Word, m: u64) -> usize
+// A list of places or of variables: the members of a mask.
+fn list(out: &mut [u8], at: usize, w: Word, m: u64) -> usize
     requires { ⌜ Room (listed w (members 64 m) []) (now out) at ⌝ }
     ensures { λ r. ⌜ Emits (listed w (members 64 m) []) (now (out .entry)) at (now (out .exit)) r ⌝ }
 {
@@ -54,22 +55,15 @@ fn places(out: &mut [u8], at: usize, w: Word, m: u64) -> usize
     put(out, c, 41)
 }
 
-fn variables(out: &mut [u8], at: usize, w: Word, m: u32) -> usize
-    requires { ⌜ Room (listed w (members 32 m) []) (now out) at ⌝ }
-    ensures { λ r. ⌜ Emits (listed w (members 32 m) []) (now (out .entry)) at (now (out .exit)) r ⌝ }
-{
-    places(out, at, w, m as u64)
-}
-
 // The four lists of a step.
 fn four(out: &mut [u8], at: usize, s: Step) -> usize
     requires { ⌜ Room (lists (formOf s) []) (now out) at ⌝ }
     ensures { λ r. ⌜ Emits (lists (formOf s) []) (now (out .entry)) at (now (out .exit)) r ⌝ }
 {
-    let a = places(out, at, Word::In, s.ins);
-    let b = places(out, a, Word::Out, s.outs);
-    let c = variables(out, b, Word::Read, s.reads);
-    variables(out, c, Word::Write, s.writes)
+    let a = list(out, at, Word::In, s.ins);
+    let b = list(out, a, Word::Out, s.outs);
+    let c = list(out, b, Word::Read, s.reads as u64);
+    list(out, c, Word::Write, s.writes as u64)
 }
 
 fn step_line(out: &mut [u8], at: usize, s: Step) -> usize

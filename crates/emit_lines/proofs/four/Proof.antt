@@ -4,21 +4,21 @@ use Rattle.emit_lines.proofs.InParts.{four-first, four-second, four-thi
 use Rattle.emit_lines.proofs.four.Statement.{statement}
 use Rattle.emit_lines.proofs.four.Tie as tie
 
-places-requires : tie.Need-places-requires
-places-requires c κs = search (needs, four-first)
+list-requires : tie.Need-list-requires
+list-requires c κs = search (needs, four-first)
 
-places-requires-2 : tie.Need-places-requires-2
-places-requires-2 c κs = search (needs, four-second)
+list-requires-2 : tie.Need-list-requires-2
+list-requires-2 c κs = search (needs, four-second)
 
-variables-requires : tie.Need-variables-requires
-variables-requires c κs = search (needs, four-third)
+list-requires-3 : tie.Need-list-requires-3
+list-requires-3 c κs = search (needs, four-third)
 
-variables-requires-2 : tie.Need-variables-requires-2
-variables-requires-2 c κs = search (needs, four-fourth)
+list-requires-4 : tie.Need-list-requires-4
+list-requires-4 c κs = search (needs, four-fourth)
 
 returns : tie.Need-returns
 returns c = search (needs, four-whole)
 
 pub four-spec : {M : Type 1} → statement M
-four-spec = tie.close (tie.spec places-requires places-requires-2 variables-requires variables-requires-2
-    (λ c. search needs) returns)
+four-spec = tie.close (tie.spec list-requires list-requires-2 (λ c. search needs) list-requires-3 (λ c. search needs)
+    list-requires-4 (λ c. search needs) returns)
