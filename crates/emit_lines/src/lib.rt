@@ -87,7 +87,8 @@ fn word_line(out: &mut [u8], at: usize, w: Word, n: u64) -> usize
 
 fn step_lines(out: &mut [u8], at: usize, steps: &[u64]) -> usize
     requires { ⌜ Room (stepLines (map formOf (stepsIn (now steps))) []) (now out) at ⌝ }
-    ensures { λ r. ⌜ Emits (stepLines (map formOf (stepsIn (now (steps .entry)))) []) (now (out .entry)) at (now (out .exit)) r ⌝ }
+    ensures { λ r. ⌜ Emits (stepLines (map formOf (stepsIn (now (steps .entry)))) [])
+        (now (out .entry)) at (now (out .exit)) r ⌝ }
 {
     let n = flat::count(steps);
     let mut p = at;
@@ -103,7 +104,8 @@ fn step_lines(out: &mut [u8], at: usize, steps: &[u64]) -> usize
 // A route's head and its steps.
 pub fn route_lines(out: &mut [u8], at: usize, w: Word, places: u64, steps: &[u64]) -> usize
     requires { ⌜ Room (routeText w places (stepsIn (now steps)) []) (now out) at ⌝ }
-    ensures { λ r. ⌜ Emits (routeText w places (stepsIn (now (steps .entry))) []) (now (out .entry)) at (now (out .exit)) r ⌝ }
+    ensures { λ r. ⌜ Emits (routeText w places (stepsIn (now (steps .entry))) [])
+        (now (out .entry)) at (now (out .exit)) r ⌝ }
 {
     let p = word_line(out, at, w, places);
     step_lines(out, p, steps)

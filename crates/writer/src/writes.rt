@@ -24,7 +24,9 @@ fn text(
     done: &[u32],
 ) -> usize
     requires { ⌜ Room (written (flatJob «old_places» (now old) «new_places» (now new) (now done))) (now out) 0 ⌝ }
-    ensures { λ r. ⌜ Emits (written (flatJob «old_places» (now (old .entry)) «new_places» (now (new .entry)) (now (done .entry)))) (now (out .entry)) 0 (now (out .exit)) r ⌝ }
+    ensures { λ r. ⌜ Emits
+        (written (flatJob «old_places» (now (old .entry)) «new_places» (now (new .entry)) (now (done .entry))))
+        (now (out .entry)) 0 (now (out .exit)) r ⌝ }
 {
     let a = emit_lines::route_lines(out, 0, Word::Old, old_places, old);
     let b = emit_lines::route_lines(out, a, Word::New, new_places, new);
@@ -41,8 +43,12 @@ fn write_copied(
     out: &mut [u8],
 ) -> Wrote
     requires { ⌜ LinesPass (flatJob «old_places» (now old) «new_places» (now new) (now done)) ⌝ }
-    ensures { λ r. ⌜ (r ≡ wrote (flatJob «old_places» (now (old .entry)) «new_places» (now (new .entry)) (now (done .entry))) (length (now (out .entry))))
-        × (now (out .exit) ≡ outAfter (flatJob «old_places» (now (old .entry)) «new_places» (now (new .entry)) (now (done .entry))) (now (out .entry))) ⌝ }
+    ensures { λ r. ⌜ (r ≡ wrote
+        (flatJob «old_places» (now (old .entry)) «new_places» (now (new .entry)) (now (done .entry)))
+        (length (now (out .entry))))
+        × (now (out .exit) ≡ outAfter
+        (flatJob «old_places» (now (old .entry)) «new_places» (now (new .entry)) (now (done .entry)))
+        (now (out .entry))) ⌝ }
 {
     let mut apart = [0u8; LONGEST];
     let end = text(&mut apart, old_places, old, new_places, new, done);
@@ -70,8 +76,12 @@ pub fn write_lists(
     done: &[u32],
     out: &mut [u8],
 ) -> Wrote
-    ensures { λ r. ⌜ (r ≡ wrote (flatJob «old_places» (now (old .entry)) «new_places» (now (new .entry)) (now (done .entry))) (length (now (out .entry))))
-        × (now (out .exit) ≡ outAfter (flatJob «old_places» (now (old .entry)) «new_places» (now (new .entry)) (now (done .entry))) (now (out .entry))) ⌝ }
+    ensures { λ r. ⌜ (r ≡ wrote
+        (flatJob «old_places» (now (old .entry)) «new_places» (now (new .entry)) (now (done .entry)))
+        (length (now (out .entry))))
+        × (now (out .exit) ≡ outAfter
+        (flatJob «old_places» (now (old .entry)) «new_places» (now (new .entry)) (now (done .entry)))
+        (now (out .entry))) ⌝ }
 {
     let o = job::checks::check_lines(old_places, old, new_places, new, done);
     if !o.passed() {
