@@ -8,8 +8,8 @@ use Rattle.job.specs.Job.{Job}
 use Rattle.layout.specs.Text.{jobText, text}
 use Rattle.layout.specs.declared.Word.the-variants as W
 use Rattle.facts.specs.Back.{linesOf}
-use Rattle.emit_lines.specs.Parts.{routeText}
-use Rattle.emit_lines.proofs.TextsInFront.{route-front}
+use Rattle.sheet_lines.specs.Parts.{routeText}
+use Rattle.sheet_lines.proofs.TextsInFront.{route-front}
 use Rattle.writer.specs.Written.{written}
 
 module _ (oldPlaces : ℕ) (old : List Step) (newPlaces : ℕ) (new : List Step) (done : List ℕ) where

@@ -28,9 +28,9 @@ fn text(
         (written (flatJob «old_places» (now (old .entry)) «new_places» (now (new .entry)) (now (done .entry))))
         (now (out .entry)) 0 (now (out .exit)) r ⌝ }
 {
-    let a = emit_lines::route_lines(out, 0, Word::Old, old_places, old);
-    let b = emit_lines::route_lines(out, a, Word::New, new_places, new);
-    emit_lines::job_lines(out, b, done)
+    let a = sheet_lines::route_lines(out, 0, Word::Old, old_places, old);
+    let b = sheet_lines::route_lines(out, a, Word::New, new_places, new);
+    sheet_lines::job_lines(out, b, done)
 }
 
 // Where the slice may be too short, the text is written apart and copied if it fits.

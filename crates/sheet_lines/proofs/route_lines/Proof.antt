@@ -1,8 +1,8 @@
--- `emit_lines::route_lines`: the head, then the steps.
+-- `sheet_lines::route_lines`: the head, then the steps.
 use borrow.Author.Needs.{needs}
-use Rattle.emit_lines.proofs.InParts.{route-first, route-second, route-whole}
-use Rattle.emit_lines.proofs.route_lines.Statement.{statement}
-use Rattle.emit_lines.proofs.route_lines.Tie as tie
+use Rattle.sheet_lines.proofs.InParts.{route-first, route-second, route-whole}
+use Rattle.sheet_lines.proofs.route_lines.Statement.{statement}
+use Rattle.sheet_lines.proofs.route_lines.Tie as tie
 
 word-line-requires : tie.Need-word-line-requires
 word-line-requires c κs = search (needs, route-first)

@@ -1,13 +1,13 @@
--- `emit_lines::done_lines`: the names that are left.
+-- `sheet_lines::done_lines`: the names that are left.
 use mathlib.Core.Path.{_≡_}
 use Prim.Native.Nat.{_-_, _≤_}
 use native.Mathlib.Omega.{arith}
 use lib.ListN.{length, drop}
 use borrow.Author.Needs.{needs}
 use Rattle.emit.proofs.Loops.{Left, left-start}
-use Rattle.emit_lines.proofs.EachLine.{nameLines, names-lined, each-room, each-turn, each-end}
-use Rattle.emit_lines.proofs.done_lines.Statement.{statement}
-use Rattle.emit_lines.proofs.done_lines.Tie as tie
+use Rattle.sheet_lines.proofs.EachLine.{nameLines, names-lined, each-room, each-turn, each-end}
+use Rattle.sheet_lines.proofs.done_lines.Statement.{statement}
+use Rattle.sheet_lines.proofs.done_lines.Tie as tie
 
 abbrev Inv-loop : tie.InvT-loop
 Inv-loop out₀ at done p₀ i₀ out p i = (i ≤ length done)

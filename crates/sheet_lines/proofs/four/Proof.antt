@@ -1,8 +1,8 @@
--- `emit_lines::four`: the lists in turn.
+-- `sheet_lines::four`: the lists in turn.
 use borrow.Author.Needs.{needs}
-use Rattle.emit_lines.proofs.InParts.{four-first, four-second, four-third, four-fourth, four-whole}
-use Rattle.emit_lines.proofs.four.Statement.{statement}
-use Rattle.emit_lines.proofs.four.Tie as tie
+use Rattle.sheet_lines.proofs.InParts.{four-first, four-second, four-third, four-fourth, four-whole}
+use Rattle.sheet_lines.proofs.four.Statement.{statement}
+use Rattle.sheet_lines.proofs.four.Tie as tie
 
 list-requires : tie.Need-list-requires
 list-requires c κs = search (needs, four-first)

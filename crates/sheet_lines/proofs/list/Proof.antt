@@ -1,8 +1,8 @@
--- `emit_lines::list`: its parts in turn.
+-- `sheet_lines::list`: its parts in turn.
 use borrow.Author.Needs.{needs}
-use Rattle.emit_lines.proofs.InParts.{list-first, list-second, list-third, list-fourth, list-whole}
-use Rattle.emit_lines.proofs.list.Statement.{statement}
-use Rattle.emit_lines.proofs.list.Tie as tie
+use Rattle.sheet_lines.proofs.InParts.{list-first, list-second, list-third, list-fourth, list-whole}
+use Rattle.sheet_lines.proofs.list.Statement.{statement}
+use Rattle.sheet_lines.proofs.list.Tie as tie
 
 put-requires : tie.Need-put-requires
 put-requires c κs = search (needs, list-first)

@@ -1,4 +1,4 @@
--- `emit_lines::step_lines`: the steps that are left.
+-- `sheet_lines::step_lines`: the steps that are left.
 use mathlib.Core.Path.{_≡_}
 use Prim.Native.Nat.{_-_, _≤_}
 use native.Mathlib.Omega.{arith}
@@ -7,9 +7,9 @@ use borrow.Author.Needs.{needs}
 use Rattle.emit.proofs.Loops.{Left, left-start}
 use Rattle.route.specs.Steps.{blank}
 use Rattle.route.specs.Flat.{stepsIn}
-use Rattle.emit_lines.proofs.EachLine.{formLines, steps-lined, each-room, each-turn, each-end}
-use Rattle.emit_lines.proofs.step_lines.Statement.{statement}
-use Rattle.emit_lines.proofs.step_lines.Tie as tie
+use Rattle.sheet_lines.proofs.EachLine.{formLines, steps-lined, each-room, each-turn, each-end}
+use Rattle.sheet_lines.proofs.step_lines.Statement.{statement}
+use Rattle.sheet_lines.proofs.step_lines.Tie as tie
 
 abbrev Inv-loop : tie.InvT-loop
 Inv-loop out₀ at steps n p₀ i₀ out p i = (i ≤ n) × ((length out ≡ length out₀)

@@ -1,8 +1,8 @@
--- `emit_lines::step_line`: its parts in turn.
+-- `sheet_lines::step_line`: its parts in turn.
 use borrow.Author.Needs.{needs}
-use Rattle.emit_lines.proofs.InParts.{step-first, step-second, step-third, step-fourth, step-whole}
-use Rattle.emit_lines.proofs.step_line.Statement.{statement}
-use Rattle.emit_lines.proofs.step_line.Tie as tie
+use Rattle.sheet_lines.proofs.InParts.{step-first, step-second, step-third, step-fourth, step-whole}
+use Rattle.sheet_lines.proofs.step_line.Statement.{statement}
+use Rattle.sheet_lines.proofs.step_line.Tie as tie
 
 opened-requires : tie.Need-opened-requires
 opened-requires c κs = search (needs, step-first)

@@ -1,8 +1,8 @@
--- `emit_lines::word_line`: its parts in turn.
+-- `sheet_lines::word_line`: its parts in turn.
 use borrow.Author.Needs.{needs}
-use Rattle.emit_lines.proofs.InParts.{word-first, word-second, word-third, word-whole}
-use Rattle.emit_lines.proofs.word_line.Statement.{statement}
-use Rattle.emit_lines.proofs.word_line.Tie as tie
+use Rattle.sheet_lines.proofs.InParts.{word-first, word-second, word-third, word-whole}
+use Rattle.sheet_lines.proofs.word_line.Statement.{statement}
+use Rattle.sheet_lines.proofs.word_line.Tie as tie
 
 opened-requires : tie.Need-opened-requires
 opened-requires c κs = search (needs, word-first)

@@ -1,8 +1,8 @@
--- `emit_lines::job_lines`: its parts in turn.
+-- `sheet_lines::job_lines`: its parts in turn.
 use borrow.Author.Needs.{needs}
-use Rattle.emit_lines.proofs.InParts.{job-first, job-second, job-third, job-whole}
-use Rattle.emit_lines.proofs.job_lines.Statement.{statement}
-use Rattle.emit_lines.proofs.job_lines.Tie as tie
+use Rattle.sheet_lines.proofs.InParts.{job-first, job-second, job-third, job-whole}
+use Rattle.sheet_lines.proofs.job_lines.Statement.{statement}
+use Rattle.sheet_lines.proofs.job_lines.Tie as tie
 
 opened-requires : tie.Need-opened-requires
 opened-requires c κs = search (needs, job-first)

@@ -1,8 +1,8 @@
--- `emit_lines::closed`: the two bytes in turn.
+-- `sheet_lines::closed`: the two bytes in turn.
 use borrow.Author.Needs.{needs}
-use Rattle.emit_lines.proofs.InParts.{closing-whole}
-use Rattle.emit_lines.proofs.closed.Statement.{statement}
-use Rattle.emit_lines.proofs.closed.Tie as tie
+use Rattle.sheet_lines.proofs.InParts.{closing-whole}
+use Rattle.sheet_lines.proofs.closed.Statement.{statement}
+use Rattle.sheet_lines.proofs.closed.Tie as tie
 
 returns : tie.Need-returns
 returns c = search (needs, closing-whole)

@@ -1,4 +1,4 @@
--- `emit_lines::word`: the letters are a part of the table.
+-- `sheet_lines::word`: the letters are a part of the table.
 use mathlib.Core.Path.{_≡_, sym, _∙_}
 use Prim.Native.Nat.{ℕ, _+_, _-_, _*_, _≤_, _<_}
 use native.Mathlib.Omega.{arith}
@@ -8,8 +8,8 @@ use Rattle.emit.proofs.Chains.{room-as, emits-as}
 use Rattle.layout.specs.Words.{spelling, numberOf, wordTable}
 use Rattle.layout.specs.declared.Word.{Word}
 use Rattle.layout.proofs.Letters.{word-short, row-below, letters-at}
-use Rattle.emit_lines.proofs.word.Statement.{statement}
-use Rattle.emit_lines.proofs.word.Tie as tie
+use Rattle.sheet_lines.proofs.word.Statement.{statement}
+use Rattle.sheet_lines.proofs.word.Tie as tie
 
 part-is : (w : Word) (r n : ℕ) → r ≡ numberOf w → n ≡ length (spelling w)
     → take (r * 6 + 1 + n - (r * 6 + 1)) (drop (r * 6 + 1) wordTable) ≡ spelling w

@@ -15,8 +15,8 @@ use Rattle.layout.specs.Text.{listed, stepLine, wordLine, jobLine, stepLines, d
 use Rattle.layout.specs.declared.Word.{Word}
 use Rattle.layout.specs.declared.Word.the-variants as W
 use Rattle.facts.specs.Back.{formOf}
-use Rattle.emit_lines.specs.Parts.{opening, closing, lists, routeText}
-use Rattle.emit_lines.proofs.TextsInFront.{number-is, entries-are, listed-front, lists-front, word-front}
+use Rattle.sheet_lines.specs.Parts.{opening, closing, lists, routeText}
+use Rattle.sheet_lines.proofs.TextsInFront.{number-is, entries-are, listed-front, lists-front, word-front}
 
 -- `(` and a word
 module _ (w : Word) where

@@ -1,8 +1,8 @@
--- `emit_lines::opened`: the bracket, then the word.
+-- `sheet_lines::opened`: the bracket, then the word.
 use borrow.Author.Needs.{needs}
-use Rattle.emit_lines.proofs.InParts.{opening-first, opening-second, opening-whole}
-use Rattle.emit_lines.proofs.opened.Statement.{statement}
-use Rattle.emit_lines.proofs.opened.Tie as tie
+use Rattle.sheet_lines.proofs.InParts.{opening-first, opening-second, opening-whole}
+use Rattle.sheet_lines.proofs.opened.Statement.{statement}
+use Rattle.sheet_lines.proofs.opened.Tie as tie
 
 put-requires : tie.Need-put-requires
 put-requires c κs = search (needs, opening-first)

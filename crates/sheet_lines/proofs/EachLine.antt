@@ -13,7 +13,7 @@ use Rattle.route.specs.declared.Step.{Step}
 use Rattle.layout.specs.Text.{stepLine, stepLines, wordLine, doneLines}
 use Rattle.layout.specs.declared.Word.the-variants.{Done}
 use Rattle.facts.specs.Back.{formOf}
-use Rattle.emit_lines.proofs.TextsInFront.{step-front, word-front}
+use Rattle.sheet_lines.proofs.TextsInFront.{step-front, word-front}
 
 -- the lines of a list are those of its entries in turn
 pub record Lined {A : Type 0} (lines : List A → List ℕ) (line : A → List ℕ) : Type 0 where
