@@ -1,10 +1,14 @@
--- What the walks over lent lists use: what a loop that copies has copied after each turn (Laid, Copied), the machine
--- values of records (Record, OneRecord, InArray), and laws that any walk can use (Called, Locals, CountedLoop).
+-- What the walks over lent lists use: what a loop has copied or laid after each turn (Laid, Copied, LaidRecords), the
+-- machine values of records (Record, OneRecord, InArray), numbers lent anew to a callee (LentRow, OnePut), and laws that
+-- any walk can use (Called, Locals, CountedLoop).
 pub mod Laid
 pub mod Copied
+pub mod LaidRecords
 pub mod Record
 pub mod Called
 pub mod Locals
 pub mod InArray
+pub mod LentRow
 pub mod CountedLoop
 pub mod OneRecord
+pub mod OnePut

@@ -1,10 +1,12 @@
 // Lent lists of step records.
 use route::Route;
 use route::Step;
+use route::flat::put;
 ghost use mathlib.Core.Path.{_≡_};
 ghost use Prim.Native.Nat.{_≤_};
 ghost use lib.ListN.{length, getD};
 ghost use Rattle.route.specs.Steps.{blank};
+ghost use Rattle.route.specs.Flat.{Laid};
 ghost use Rattle.records.specs.Loaded.{loaded, laid};
 
 // A lent list as a route by value.
@@ -27,6 +29,23 @@ pub fn load(places: u64, steps: &[Step]) -> Route
         len,
         steps: copied,
     }
+}
+
+// Lays a lent list's records as numbers, at most 65 of them, since row 4 refuses the 65th; how many numbers there are.
+pub fn lay(steps: &[Step], into: &mut [u64]) -> usize
+    requires { ⌜ 260 ≤ length (now into) ⌝ }
+    ensures { λ n. ⌜ Laid (now (steps .entry)) n (now (into .exit)) ⌝ }
+{
+    let mut n = steps.len();
+    if 65 < n {
+        n = 65;
+    }
+    let mut i = 0;
+    while i < n {
+        put(into, i, record_at(steps, i));
+        i += 1;
+    }
+    4 * n
 }
 
 // The first n records into a lent list.
