@@ -2,7 +2,10 @@
 -- SameAnswers); the walk that all operations over lent lists share (Slices, Loads, OverLists); and reading into lent
 -- lists (Counting, Taken, Lays).
 pub mod Slices
+pub mod HandedOn
 pub mod Loads
+pub mod Laying
+pub mod OverLaid
 pub mod Counting
 pub mod Lays
 pub mod Taken

@@ -1,5 +1,6 @@
 // The operations over lent lists of step records: each loads both lists and calls the operation over routes by value.
 use answering::Judged;
+use records::lay;
 use records::load;
 use route::Step;
 use running::Ran;
@@ -31,17 +32,21 @@ pub struct Counts {
 pub fn run(old_places: u64, old: &[Step], new_places: u64, new: &[Step], done: &[u32]) -> Ran
     ensures { λ r. ⌜ r ≡ ran (lentJob «old_places» (now (old .entry)) «new_places» (now (new .entry)) (now (done .entry))) ⌝ }
 {
-    let a = load(old_places, old);
-    let b = load(new_places, new);
-    running::routes::run(a, b, done)
+    let mut a = [0u64; 260];
+    let mut b = [0u64; 260];
+    let n = lay(old, &mut a);
+    let m = lay(new, &mut b);
+    running::lists::run_lists(old_places, &a[..n], new_places, &b[..m], done)
 }
 
 pub fn slice(old_places: u64, old: &[Step], new_places: u64, new: &[Step], done: &[u32]) -> Sliced
     ensures { λ r. ⌜ r ≡ sliced (lentJob «old_places» (now (old .entry)) «new_places» (now (new .entry)) (now (done .entry))) ⌝ }
 {
-    let a = load(old_places, old);
-    let b = load(new_places, new);
-    slice::slicing::slice(a, b, done)
+    let mut a = [0u64; 260];
+    let mut b = [0u64; 260];
+    let n = lay(old, &mut a);
+    let m = lay(new, &mut b);
+    slice::slicing::slice_lists(old_places, &a[..n], new_places, &b[..m], done)
 }
 
 pub fn try_order(
@@ -54,9 +59,11 @@ pub fn try_order(
 ) -> Tried
     ensures { λ r. ⌜ r ≡ tried (lentJob «old_places» (now (old .entry)) «new_places» (now (new .entry)) (now (done .entry))) (now (order .entry)) ⌝ }
 {
-    let a = load(old_places, old);
-    let b = load(new_places, new);
-    trying::trying::try_order(a, b, done, order)
+    let mut a = [0u64; 260];
+    let mut b = [0u64; 260];
+    let n = lay(old, &mut a);
+    let m = lay(new, &mut b);
+    trying::trying::try_lists(old_places, &a[..n], new_places, &b[..m], done, order)
 }
 
 pub fn judge(
@@ -70,9 +77,11 @@ pub fn judge(
     ensures { λ r. ⌜ (r ≡ judged (lentJob «old_places» (now (old .entry)) «new_places» (now (new .entry)) (now (done .entry))) (length (now (work .entry))))
         × (now (work .exit) ≡ workAfter (lentJob «old_places» (now (old .entry)) «new_places» (now (new .entry)) (now (done .entry))) (now (work .entry))) ⌝ }
 {
-    let a = load(old_places, old);
-    let b = load(new_places, new);
-    judging::judging::judge(a, b, done, work)
+    let mut a = [0u64; 260];
+    let mut b = [0u64; 260];
+    let n = lay(old, &mut a);
+    let m = lay(new, &mut b);
+    judging::judging::judge_lists(old_places, &a[..n], new_places, &b[..m], done, work)
 }
 
 pub fn write(

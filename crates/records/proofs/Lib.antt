@@ -9,6 +9,8 @@ pub mod Called
 pub mod Locals
 pub mod InArray
 pub mod LentRow
+pub mod FirstOf
+pub mod LentBoth
 pub mod CountedLoop
 pub mod OneRecord
 pub mod OnePut

@@ -37,7 +37,7 @@ use Rattle.route.proofs.flat.put as put′
 use Rattle.route.proofs.flat.put.Symbol.{name as #put}
 use Rattle.records.proofs.Record.{S, makes}
 use Rattle.records.proofs.Called.{told}
-use Rattle.records.proofs.LentRow.{lentRow, ownRow, lends-row, row-back}
+use Rattle.records.proofs.LentRow.{lentRow, mutRow, lends-mut, mut-back}
 
 module _ {M : Type 1} (𝓤 : URA M) (H : Heap 𝓤) (A : Atoms 𝓤) (mem : Memory → SProp 𝓤) (run : Routine → Fun 𝓤) where
   abbrev pub Put : Contract 𝓤
@@ -59,10 +59,10 @@ module _ {M : Type 1} (𝓤 : URA M) (H : Heap 𝓤) (A : Atoms 𝓤) (W : Given
     tt,
   )
 
-  asks : (α : ℕ) (γ : GName) → ent 𝓤 (⋆ 𝓤 H A (‵ (flft (α ∷ []) fullShare) ∷ ‵ (ownRow u64 (α ∷ []) w b o γ) ∷ []))
+  asks : (α : ℕ) (γ : GName) → ent 𝓤 (⋆ 𝓤 H A (‵ (flft (α ∷ []) fullShare) ∷ ‵ (mutRow u64 (α ∷ []) w (length w) b o γ) ∷ []))
       (Put 𝓤 H A mem run .pre (to α γ))
   asks α γ =
-      qed W (‵ (flft (α ∷ []) fullShare) ∷ ‵ (ownRow u64 (α ∷ []) w b o γ) ∷ []) ∵ says ! inside $ nothing ! $
+      qed W (‵ (flft (α ∷ []) fullShare) ∷ ‵ (mutRow u64 (α ∷ []) w (length w) b o γ) ∷ []) ∵ says ! inside $ nothing ! $
       owned ! S (Is S) (makes 𝓤 H A W) s (v ∷ []) is $ fjoin ! $
       owned ! usize (Is usize) (uint-makes 𝓤 H A W w64) i _ (refl, fits) $ fjoin ! $ move ! (2 ∷ 0 ∷ []) $ fjoin ! $
       nothing ! $ move ! (2 ∷ 0 ∷ []) $ join ! $ frame ! $ done !
@@ -75,7 +75,7 @@ module _ {M : Type 1} (𝓤 : URA M) (H : Heap 𝓤) (A : Atoms 𝓤) (W : Given
       → length z ≡ length w → Seq K W (‵ (row u64 fullShare z b o) ∷ Γ) (lands C Λ E d u rest end))
       → Seq K W (‵ (row u64 fullShare w b o) ∷ Γ) (runs C Λ E (seq (call #put xs d) rest) end)
   puts t os k =
-      lft-new t tt (λ α. move t (1 ∷ []) $ lends-row u64 𝓤 H A W t tt w b o g (α ∷ []) (λ γ.
+      lft-new t tt (λ α. move t (1 ∷ []) $ lends-mut u64 𝓤 H A W t tt w (length w) b o refl g (α ∷ []) (λ γ.
       -- [the row, lent; what comes back; the token; …]
       move t (2 ∷ 0 ∷ []) $ use2 W (raw (Put 𝓤 H A mem run .pre (to α γ))) (asks α γ) $
       calls-at t fm (Put 𝓤 H A mem run) known (to α γ) (os α γ) (λ u.
@@ -84,5 +84,5 @@ module _ {M : Type 1} (𝓤 : URA M) (H : Heap 𝓤) (A : Atoms 𝓤) (W : Given
       -- [the result; the token; what is said of the row; what comes back; …]
       drop t $ move t (1 ∷ []) $ fsplit t $ fsplit t $ move t (3 ∷ []) $
       use1 W (‵ (flft (α ∷ []) fullShare) ⊛ ‵ ftrue) (id⊢ 𝓤 _) $ split t $ move t (0 ∷ 5 ∷ 2 ∷ 1 ∷ 3 ∷ 4 ∷ []) $
-      row-back u64 𝓤 H A W t tt (ws .0) (length w) b o (λ same. move t (1 ∷ 2 ∷ 3 ∷ []) $ drop t $ drop t $ drop t $
+      mut-back u64 𝓤 H A W t tt (ws .0) (length w) b o (λ same. move t (1 ∷ 2 ∷ 3 ∷ []) $ drop t $ drop t $ drop t $
       k u (nothing-lawful 𝓤 H A W .typed r (u ∷ []) is .0) (ws .0) e same)))))

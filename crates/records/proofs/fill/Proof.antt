@@ -50,7 +50,7 @@ use Rattle.route.proofs.Step as St
 use Rattle.route.proofs.Step.Laws as St′
 use Rattle.records.specs.Loaded.{laid}
 use Rattle.records.proofs.Copied.{copied, length-copied, copied-is}
-use Rattle.records.proofs.Record.{S, word, records, vals, tells, holds, fails, typed, typed-all, makes}
+use Rattle.records.proofs.Record.{records-of, S, word, records, vals, tells, holds, fails, typed, typed-all, makes}
 use Rattle.records.proofs.Called.{Known, tells as ends-with, meets}
 use Rattle.records.proofs.Locals.{held, sets, all-rooms}
 use Rattle.records.proofs.InArray.{array-out, array-in}
@@ -210,7 +210,7 @@ module _ {M : Type 1} (𝓤 : URA M) (H : Heap 𝓤) (A : Atoms 𝓤) (W : Given
         (ltb→lt n n a))) refl $
         leaves-loop ! (held ! 3 refl) $ exec ! C Λ En body.t-4 (atRet En Post) $ move ! (1 ∷ []) $
         -- the array is put together
-        array-in ! 64 xs l₄ array-long (λ v is.
+        array-in ! (records-of 𝓤 H A W 64 (omega arith)) xs l₄ array-long (λ v is.
         sets ! (of-opd ! (unit-lit !)) 13 refl (tt, tt) $
         move ! (1 ∷ 14 ∷ 15 ∷ 16 ∷ []) $ closes-slice ! tt S ys (copied ys xs n) (length-copied ys xs n) b o $
         returns ! (look ! 15 refl) $ forget ! 3 refl $ forget ! 4 refl $ forget ! 5 refl $ forget ! 12 refl $
@@ -248,7 +248,7 @@ module _ {M : Type 1} (𝓤 : URA M) (H : Heap 𝓤) (A : Atoms 𝓤) (W : Given
       move ! (27 ∷ []) $ fsplit ! $ move ! (1 ∷ []) $ drop ! $ fsplit ! $ drop ! $ fsplit ! $ move ! (28 ∷ []) $
       split ! $ move ! (2 ∷ 3 ∷ 0 ∷ []) $
       opens-slice ! tt S ys b o $ move ! (21 ∷ []) $
-      array-out ! 64 xs l₄ xv given $
+      array-out ! (records-of 𝓤 H A W 64 (omega arith)) xs l₄ xv given $
       keep ! (1 ∷ 0 ∷ 20 ∷ 18 ∷ 16 ∷ 14 ∷ 12 ∷ 10 ∷ 8 ∷ 6 ∷ 27 ∷ 25 ∷ 23 ∷ 29 ∷ 2 ∷ 3 ∷ 4 ∷ 30 ∷ 28 ∷ 26 ∷ 24 ∷ 22 ∷ 21
       ∷ 19 ∷ 17 ∷ 15 ∷ 13 ∷ 11 ∷ 9 ∷ 7 ∷ []) $ by !
       (loops 𝓣 g gn (few .0) (few .1) given l₀ l₁ l₂ l₃ l₄ l₅ l₆ l₇ l₈ l₉ l₁₀ l₁₁ l₁₂))))))))))))))

@@ -55,7 +55,7 @@ use Rattle.route.proofs.Route as Ro
 use Rattle.route.proofs.Route.Laws as Ro′
 use Rattle.records.specs.Loaded.{loaded}
 use Rattle.records.proofs.Copied.{copied, length-copied, blanks, loads-short, loads-long}
-use Rattle.records.proofs.Record.{S, word, records, vals, tells, bv, is-blank, holds, fails, typed, typed-all}
+use Rattle.records.proofs.Record.{records-of, S, word, records, vals, tells, bv, is-blank, holds, fails, typed, typed-all}
 use Rattle.records.proofs.Record.{makes}
 use Rattle.records.proofs.Called.{Known, tells as ends-with, meets}
 use Rattle.records.proofs.Locals.{held, sets, all-rooms}
@@ -221,7 +221,7 @@ module _ {M : Type 1} (𝓤 : URA M) (H : Heap 𝓤) (A : Atoms 𝓤) (W : Given
         (ltb→lt n n a))) refl $
         leaves-loop ! (held ! 4 refl) $ exec ! C Λ En body.t-9 (atRet En Post) $
         -- the array is put together
-        array-in ! 64 all l₃ all-long (λ v is.
+        array-in ! (records-of 𝓤 H A W 64 (omega arith)) all l₃ all-long (λ v is.
         sets ! (of-opd ! (held ! 0 refl)) 16 refl (typed-all 𝓤 H A W all v is) $
         sets ! (agg ! (and-then ! (held ! 12 refl) (and-then ! (held ! 11 refl) (and-then ! (held ! 16 refl)
         (no-more !))))) 13 refl (LL.lawful Ro.the-type Ro′.the-laws 𝓤 H A W .typed made _ (is-made v is) .0) $
@@ -292,7 +292,7 @@ module _ {M : Type 1} (𝓤 : URA M) (H : Heap 𝓤) (A : Atoms 𝓤) (W : Given
         qed W (Before t) ∵ exec ! C Λ En body.t-7 (atRet En Post) $
         sets ! (of-opd ! (lit ! tt)) 16 refl (tt, record { fits = lit< tt }) $ forget ! 14 refl $ forget ! 12 refl $
         move ! (31 ∷ []) $ fsplit ! $ drop ! $ fsplit ! $ move ! (32 ∷ []) $ split ! $ move ! (26 ∷ []) $
-        array-out ! 64 blanks l₃ av is-blanks $
+        array-out ! (records-of 𝓤 H A W 64 (omega arith)) blanks l₃ av is-blanks $
         keep ! (0 ∷ 1 ∷ 3 ∷ 21 ∷ 15 ∷ 13 ∷ 11 ∷ 9 ∷ 7 ∷ 28 ∷ 23 ∷ 25 ∷ 30 ∷ 32 ∷ 19 ∷ 17 ∷ 5 ∷ 33 ∷ 31 ∷ 29 ∷ 27 ∷ 26
         ∷ 24 ∷ 22 ∷ 20 ∷ 18 ∷ 16 ∷ 14 ∷ 12 ∷ 10 ∷ 8 ∷ 6 ∷ []) $
         by ! loops
