@@ -16,7 +16,7 @@ ghost use Rattle.slice.specs.Slicing.{sliced};
 ghost use Rattle.trying.specs.Try.{tried};
 ghost use Rattle.judging.specs.Judge.{judged, workAfter};
 ghost use Rattle.writer.specs.Writes.{wrote, outAfter};
-ghost use Rattle.records.specs.Loaded.{laid};
+ghost use Rattle.records.specs.Laid.{laid};
 ghost use Rattle.facts.specs.Facts.{readOf};
 ghost use Rattle.lent.specs.Lent.{lentJob};
 ghost use Rattle.lent.specs.Reading.{counted};

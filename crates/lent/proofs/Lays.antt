@@ -33,7 +33,7 @@ use denote.Triple.Call.{calls-at}
 use denote.Triple.Spec.{tripleOf}
 use denote.Triple.Clauses.{Clauses, Ended, closing}
 use denote.Triple.Walked.{says}
-use Rattle.records.specs.Loaded.{laid}
+use Rattle.records.specs.Laid.{laid}
 use Rattle.records.proofs.Called.{told}
 
 module _ (X : RattleType) where

@@ -1,7 +1,6 @@
 // The operations over lent lists of step records: each loads both lists and calls the operation over routes by value.
 use answering::Judged;
 use records::lay;
-use records::load;
 use route::Step;
 use running::Ran;
 use slice::Sliced;
@@ -95,7 +94,9 @@ pub fn write(
     ensures { λ r. ⌜ (r ≡ wrote (lentJob «old_places» (now (old .entry)) «new_places» (now (new .entry)) (now (done .entry))) (length (now (out .entry))))
         × (now (out .exit) ≡ outAfter (lentJob «old_places» (now (old .entry)) «new_places» (now (new .entry)) (now (done .entry))) (now (out .entry))) ⌝ }
 {
-    let from = load(old_places, old);
-    let to = load(new_places, new);
-    writer::writes::write(from, to, done, out)
+    let mut a = [0u64; 260];
+    let mut b = [0u64; 260];
+    let n = lay(old, &mut a);
+    let m = lay(new, &mut b);
+    writer::writes::write_lists(old_places, &a[..n], new_places, &b[..m], done, out)
 }

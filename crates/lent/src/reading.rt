@@ -6,7 +6,7 @@ use route::Step;
 ghost use mathlib.Core.Path.{_≡_};
 ghost use Prim.Native.Nat.{_≤_};
 ghost use lib.ListN.{length};
-ghost use Rattle.records.specs.Loaded.{laid};
+ghost use Rattle.records.specs.Laid.{laid};
 ghost use Rattle.facts.specs.Facts.{readOf};
 ghost use Rattle.lent.specs.Reading.{counted, noCounts};
 

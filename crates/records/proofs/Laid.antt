@@ -6,7 +6,7 @@ use native.Mathlib.Omega.{arith}
 use native.Mathlib.Numerals.{add-one}
 use lib.ListN.{length, take, drop, getD, set, length-append, length-drop}
 use lib.Seq.{take-suc, length-take-le, set-at, append-snoc, drop-cons}
-use Rattle.records.specs.Loaded.{laid}
+use Rattle.records.specs.Laid.{laid}
 
 pub laid-none : {X : Type 0} (l a : List X) → laid 0 l a ≡ a
 unfolding laid

@@ -1,2 +1,2 @@
--- Lent lists of step records, and routes by value.
-pub mod Loaded
+-- Records in lent lists.
+pub mod Laid

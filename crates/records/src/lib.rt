@@ -1,5 +1,4 @@
 // Lent lists of step records.
-use route::Route;
 use route::Step;
 use route::flat::put;
 ghost use mathlib.Core.Path.{_≡_};
@@ -7,29 +6,7 @@ ghost use Prim.Native.Nat.{_≤_};
 ghost use lib.ListN.{length, getD};
 ghost use Rattle.route.specs.Steps.{blank};
 ghost use Rattle.route.specs.Flat.{Laid};
-ghost use Rattle.records.specs.Loaded.{loaded, laid};
-
-// A lent list as a route by value.
-pub fn load(places: u64, steps: &[Step]) -> Route
-    ensures { λ r. ⌜ r ≡ loaded places (now (steps .entry)) ⌝ }
-{
-    let mut copied = [Step::BLANK; 64];
-    let len = steps.len();
-    let mut n = len;
-    if Route::STEPS < n {
-        n = Route::STEPS;
-    }
-    let mut i = 0;
-    while i < n {
-        copied[i] = record_at(steps, i);
-        i += 1;
-    }
-    Route {
-        places,
-        len,
-        steps: copied,
-    }
-}
+ghost use Rattle.records.specs.Laid.{laid};
 
 // Lays a lent list's records as numbers, at most 65 of them, since row 4 refuses the 65th; how many numbers there are.
 pub fn lay(steps: &[Step], into: &mut [u64]) -> usize

@@ -11,7 +11,7 @@ use borrow.Author.Tests.{leb-true, eqb-true, eq-eqb}
 use Rattle.refusal.proofs.Rows.{head-passed, row-passed, cond-zero-elim}
 use Rattle.route.specs.declared.Step.{Step}
 use Rattle.job.specs.Job.{Job}
-use Rattle.records.specs.Loaded.{laid}
+use Rattle.records.specs.Laid.{laid}
 use Rattle.version.specs.Limits.{scope}
 use Rattle.facts.specs.Facts.{readOf, jobRead}
 use Rattle.facts.specs.SheetRows.{filled, sheetOf}

@@ -5,7 +5,7 @@ use Prim.Native.Nat.{ℕ}
 use lib.ListN.{length, take, drop}
 use Rattle.route.specs.declared.Step.{Step}
 use Rattle.job.specs.Job.{Job}
-use Rattle.records.specs.Loaded.{laid}
+use Rattle.records.specs.Laid.{laid}
 use Rattle.facts.specs.Facts.{readOf}
 use Rattle.writer.specs.Writes.{wrote, outAfter}
 use Rattle.lent.specs.Lent.{lentJob}

@@ -43,7 +43,7 @@ use Rattle.route.specs.declared.Step.{Step}
 use Rattle.route.proofs.Step as St
 use Rattle.route.proofs.Step.Laws as St′
 use Rattle.facts.specs.Facts.{readOf}
-use Rattle.records.specs.Loaded.{laid}
+use Rattle.records.specs.Laid.{laid}
 use Rattle.records.proofs.Record.{S, word, vals, tells as tells-S, makes}
 use Rattle.records.proofs.Called.{Known, told, tells, meets}
 use Rattle.records.proofs.Locals.{value, all-locals, all-freed, held, sets}

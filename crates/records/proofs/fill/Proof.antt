@@ -48,7 +48,7 @@ use Rattle.route.specs.Steps.{blank}
 use Rattle.route.specs.declared.Step.{Step}
 use Rattle.route.proofs.Step as St
 use Rattle.route.proofs.Step.Laws as St′
-use Rattle.records.specs.Loaded.{laid}
+use Rattle.records.specs.Laid.{laid}
 use Rattle.records.proofs.Copied.{copied, length-copied, copied-is}
 use Rattle.records.proofs.Record.{records-of, S, word, records, vals, tells, holds, fails, typed, typed-all, makes}
 use Rattle.records.proofs.Called.{Known, tells as ends-with, meets}

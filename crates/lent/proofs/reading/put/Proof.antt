@@ -5,7 +5,7 @@ use Prim.Native.Nat.{ℕ, _-_, _≤_}
 use native.Mathlib.Omega.{arith}
 use lib.ListN.{length, getD, set}
 use borrow.Author.Needs.{needs}
-use Rattle.records.specs.Loaded.{laid}
+use Rattle.records.specs.Laid.{laid}
 use Rattle.records.proofs.Laid.{laid-none, laid-more, length-laid}
 use Rattle.lent.proofs.reading.put.Statement.{statement}
 use Rattle.lent.proofs.reading.put.Tie as tie

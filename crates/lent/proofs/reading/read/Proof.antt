@@ -52,7 +52,7 @@ use Rattle.facts.proofs.Sheet.Laws as Sh′
 use Rattle.reader.proofs.reads.read as read-sheet
 use Rattle.reader.proofs.reads.read.Symbol as read-def
 use Rattle.reader.proofs.reads.read.Met as read-thm
-use Rattle.records.specs.Loaded.{laid}
+use Rattle.records.specs.Laid.{laid}
 use Rattle.records.proofs.Called.{Known, told, tells, meets}
 use Rattle.records.proofs.Locals.{value, all-locals, all-freed, held, sets}
 use Rattle.records.proofs.fill.Symbol as fill-def
@@ -65,7 +65,7 @@ use Rattle.lent.proofs.Counts.Laws as Ct′
 use Rattle.lent.proofs.Counting.{Fits, counted-fits}
 use Rattle.lent.proofs.Lays.{Lay, Laid, listVal, ownList, lays}
 use Rattle.lent.proofs.Taken.{old-steps, new-steps, done-names}
-use Rattle.lent.proofs.Loads.{word}
+use Rattle.lent.proofs.Laying.{word}
 use Rattle.lent.proofs.reading.count as count
 use Rattle.lent.proofs.reading.count.Symbol as count-def
 use Rattle.lent.proofs.reading.count.Met as count-thm
