@@ -60,9 +60,10 @@ use Rattle.arrays.proofs.Filled.Laws as F′
 use Rattle.arrays.proofs.together as together′
 use Rattle.arrays.proofs.together.Symbol as together-def
 use Rattle.arrays.proofs.together.Met as together-thm
-use Rattle.arrays.proofs.First.{hundred, mutTy, fits, first-long, typed-all, lentFirst, mutFirst, lends-mut}
-use Rattle.arrays.proofs.First.{takes-mut-back}
-use Rattle.arrays.proofs.Walks.{val, firstVal}
+use Rattle.records.proofs.LentRow.{lentRow, mutRow}
+use Rattle.records.proofs.FirstOf.{first-long, lends-first-mut, takes-mut-back}
+use Rattle.arrays.proofs.First.{hundred, firstTy, fits, hundreds, typed-all}
+use Rattle.arrays.proofs.Walks.{val}
 use Rattle.arrays.proofs.read.Key.{name as #read}
 use Rattle.arrays.proofs.read as first
 use Rattle.arrays.proofs.read.Statement as stated
@@ -85,7 +86,7 @@ function = record {
   params = 6;
   locals = value F′.mir ∷ value sheetTy ∷ value hundred ∷ value word ∷ value hundred ∷ value word ∷
       value (namesTy (named 1)) ∷ local hundred memorySlot ∷ local hundred memorySlot ∷ value Ct′.mir ∷ value ref ∷
-      value mutTy ∷ value ref ∷ value mutTy ∷ value (tyRef erased mut (tyInt w32)) ∷ value (namesTy erased) ∷
+      value (firstTy mut) ∷ value ref ∷ value (firstTy mut) ∷ value (tyRef erased mut (tyInt w32)) ∷ value (namesTy erased) ∷
       value hundred ∷ value hundred ∷ [];
   body = body.t-1;
 }
@@ -176,10 +177,10 @@ module _ {M : Type 1} (𝓤 : URA M) (H : Heap 𝓤) (A : Atoms 𝓤) (W : Given
 
   module _ (α β l₇ l₈ : ℕ) (γ δ : GName) where
     abbrev x₀ : RefT (List Step)
-    x₀ = lentFirst 𝓤 H A W a n l₇ γ
+    x₀ = lentRow S (take n a) l₇ 0 γ
 
     abbrev x₁ : RefT (List Step)
-    x₁ = lentFirst 𝓤 H A W b m l₈ δ
+    x₁ = lentRow S (take m b) l₈ 0 δ
 
     abbrev to : Read 𝓤 H A mem run .Ghost
     to = (
@@ -188,7 +189,7 @@ module _ {M : Type 1} (𝓤 : URA M) (H : Heap 𝓤) (A : Atoms 𝓤) (W : Given
         (q, (fullShare, (fullShare, (q′, tt)))),
         tt,
         (x, (x₀, (x₁, (d, tt)))),
-        (sv ∷ [], (firstVal a n l₇ ∷ [], (firstVal b m l₈ ∷ [], (dv ∷ [], tt)))),
+        (sv ∷ [], (sliceVal (l₇, 0) n ∷ [], (sliceVal (l₈, 0) m ∷ [], (dv ∷ [], tt)))),
       ),
       tt,
     )
@@ -198,8 +199,8 @@ module _ {M : Type 1} (𝓤 : URA M) (H : Heap 𝓤) (A : Atoms 𝓤) (W : Given
 
     abbrev Passed : List (Item 𝓤)
     Passed = ‵ (flft κ q) ∷ ‵ (flft (α ∷ []) fullShare) ∷ ‵ (flft (β ∷ []) fullShare) ∷ ‵ (flft κ′ q′) ∷ ‵
-        (ShrSlice (named 0) κ u8 .own x (sv ∷ [])) ∷ ‵ (mutFirst 𝓤 H A W (α ∷ []) a n l₇ γ) ∷ ‵
-        (mutFirst 𝓤 H A W (β ∷ []) b m l₈ δ) ∷ ‵ (MutSlice (named 0) κ′ u32 .own d (dv ∷ [])) ∷ []
+        (ShrSlice (named 0) κ u8 .own x (sv ∷ [])) ∷ ‵ (mutRow S (α ∷ []) (take n a) n l₇ 0 γ) ∷ ‵
+        (mutRow S (β ∷ []) (take m b) m l₈ 0 δ) ∷ ‵ (MutSlice (named 0) κ′ u32 .own d (dv ∷ [])) ∷ []
 
     asks : ent 𝓤 (⋆ 𝓤 H A Passed) (Read 𝓤 H A mem run .pre to)
     asks =
@@ -208,8 +209,7 @@ module _ {M : Type 1} (𝓤 : URA M) (H : Heap 𝓤) (A : Atoms 𝓤) (W : Given
         nothing ! $ move ! (2 ∷ 3 ∷ 4 ∷ 5 ∷ 0 ∷ []) $ group ! 5 $ join ! $ frame ! $ nothing ! $ done !
 
   told-read : {K : Type 0} → K → {Γ : List (Item 𝓤)} {G : Goal 𝓤 H} → Soaks G → (α β l₇ l₈ : ℕ) (γ δ : GName) (v : Val)
-      → ((c : Counts) (z₁ z₂ : List Step) (z₃ : List ℕ) → Told c z₁ z₂ z₃ → length z₁ ≡ length (take n a)
-      → length z₂ ≡ length (take m b) → length z₃ ≡ length (now d) → Is Ct.the-row c (v ∷ [])
+      → ((c : Counts) (z₁ z₂ : List Step) (z₃ : List ℕ) → Told c z₁ z₂ z₃ → length z₃ ≡ length (now d) → Is Ct.the-row c (v ∷ [])
       → Seq K W (‵ (flft (α ∷ []) fullShare) ∷ ‵ (finally S γ z₁) ∷ ‵ (flft (β ∷ []) fullShare) ∷ ‵
       (finally S δ z₂) ∷ ‵ (flft κ q) ∷ ‵ (flft κ′ q′) ∷ ‵ (finally u32 (d .name) z₃) ∷ Γ) G)
       → Seq K W (raw (Read 𝓤 H A mem run .post (to α β l₇ l₈ γ δ) v) ∷ Γ) G
@@ -219,11 +219,11 @@ module _ {M : Type 1} (𝓤 : URA M) (H : Heap 𝓤) (A : Atoms 𝓤) (W : Given
       use1 W (Tokens α β l₇ l₈ γ δ) (id⊢ 𝓤 _) $ split t $ move t (1 ∷ []) $ split t $ move t (1 ∷ []) $ split t $
       move t (1 ∷ []) $ split t $ move t (1 ∷ []) $ drop t $
       -- [the tokens, from the last; what is said of the lists; …]
-      move t (4 ∷ []) $ fsplit t $ drop t $ fsplit t $ fsplit t $ move t (1 ∷ []) $ feqL t (λ n₁. move t (1 ∷ []) $
-      fsplit t $ fsplit t $ move t (1 ∷ []) $ feqL t (λ n₂. move t (1 ∷ []) $
+      move t (4 ∷ []) $ fsplit t $ drop t $ fsplit t $ fsplit t $ move t (1 ∷ []) $ drop t $ move t (1 ∷ []) $
+      fsplit t $ fsplit t $ move t (1 ∷ []) $ drop t $ move t (1 ∷ []) $
       fsplit t $ fsplit t $ move t (1 ∷ []) $ feqL t (λ n₃. move t (1 ∷ []) $ drop t $
       -- [the last names; the last new records; the last old records; the tokens, from the last; …]
-      move t (5 ∷ 2 ∷ 4 ∷ 1 ∷ 6 ∷ 3 ∷ 0 ∷ []) $ k c (ws .1 .0) (ws .1 .1 .0) (ws .1 .1 .1 .0) e n₁ n₂ n₃ is))))
+      move t (5 ∷ 2 ∷ 4 ∷ 1 ∷ 6 ∷ 3 ∷ 0 ∷ []) $ k c (ws .1 .0) (ws .1 .1 .0) (ws .1 .1 .1 .0) e n₃ is))
 
   -- putting the answer together
   module _ (c : Counts) (z₁ z₂ : List Step) (cv uv wv : Val) where
@@ -264,29 +264,27 @@ module _ {M : Type 1} (𝓤 : URA M) (H : Heap 𝓤) (A : Atoms 𝓤) (W : Given
         sets ! (addr ! (from ! (stop !))) 14 refl (tt, tt) $
         sets ! (agg ! (and-then ! (held ! 14 refl) (and-then ! (held ! 28 refl) (no-more !)))) 12 refl
         (tt, (tt, (record { fits = fits n few₀ }, tt))) $
-        rewrite ! 12 (λ (k : ℕ). ‵ (fat fullShare mutTy (l .1 .1 .1 .1 .1 .1 .1 .1 .1 .1 .1 .0) 0
-        (sliceVal (l .1 .1 .1 .1 .1 .1 .1 .0, 0) k))) (sym (first-long a n few₀ (is-a .1 .0 .1))) refl $
         sets ! (addr ! (from ! (stop !))) 10 refl (tt, tt) $
         sets ! (agg ! (and-then ! (held ! 10 refl) (and-then ! (held ! 24 refl) (no-more !)))) 8 refl
         (tt, (tt, (record { fits = fits m few₁ }, tt))) $
-        rewrite ! 8 (λ (k : ℕ). ‵ (fat fullShare mutTy (l .1 .1 .1 .1 .1 .1 .1 .1 .1 .1 .1 .1 .1 .0) 0
-        (sliceVal (l .1 .1 .1 .1 .1 .1 .1 .1 .0, 0) k))) (sym (first-long b m few₁ (is-b .1 .0 .1))) refl $
         sets ! (addr ! (from ! (fld ! refl (hop ! (look-in ! 22 (sub ! 0 refl (whole !))) (stop !))))) 6 refl (tt, tt) $
         sets ! (agg ! (and-then ! (held ! 6 refl) (and-then ! (load ! (from ! (fld ! refl (stop !)))
         (look-in ! 22 (sub ! 1 refl (whole !)))) (no-more !)))) 4 refl (tt, (tt, (record { fits = room′ }, tt))) $
         lft-new ! tt (λ α. lft-new ! tt (λ β.
-        move ! (22 ∷ []) $ lends-mut 𝓤 H A W ! tt a (val a) is-a n (α ∷ []) few₀ _ (λ γ.
-        move ! (23 ∷ []) $ lends-mut 𝓤 H A W ! tt b (val b) is-b m (β ∷ []) few₁ _ (λ δ.
+        move ! (22 ∷ []) $ lends-first-mut W (hundreds 𝓤 H A W) a n _ ! tt (val a) is-a (α ∷ []) few₀ (λ γ.
+        move ! (23 ∷ []) $ lends-first-mut W (hundreds 𝓤 H A W) b m _ ! tt (val b) is-b (β ∷ []) few₁ (λ δ.
         move ! (42 ∷ 7 ∷ 6 ∷ 44 ∷ 43 ∷ 3 ∷ 0 ∷ 45 ∷ []) $ group ! 8 $
         use1 W (raw (Read 𝓤 H A mem run .pre (to α β _ _ γ δ))) (asks α β _ _ γ δ) $
         calls-at ! fm (Read 𝓤 H A mem run) known (to α β _ _ γ δ) (and-then ! (held ! 35 refl) (and-then !
         (held ! 17 refl)
         (and-then ! (held ! 13 refl) (and-then ! (held ! 9 refl) (no-more !)))))
         (λ v. told-read ! tt α β (l .1 .1 .1 .1 .1 .1 .1 .0) (l .1 .1 .1 .1 .1 .1 .1 .1 .0) γ δ v
-        (λ c z₁ z₂ z₃ e n₁ n₂ n₃ is.
+        (λ c z₁ z₂ z₃ e n₃ is.
         land ! (from ! (stop !)) (init ! 27 refl (LL.lawful Ct.the-type Ct′.the-laws 𝓤 H A W .typed c _ is .0)) $
-        move ! (0 ∷ 9 ∷ 1 ∷ 10 ∷ []) $ takes-mut-back 𝓤 H A W ! tt a z₁ n _ (is-a .1 .0 .1) n₁ (λ u is₁.
-        move ! (1 ∷ 6 ∷ 2 ∷ 7 ∷ []) $ takes-mut-back 𝓤 H A W ! tt b z₂ m _ (is-b .1 .0 .1) n₂ (λ w is₂.
+        move ! (0 ∷ 9 ∷ 1 ∷ 10 ∷ []) $ takes-mut-back W (hundreds 𝓤 H A W) a n _ ! tt z₁ (is-a .1 .0 .1)
+        (λ u is₁.
+        move ! (1 ∷ 6 ∷ 2 ∷ 7 ∷ []) $ takes-mut-back W (hundreds 𝓤 H A W) b m _ ! tt z₂ (is-b .1 .0 .1)
+        (λ w is₂.
         sets ! (of-opd ! (held ! 1 refl)) 7 refl (typed-all 𝓤 H A W (z₁ ++ rest n a) u is₁) $
         sets ! (of-opd ! (held ! 0 refl)) 5 refl (typed-all 𝓤 H A W (z₂ ++ rest m b) w is₂) $
         use0 W (raw (Together 𝓤 H A mem run .pre (to-both c z₁ z₂ v u w))) (asks-both c z₁ z₂ v u w is is₁ is₂) $
@@ -299,8 +297,8 @@ module _ {M : Type 1} (𝓤 : URA M) (H : Heap 𝓤) (A : Atoms 𝓤) (W : Given
         move ! (37 ∷ 38 ∷ 35 ∷ 36 ∷ 33 ∷ 34 ∷ 31 ∷ 32 ∷ 29 ∷ 30 ∷ 27 ∷ 28 ∷ 25 ∷ 26 ∷ 1 ∷ 24 ∷ 0 ∷ 23 ∷ 21 ∷ 22 ∷ 19 ∷
         20 ∷ 17 ∷ 18 ∷ 15 ∷ 16 ∷ 13 ∷ 14 ∷ 11 ∷ 12 ∷ 9 ∷ 10 ∷ 7 ∷ 8 ∷ 5 ∷ 6 ∷ []) $ all-freed ! _ _ $
         keep ! (0 ∷ 1 ∷ 2 ∷ []) $ by ! (exits r v′ z₃ (subst (λ (f : Filled). Answer f z₃) (sym e′)
-        (answers c z₁ z₂ z₃ e (first-long a n few₀ (is-a .1 .0 .1))
-        (first-long b m few₁ (is-b .1 .0 .1)))) n₃ is′))))))))))))
+        (answers c z₁ z₂ z₃ e (first-long W (hundreds 𝓤 H A W) a n few₀ (is-a .1 .0 .1))
+        (first-long W (hundreds 𝓤 H A W) b m few₁ (is-b .1 .0 .1)))) n₃ is′))))))))))))
 
     walk : Is (Array S 100) a (val a ∷ []) → Is (Array S 100) b (val b ∷ []) → length (x .now) < 2 ^ 64
         → length (d .now) < 2 ^ 64 → (n ≤ 100) × (m ≤ 100)

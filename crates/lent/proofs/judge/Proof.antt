@@ -37,6 +37,7 @@ judge-spec 𝓤 H 𝓜 𝓖 𝓡 =
     (fact 𝓤 (z ≡ workAfter (flatJob p a q b d) o)))
     (λ p a q b d o. judged (lentJob p a q b d) (length o)) (λ p a q b d o. workAfter (lentJob p a q b d) o)
     (λ p a q b y d o r z. needs 𝓤 _ _ (λ e′. fact-mono 𝓤 _ _ (λ e. (
-    judged-laid (lentJob p a q b d) (y .n) (y .a) (y .m) (y .b) (y .laid-a) (y .laid-b) (length o) r e,
-    work-laid (lentJob p a q b d) (y .n) (y .a) (y .m) (y .b) (y .laid-a) (y .laid-b) o z e′))))
+      judged-laid (lentJob p a q b d) (y .n) (y .a) (y .m) (y .b) (y .laid-a) (y .laid-b) (length o) r e,
+      work-laid (lentJob p a q b d) (y .n) (y .a) (y .m) (y .b) (y .laid-a) (y .laid-b) o z e′,
+    ))))
     (cited 𝓤 H _ 𝓜 𝓡 code.env core.name core.routine code.calls-judging·judging·judge-lists (core-thm.met 𝓤 H 𝓜 𝓖 𝓡)))

@@ -34,6 +34,7 @@ write-spec 𝓤 H 𝓜 𝓖 𝓡 =
     (λ p a q b d o r z. fact 𝓤 ((r ≡ wrote (flatJob p a q b d) (length o)) × (z ≡ outAfter (flatJob p a q b d) o)))
     (λ p a q b d o. wrote (lentJob p a q b d) (length o)) (λ p a q b d o. outAfter (lentJob p a q b d) o)
     (λ p a q b y d o r z. fact-mono 𝓤 _ _ (λ e. (
-    wrote-laid (lentJob p a q b d) (y .n) (y .a) (y .m) (y .b) (y .laid-a) (y .laid-b) (length o) r (e .0),
-    out-laid (lentJob p a q b d) (y .n) (y .a) (y .m) (y .b) (y .laid-a) (y .laid-b) o z (e .1))))
+      wrote-laid (lentJob p a q b d) (y .n) (y .a) (y .m) (y .b) (y .laid-a) (y .laid-b) (length o) r (e .0),
+      out-laid (lentJob p a q b d) (y .n) (y .a) (y .m) (y .b) (y .laid-a) (y .laid-b) o z (e .1),
+    )))
     (cited 𝓤 H _ 𝓜 𝓡 code.env core.name core.routine code.calls-writer·writes·write-lists (core-thm.met 𝓤 H 𝓜 𝓖 𝓡)))
