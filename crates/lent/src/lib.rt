@@ -1,4 +1,5 @@
-// The operations over lent lists of step records: each loads both lists and calls the operation over routes by value.
+// The operations over lent lists of step records: each lays both lists into numbers and calls the operation over lists of numbers.
+// (The arrays are named differently in each, so that an edit of must-fail/ can name its line.)
 use answering::Judged;
 use records::lay;
 use route::Step;
@@ -41,11 +42,11 @@ pub fn run(old_places: u64, old: &[Step], new_places: u64, new: &[Step], done: &
 pub fn slice(old_places: u64, old: &[Step], new_places: u64, new: &[Step], done: &[u32]) -> Sliced
     ensures { λ r. ⌜ r ≡ sliced (lentJob «old_places» (now (old .entry)) «new_places» (now (new .entry)) (now (done .entry))) ⌝ }
 {
-    let mut a = [0u64; 260];
-    let mut b = [0u64; 260];
-    let n = lay(old, &mut a);
-    let m = lay(new, &mut b);
-    slice::slicing::slice_lists(old_places, &a[..n], new_places, &b[..m], done)
+    let mut before = [0u64; 260];
+    let mut after = [0u64; 260];
+    let n = lay(old, &mut before);
+    let m = lay(new, &mut after);
+    slice::slicing::slice_lists(old_places, &before[..n], new_places, &after[..m], done)
 }
 
 pub fn try_order(
@@ -58,11 +59,11 @@ pub fn try_order(
 ) -> Tried
     ensures { λ r. ⌜ r ≡ tried (lentJob «old_places» (now (old .entry)) «new_places» (now (new .entry)) (now (done .entry))) (now (order .entry)) ⌝ }
 {
-    let mut a = [0u64; 260];
-    let mut b = [0u64; 260];
-    let n = lay(old, &mut a);
-    let m = lay(new, &mut b);
-    trying::trying::try_lists(old_places, &a[..n], new_places, &b[..m], done, order)
+    let mut left = [0u64; 260];
+    let mut right = [0u64; 260];
+    let n = lay(old, &mut left);
+    let m = lay(new, &mut right);
+    trying::trying::try_lists(old_places, &left[..n], new_places, &right[..m], done, order)
 }
 
 pub fn judge(
@@ -76,11 +77,11 @@ pub fn judge(
     ensures { λ r. ⌜ (r ≡ judged (lentJob «old_places» (now (old .entry)) «new_places» (now (new .entry)) (now (done .entry))) (length (now (work .entry))))
         × (now (work .exit) ≡ workAfter (lentJob «old_places» (now (old .entry)) «new_places» (now (new .entry)) (now (done .entry))) (now (work .entry))) ⌝ }
 {
-    let mut a = [0u64; 260];
-    let mut b = [0u64; 260];
-    let n = lay(old, &mut a);
-    let m = lay(new, &mut b);
-    judging::judging::judge_lists(old_places, &a[..n], new_places, &b[..m], done, work)
+    let mut from = [0u64; 260];
+    let mut to = [0u64; 260];
+    let n = lay(old, &mut from);
+    let m = lay(new, &mut to);
+    judging::judging::judge_lists(old_places, &from[..n], new_places, &to[..m], done, work)
 }
 
 pub fn write(
@@ -94,9 +95,9 @@ pub fn write(
     ensures { λ r. ⌜ (r ≡ wrote (lentJob «old_places» (now (old .entry)) «new_places» (now (new .entry)) (now (done .entry))) (length (now (out .entry))))
         × (now (out .exit) ≡ outAfter (lentJob «old_places» (now (old .entry)) «new_places» (now (new .entry)) (now (done .entry))) (now (out .entry))) ⌝ }
 {
-    let mut a = [0u64; 260];
-    let mut b = [0u64; 260];
-    let n = lay(old, &mut a);
-    let m = lay(new, &mut b);
-    writer::writes::write_lists(old_places, &a[..n], new_places, &b[..m], done, out)
+    let mut first = [0u64; 260];
+    let mut second = [0u64; 260];
+    let n = lay(old, &mut first);
+    let m = lay(new, &mut second);
+    writer::writes::write_lists(old_places, &first[..n], new_places, &second[..m], done, out)
 }

@@ -248,8 +248,8 @@ module _ {M : Type 1} (𝓤 : URA M) (H : Heap 𝓤) (A : Atoms 𝓤) (W : Given
         (En l₀ l₁ l₂ l₃ l₄ l₅ l₆ l₇ l₈ l₉ l₁₀) Post) $
         sets ! (of-opd ! (lit ! tt)) 20 refl (tt, record { fits = lit< tt }) $ forget ! 18 refl $
         keep ! (0 ∷ 7 ∷ 5 ∷ 20 ∷ 16 ∷ 14 ∷ 12 ∷ 10 ∷ 8 ∷ 26 ∷ 24 ∷ 22 ∷ 28 ∷ 18 ∷ 1 ∷ 2 ∷ 3 ∷ 29 ∷ 27 ∷ 25 ∷ 23 ∷ 21 ∷
-        19 ∷ 17 ∷ 15 ∷ 13 ∷ 11 ∷ 9 ∷ []) $ by ! (loops l₀ l₁ l₂ l₃ l₄ l₅ l₆ l₇ l₈ l₉ l₁₀ 65 (omega arith)
-        (omega (arith, ltb→lt 65 (length ys) over)) refl))
+        19 ∷ 17 ∷ 15 ∷ 13 ∷ 11 ∷ 9 ∷ []) $ by ! (loops l₀ l₁ l₂ l₃ l₄ l₅ l₆ l₇ l₈ l₉ l₁₀ _ (omega arith)
+        (omega (arith, ltb→lt _ (length ys) over)) refl))
         (λ within. skips ! $ exec ! C Λ _ body.t-4 (atRet
         (En l₀ l₁ l₂ l₃ l₄ l₅ l₆ l₇ l₈ l₉ l₁₀) Post) $
         sets ! (of-opd ! (lit ! tt)) 20 refl (tt, record { fits = lit< tt }) $ forget ! 18 refl $
