@@ -132,11 +132,13 @@ module _ {M : Type 1} (𝓤 : URA M) (H : Heap 𝓤) (A : Atoms 𝓤) (W : Given
       (tt, (tt, (record { fits = fits m few₁ }, tt))) $
       -- both lists and what else is owned go to the callee
       nothing ! $ move ! (11 ∷ 9 ∷ 29 ∷ 0 ∷ []) $
-      lends-both W (hundreds 𝓤 H A W) a b n m C Λ fm few₀ few₁ (val a) (val b) is-a is-b _ _ k τ _ _ _ rest (‵ ftrue) Q Kf !
+      lends-both W (hundreds 𝓤 H A W) a b n m C Λ fm few₀ few₁ (val a) (val b) is-a is-b _ _ k τ _ _ _ rest (‵ ftrue) Q
+      Kf !
       met ends (λ i₀ i₁ i₂ i₃ i₄ i₅. and-then ! (held ! 28 refl) (and-then ! (held ! 10 refl) (and-then !
       (held ! 22 refl) (and-then ! (held ! 6 refl) (and-then ! (held ! 16 refl) (no-more !)))))) (λ v typed u w.
       land ! (from ! (stop !)) (init ! 27 refl typed) $ returns ! (look ! 27 refl) $
-      move ! (27 ∷ 28 ∷ 25 ∷ 26 ∷ 23 ∷ 24 ∷ 21 ∷ 22 ∷ 19 ∷ 20 ∷ 17 ∷ 18 ∷ 15 ∷ 16 ∷ 13 ∷ 14 ∷ 1 ∷ 12 ∷ 2 ∷ 11 ∷ 9 ∷ 10 ∷ 7 ∷ 8 ∷ 5 ∷ 6 ∷ 3 ∷ 4 ∷ []) $
+      move ! (27 ∷ 28 ∷ 25 ∷ 26 ∷ 23 ∷ 24 ∷ 21 ∷ 22 ∷ 19 ∷ 20 ∷ 17 ∷ 18 ∷ 15 ∷ 16 ∷ 13 ∷ 14 ∷ 1 ∷ 12 ∷ 2 ∷ 11 ∷ 9 ∷
+      10 ∷ 7 ∷ 8 ∷ 5 ∷ 6 ∷ 3 ∷ 4 ∷ []) $
       all-freed ! _ _ $ done !))
 
   -- with one more slice
@@ -163,11 +165,14 @@ module _ {M : Type 1} (𝓤 : URA M) (H : Heap 𝓤) (A : Atoms 𝓤) (W : Given
       (tt, (tt, (record { fits = fits m few₁ }, tt))) $
       -- both lists and what else is owned go to the callee
       nothing ! $ move ! (11 ∷ 9 ∷ 31 ∷ 0 ∷ []) $
-      lends-both W (hundreds 𝓤 H A W) a b n m C Λ fm few₀ few₁ (val a) (val b) is-a is-b _ _ k τ _ _ _ rest (‵ ftrue) Q Kf !
+      lends-both W (hundreds 𝓤 H A W) a b n m C Λ fm few₀ few₁ (val a) (val b) is-a is-b _ _ k τ _ _ _ rest (‵ ftrue) Q
+      Kf !
       met ends (λ i₀ i₁ i₂ i₃ i₄ i₅. and-then ! (held ! 30 refl) (and-then ! (held ! 10 refl) (and-then !
-      (held ! 24 refl) (and-then ! (held ! 6 refl) (and-then ! (held ! 18 refl) (and-then ! (held ! 16 refl) (no-more !))))))) (λ v typed u w.
+      (held ! 24 refl) (and-then ! (held ! 6 refl) (and-then ! (held ! 18 refl) (and-then ! (held ! 16 refl) (no-more
+      !))))))) (λ v typed u w.
       land ! (from ! (stop !)) (init ! 29 refl typed) $ returns ! (look ! 29 refl) $
-      move ! (29 ∷ 30 ∷ 27 ∷ 28 ∷ 25 ∷ 26 ∷ 23 ∷ 24 ∷ 21 ∷ 22 ∷ 19 ∷ 20 ∷ 17 ∷ 18 ∷ 15 ∷ 16 ∷ 13 ∷ 14 ∷ 1 ∷ 12 ∷ 2 ∷ 11 ∷ 9 ∷ 10 ∷ 7 ∷ 8 ∷ 5 ∷ 6 ∷ 3 ∷ 4 ∷ []) $
+      move ! (29 ∷ 30 ∷ 27 ∷ 28 ∷ 25 ∷ 26 ∷ 23 ∷ 24 ∷ 21 ∷ 22 ∷ 19 ∷ 20 ∷ 17 ∷ 18 ∷ 15 ∷ 16 ∷ 13 ∷ 14 ∷ 1 ∷ 12 ∷ 2 ∷
+      11 ∷ 9 ∷ 10 ∷ 7 ∷ 8 ∷ 5 ∷ 6 ∷ 3 ∷ 4 ∷ []) $
       all-freed ! _ _ $ done !))
 
   -- with bytes that are lent on
@@ -199,9 +204,12 @@ module _ {M : Type 1} (𝓤 : URA M) (H : Heap 𝓤) (A : Atoms 𝓤) (W : Given
       (look-in ! 16 (sub ! 1 refl (whole !)))) (no-more !)))) 0 refl (tt, (tt, (record { fits = room }, tt))) $
       -- both lists and what else is owned go to the callee
       nothing ! $ move ! (15 ∷ 13 ∷ 35 ∷ 0 ∷ []) $
-      lends-both W (hundreds 𝓤 H A W) a b n m C Λ fm few₀ few₁ (val a) (val b) is-a is-b _ _ k τ _ _ _ rest (‵ ftrue) Q Kf !
+      lends-both W (hundreds 𝓤 H A W) a b n m C Λ fm few₀ few₁ (val a) (val b) is-a is-b _ _ k τ _ _ _ rest (‵ ftrue) Q
+      Kf !
       met ends (λ i₀ i₁ i₂ i₃ i₄ i₅. and-then ! (held ! 34 refl) (and-then ! (held ! 14 refl) (and-then !
-      (held ! 28 refl) (and-then ! (held ! 10 refl) (and-then ! (held ! 22 refl) (and-then ! (held ! 6 refl) (no-more !))))))) (λ v typed u w.
+      (held ! 28 refl) (and-then ! (held ! 10 refl) (and-then ! (held ! 22 refl) (and-then ! (held ! 6 refl) (no-more
+      !))))))) (λ v typed u w.
       land ! (from ! (stop !)) (init ! 33 refl typed) $ returns ! (look ! 33 refl) $
-      move ! (33 ∷ 34 ∷ 31 ∷ 32 ∷ 29 ∷ 30 ∷ 27 ∷ 28 ∷ 25 ∷ 26 ∷ 23 ∷ 24 ∷ 21 ∷ 22 ∷ 19 ∷ 20 ∷ 17 ∷ 18 ∷ 1 ∷ 16 ∷ 2 ∷ 15 ∷ 13 ∷ 14 ∷ 11 ∷ 12 ∷ 9 ∷ 10 ∷ 7 ∷ 8 ∷ 5 ∷ 6 ∷ 3 ∷ 4 ∷ []) $
+      move ! (33 ∷ 34 ∷ 31 ∷ 32 ∷ 29 ∷ 30 ∷ 27 ∷ 28 ∷ 25 ∷ 26 ∷ 23 ∷ 24 ∷ 21 ∷ 22 ∷ 19 ∷ 20 ∷ 17 ∷ 18 ∷ 1 ∷ 16 ∷ 2 ∷
+      15 ∷ 13 ∷ 14 ∷ 11 ∷ 12 ∷ 9 ∷ 10 ∷ 7 ∷ 8 ∷ 5 ∷ 6 ∷ 3 ∷ 4 ∷ []) $
       all-freed ! _ _ $ done !))

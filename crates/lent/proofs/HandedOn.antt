@@ -1,6 +1,6 @@
 -- A function over two place counts, two lent lists and other slices; and what a caller hands on to it that lends it the
 -- first elements of two arrays, and its own other slices as they are.
-use mathlib.Core.Path.{_≡_, refl, subst}
+use mathlib.Core.Path.{refl, subst}
 use Prim.Native.Nat.{ℕ, suc, _<_, _^_}
 use mathlib.Core.List.{List, [], _∷_}
 use lib.ListN.{take}

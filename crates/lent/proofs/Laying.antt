@@ -1,4 +1,4 @@
--- Both lists are laid into arrays of numbers, and another function is lent the numbers laid: a walk of the MIR that every
+-- Both lists are laid into arrays of numbers, and another function is lent what is laid: a walk of the MIR that every
 -- operation over lent lists has, whatever else the other function is lent and whatever it gives.
 use mathlib.Core.Path.{_≡_, refl, ap, _∙_}
 use Prim.Native.Nat.{ℕ, zero, suc, _+_, _<_, _≤_, _^_}
@@ -13,7 +13,7 @@ use mir.Syntax.{tyInt, tyArray, tyRef, seq, assign, call, return, copy, int, pla
 use mir.Syntax.{repeat}
 use mir.Val.{Val, WT, hasTy, vint}
 use base.Logic.{SProp, ent, sep, id⊢}
-use base.Fml.{Lft, GName, Share, Fml, ftrue, fat, flft, flent}
+use base.Fml.{Lft, GName, Share, Fml, ftrue, fat, flft}
 use prog.Memory.{Memory}
 use prog.Routine.{Routine}
 use prog.Wp.{Heap, Env, Calls, Loops, WpFn}
@@ -28,14 +28,13 @@ use types.Run.{params1, pass1, pass0}
 use types.Tokens.{lft-new}
 use denote.Array.{Array, arrayVal, each, array-lawful}
 use denote.Laws.{Is}
-use denote.Lend.{Held}
 use denote.Memory.{pointee}
 use denote.Plain.{uint-makes, uint-tells, uint-lawful}
-use denote.Builtin.{u64, usize}
+use denote.Builtin.{u64}
 use denote.Ref.{RefT}
 use denote.Shadow.{shadow}
 use denote.Slice.{sliceTy, sliceVal, ShrSlice, shr-slice-copy}
-use denote.Steps.{only, owned, nothing}
+use denote.Steps.{only, nothing}
 use denote.Triple.Statement.{Contract, Triple}
 use denote.Triple.Call.{calls-at}
 use denote.Triple.Spec.{tripleOf}
@@ -320,8 +319,32 @@ module _ {M : Type 1} (𝓤 : URA M) (H : Heap 𝓤) (A : Atoms 𝓤) (W : Given
     calls-one rest Q Kf met ends =
         qed W (Entered 𝓤 H A W C Λ κ₀ κ₁ q₀ q₁ p₀ p₁ x₀ x₁ c rest) ∵ enter ! C Λ (body-one τ τ₅ (reads c) k)
         (vint w64 p₀ ∷ val x₀ ∷ vint w64 p₁ ∷ val x₁ ∷ v₅ ∷ []) _ $ all-locals ! _ (λ l. params1 ! $
-        pass1 ! (init ! 32 refl (tt, record { fits = fits₀ })) $ pass1 ! (init ! 30 refl (tt, (tt, (record { fits = room₀ }, tt)))) $
-        pass1 ! (init ! 28 refl (tt, record { fits = fits₁ })) $ pass1 ! (init ! 26 refl (tt, (tt, (record { fits = room₁ }, tt)))) $
+        pass1 ! (init ! 32 refl (tt, record { fits = fits₀ })) $ pass1 ! (init ! 30 refl (
+          tt,
+          (
+            tt,
+            (
+              record {
+                fits =
+                    room₀;
+              },
+              tt,
+            ),
+          ),
+        )) $
+        pass1 ! (init ! 28 refl (tt, record { fits = fits₁ })) $ pass1 ! (init ! 26 refl (
+          tt,
+          (
+            tt,
+            (
+              record {
+                fits =
+                    room₁;
+              },
+              tt,
+            ),
+          ),
+        )) $
         pass1 ! (init ! 24 refl wt₅) $ pass0 ! $
         sets ! (rep ! 260 (lit ! tt)) 22 refl (zeros-typed 𝓤 H A W) $
         sets ! (rep ! 260 (lit ! tt)) 20 refl (zeros-typed 𝓤 H A W) $
@@ -349,7 +372,8 @@ module _ {M : Type 1} (𝓤 : URA M) (H : Heap 𝓤) (A : Atoms 𝓤) (W : Given
         (tt, (tt, (record { fits = below m (laid-b .within) }, tt))) $
         -- and lent with all else that is owned
         group ! 2 $ move ! (4 ∷ 3 ∷ 39 ∷ 0 ∷ []) $
-        lends-both W (numbers 𝓤 H A W) a b n m C Λ fm (laid-a .within) (laid-b .within) va vb is-a is-b _ _ k τ _ _ _ rest
+        lends-both W (numbers 𝓤 H A W) a b n m C Λ fm (laid-a .within) (laid-b .within) va vb is-a is-b _ _ k τ _ _ _
+        rest
         (‵ (flft κ₀ q₀) ⊛ ‵ (flft κ₁ q₁)) (Q (laying laid-a laid-b)) Kf ! (met (laying laid-a laid-b))
         (ends (laying laid-a laid-b)) (λ i₀ i₁ i₂ i₃ i₄ i₅. and-then !
         (either (c .1 .1 .0) (λ (p : ℕ). vint w64 p) p₀ p₁ (held ! 38 refl) (held ! 34 refl))
@@ -357,7 +381,8 @@ module _ {M : Type 1} (𝓤 : URA M) (H : Heap 𝓤) (A : Atoms 𝓤) (W : Given
         (either (c .1 .1 .1) (λ (p : ℕ). vint w64 p) p₀ p₁ (held ! 38 refl) (held ! 34 refl))
         (and-then ! (held ! 8 refl) (and-then ! (held ! 30 refl) (no-more !)))))) (λ v typed u w.
         land ! (from ! (stop !)) (init ! 37 refl typed) $ returns ! (look ! 37 refl) $
-        move ! (37 ∷ 38 ∷ 35 ∷ 36 ∷ 33 ∷ 34 ∷ 31 ∷ 32 ∷ 29 ∷ 30 ∷ 27 ∷ 28 ∷ 1 ∷ 26 ∷ 2 ∷ 25 ∷ 23 ∷ 24 ∷ 21 ∷ 22 ∷ 19 ∷ 20 ∷ 17 ∷ 18 ∷ 15 ∷ 16 ∷ 13 ∷ 14 ∷ 11 ∷ 12 ∷ 9 ∷ 10 ∷ 7 ∷ 8 ∷ 5 ∷ 6 ∷ []) $
+        move ! (37 ∷ 38 ∷ 35 ∷ 36 ∷ 33 ∷ 34 ∷ 31 ∷ 32 ∷ 29 ∷ 30 ∷ 27 ∷ 28 ∷ 1 ∷ 26 ∷ 2 ∷ 25 ∷ 23 ∷ 24 ∷ 21 ∷ 22 ∷ 19 ∷
+        20 ∷ 17 ∷ 18 ∷ 15 ∷ 16 ∷ 13 ∷ 14 ∷ 11 ∷ 12 ∷ 9 ∷ 10 ∷ 7 ∷ 8 ∷ 5 ∷ 6 ∷ []) $
         all-freed ! _ _ $ keep ! (0 ∷ []) $ done !))))
 
     -- with one more slice
@@ -366,8 +391,32 @@ module _ {M : Type 1} (𝓤 : URA M) (H : Heap 𝓤) (A : Atoms 𝓤) (W : Given
     calls-two τ₆ v₆ wt₆ rest Q Kf met ends =
         qed W (Entered 𝓤 H A W C Λ κ₀ κ₁ q₀ q₁ p₀ p₁ x₀ x₁ c rest) ∵ enter ! C Λ (body-two τ τ₅ τ₆ (reads c) k)
         (vint w64 p₀ ∷ val x₀ ∷ vint w64 p₁ ∷ val x₁ ∷ v₅ ∷ v₆ ∷ []) _ $ all-locals ! _ (λ l. params1 ! $
-        pass1 ! (init ! 34 refl (tt, record { fits = fits₀ })) $ pass1 ! (init ! 32 refl (tt, (tt, (record { fits = room₀ }, tt)))) $
-        pass1 ! (init ! 30 refl (tt, record { fits = fits₁ })) $ pass1 ! (init ! 28 refl (tt, (tt, (record { fits = room₁ }, tt)))) $
+        pass1 ! (init ! 34 refl (tt, record { fits = fits₀ })) $ pass1 ! (init ! 32 refl (
+          tt,
+          (
+            tt,
+            (
+              record {
+                fits =
+                    room₀;
+              },
+              tt,
+            ),
+          ),
+        )) $
+        pass1 ! (init ! 30 refl (tt, record { fits = fits₁ })) $ pass1 ! (init ! 28 refl (
+          tt,
+          (
+            tt,
+            (
+              record {
+                fits =
+                    room₁;
+              },
+              tt,
+            ),
+          ),
+        )) $
         pass1 ! (init ! 26 refl wt₅) $ pass1 ! (init ! 24 refl wt₆) $ pass0 ! $
         sets ! (rep ! 260 (lit ! tt)) 22 refl (zeros-typed 𝓤 H A W) $
         sets ! (rep ! 260 (lit ! tt)) 20 refl (zeros-typed 𝓤 H A W) $
@@ -395,15 +444,18 @@ module _ {M : Type 1} (𝓤 : URA M) (H : Heap 𝓤) (A : Atoms 𝓤) (W : Given
         (tt, (tt, (record { fits = below m (laid-b .within) }, tt))) $
         -- and lent with all else that is owned
         group ! 2 $ move ! (4 ∷ 3 ∷ 41 ∷ 0 ∷ []) $
-        lends-both W (numbers 𝓤 H A W) a b n m C Λ fm (laid-a .within) (laid-b .within) va vb is-a is-b _ _ k τ _ _ _ rest
+        lends-both W (numbers 𝓤 H A W) a b n m C Λ fm (laid-a .within) (laid-b .within) va vb is-a is-b _ _ k τ _ _ _
+        rest
         (‵ (flft κ₀ q₀) ⊛ ‵ (flft κ₁ q₁)) (Q (laying laid-a laid-b)) Kf ! (met (laying laid-a laid-b))
         (ends (laying laid-a laid-b)) (λ i₀ i₁ i₂ i₃ i₄ i₅. and-then !
         (either (c .1 .1 .0) (λ (p : ℕ). vint w64 p) p₀ p₁ (held ! 40 refl) (held ! 36 refl))
         (and-then ! (held ! 12 refl) (and-then !
         (either (c .1 .1 .1) (λ (p : ℕ). vint w64 p) p₀ p₁ (held ! 40 refl) (held ! 36 refl))
-        (and-then ! (held ! 8 refl) (and-then ! (held ! 32 refl) (and-then ! (held ! 30 refl) (no-more !))))))) (λ v typed u w.
+        (and-then ! (held ! 8 refl) (and-then ! (held ! 32 refl) (and-then ! (held ! 30 refl) (no-more !))))))) (λ v
+        typed u w.
         land ! (from ! (stop !)) (init ! 39 refl typed) $ returns ! (look ! 39 refl) $
-        move ! (39 ∷ 40 ∷ 37 ∷ 38 ∷ 35 ∷ 36 ∷ 33 ∷ 34 ∷ 31 ∷ 32 ∷ 29 ∷ 30 ∷ 27 ∷ 28 ∷ 1 ∷ 26 ∷ 2 ∷ 25 ∷ 23 ∷ 24 ∷ 21 ∷ 22 ∷ 19 ∷ 20 ∷ 17 ∷ 18 ∷ 15 ∷ 16 ∷ 13 ∷ 14 ∷ 11 ∷ 12 ∷ 9 ∷ 10 ∷ 7 ∷ 8 ∷ 5 ∷ 6 ∷ []) $
+        move ! (39 ∷ 40 ∷ 37 ∷ 38 ∷ 35 ∷ 36 ∷ 33 ∷ 34 ∷ 31 ∷ 32 ∷ 29 ∷ 30 ∷ 27 ∷ 28 ∷ 1 ∷ 26 ∷ 2 ∷ 25 ∷ 23 ∷ 24 ∷ 21 ∷
+        22 ∷ 19 ∷ 20 ∷ 17 ∷ 18 ∷ 15 ∷ 16 ∷ 13 ∷ 14 ∷ 11 ∷ 12 ∷ 9 ∷ 10 ∷ 7 ∷ 8 ∷ 5 ∷ 6 ∷ []) $
         all-freed ! _ _ $ keep ! (0 ∷ []) $ done !))))
 
     -- with bytes that are lent on
@@ -412,8 +464,32 @@ module _ {M : Type 1} (𝓤 : URA M) (H : Heap 𝓤) (A : Atoms 𝓤) (W : Given
     calls-mut e o j room₆ rest Q Kf met ends =
         qed W (Entered 𝓤 H A W C Λ κ₀ κ₁ q₀ q₁ p₀ p₁ x₀ x₁ c rest) ∵ enter ! C Λ (body-mut τ τ₅ (reads c) k)
         (vint w64 p₀ ∷ val x₀ ∷ vint w64 p₁ ∷ val x₁ ∷ v₅ ∷ sliceVal (e, o) j ∷ []) _ $ all-locals ! _ (λ l. params1 ! $
-        pass1 ! (init ! 38 refl (tt, record { fits = fits₀ })) $ pass1 ! (init ! 36 refl (tt, (tt, (record { fits = room₀ }, tt)))) $
-        pass1 ! (init ! 34 refl (tt, record { fits = fits₁ })) $ pass1 ! (init ! 32 refl (tt, (tt, (record { fits = room₁ }, tt)))) $
+        pass1 ! (init ! 38 refl (tt, record { fits = fits₀ })) $ pass1 ! (init ! 36 refl (
+          tt,
+          (
+            tt,
+            (
+              record {
+                fits =
+                    room₀;
+              },
+              tt,
+            ),
+          ),
+        )) $
+        pass1 ! (init ! 34 refl (tt, record { fits = fits₁ })) $ pass1 ! (init ! 32 refl (
+          tt,
+          (
+            tt,
+            (
+              record {
+                fits =
+                    room₁;
+              },
+              tt,
+            ),
+          ),
+        )) $
         pass1 ! (init ! 30 refl wt₅) $ pass1 ! (init ! 28 refl (tt, (tt, (record { fits = room₆ }, tt)))) $ pass0 ! $
         sets ! (rep ! 260 (lit ! tt)) 26 refl (zeros-typed 𝓤 H A W) $
         sets ! (rep ! 260 (lit ! tt)) 24 refl (zeros-typed 𝓤 H A W) $
@@ -446,13 +522,16 @@ module _ {M : Type 1} (𝓤 : URA M) (H : Heap 𝓤) (A : Atoms 𝓤) (W : Given
         (look-in ! 32 (sub ! 1 refl (whole !)))) (no-more !)))) 6 refl (tt, (tt, (record { fits = room₆ }, tt))) $
         -- and lent with all else that is owned
         group ! 2 $ move ! (4 ∷ 3 ∷ 45 ∷ 0 ∷ []) $
-        lends-both W (numbers 𝓤 H A W) a b n m C Λ fm (laid-a .within) (laid-b .within) va vb is-a is-b _ _ k τ _ _ _ rest
+        lends-both W (numbers 𝓤 H A W) a b n m C Λ fm (laid-a .within) (laid-b .within) va vb is-a is-b _ _ k τ _ _ _
+        rest
         (‵ (flft κ₀ q₀) ⊛ ‵ (flft κ₁ q₁)) (Q (laying laid-a laid-b)) Kf ! (met (laying laid-a laid-b))
         (ends (laying laid-a laid-b)) (λ i₀ i₁ i₂ i₃ i₄ i₅. and-then !
         (either (c .1 .1 .0) (λ (p : ℕ). vint w64 p) p₀ p₁ (held ! 44 refl) (held ! 40 refl))
         (and-then ! (held ! 16 refl) (and-then !
         (either (c .1 .1 .1) (λ (p : ℕ). vint w64 p) p₀ p₁ (held ! 44 refl) (held ! 40 refl))
-        (and-then ! (held ! 12 refl) (and-then ! (held ! 36 refl) (and-then ! (held ! 8 refl) (no-more !))))))) (λ v typed u w.
+        (and-then ! (held ! 12 refl) (and-then ! (held ! 36 refl) (and-then ! (held ! 8 refl) (no-more !))))))) (λ v
+        typed u w.
         land ! (from ! (stop !)) (init ! 43 refl typed) $ returns ! (look ! 43 refl) $
-        move ! (43 ∷ 44 ∷ 41 ∷ 42 ∷ 39 ∷ 40 ∷ 37 ∷ 38 ∷ 35 ∷ 36 ∷ 33 ∷ 34 ∷ 31 ∷ 32 ∷ 1 ∷ 30 ∷ 2 ∷ 29 ∷ 27 ∷ 28 ∷ 25 ∷ 26 ∷ 23 ∷ 24 ∷ 21 ∷ 22 ∷ 19 ∷ 20 ∷ 17 ∷ 18 ∷ 15 ∷ 16 ∷ 13 ∷ 14 ∷ 11 ∷ 12 ∷ 9 ∷ 10 ∷ 7 ∷ 8 ∷ 5 ∷ 6 ∷ []) $
+        move ! (43 ∷ 44 ∷ 41 ∷ 42 ∷ 39 ∷ 40 ∷ 37 ∷ 38 ∷ 35 ∷ 36 ∷ 33 ∷ 34 ∷ 31 ∷ 32 ∷ 1 ∷ 30 ∷ 2 ∷ 29 ∷ 27 ∷ 28 ∷ 25 ∷
+        26 ∷ 23 ∷ 24 ∷ 21 ∷ 22 ∷ 19 ∷ 20 ∷ 17 ∷ 18 ∷ 15 ∷ 16 ∷ 13 ∷ 14 ∷ 11 ∷ 12 ∷ 9 ∷ 10 ∷ 7 ∷ 8 ∷ 5 ∷ 6 ∷ []) $
         all-freed ! _ _ $ keep ! (0 ∷ []) $ done !))))

@@ -43,8 +43,8 @@ use Rattle.lent.proofs.Slices.{Slice, shr, mut, many, spells, tell, pas
 use Rattle.lent.proofs.Slices.{behind-vals}
 use Rattle.lent.proofs.HandedOn.{lists, Says, says, Fact, facts, behind-both, passed, Last, returned, to, met}
 use Rattle.lent.proofs.HandedOn.{comes-back}
-use Rattle.lent.proofs.Laying.{Lent, val, numbers, Lay, Which, old, new, pick, Choice, Reads, reads, choice, Laying, Walk}
-use Rattle.lent.proofs.Laying.{body-one, body-two, body-mut, calls-one, calls-two, calls-mut}
+use Rattle.lent.proofs.Laying.{Lent, val, numbers, Lay, Which, old, new, pick, Choice, Reads, reads, choice}
+use Rattle.lent.proofs.Laying.{Laying, Walk, body-one, body-two, body-mut, calls-one, calls-two, calls-mut}
 
 module _ (R : RattleType) (l : List Slice) {M : Type 1} (𝓤 : URA M) (H : Heap 𝓤) (A : Atoms 𝓤) (W : Given 𝓤 H A)
     (mem : Memory → SProp 𝓤) (run : Routine → Fun 𝓤) (τ : Ty)

@@ -46,10 +46,10 @@ module _ {M : Type 1} {𝓤 : URA M} {H : Heap 𝓤} {A : Atoms 𝓤} {K : Type 
       (‵ (fat fullShare (arrayTy E) l 0 v) ∷ Γ) G
   unfolding partOf
   array-out v is = step (λ s.
-      use1 W (‵ (cellAt fullShare ((array E) .mir) (v ∷ []) l 0)) (W .laws .at-raw fullShare (arrayTy E) l 0 v) $
+      use1 W (‵ (cellAt fullShare (array E .mir) (v ∷ []) l 0)) (W .laws .at-raw fullShare (arrayTy E) l 0 v) $
       owned t (array E) (Is (array E)) (array-makes 𝓤 H A W (E .type) (E .makes) (E .count)) xs (v ∷ []) is $
       move t (1 ∷ 0 ∷ []) $ fjoin t $
-      fpack t (List Val) (λ us. fsep (cellAt fullShare ((array E) .mir) us l 0) ((array E) .own xs us)) (v ∷ []) $
+      fpack t (List Val) (λ us. fsep (cellAt fullShare (array E .mir) us l 0) (array E .own xs us)) (v ∷ []) $
       use1 W (‵ (arr-parts (shares (E .type)) (E .count) .part fullShare xs l 0))
       (array-apart 𝓤 H A W (E .type) fullShare (E .single) (E .count) xs l 0) $
       fsplit t $ drop t $ s)
@@ -63,7 +63,7 @@ module _ {M : Type 1} {𝓤 : URA M} {H : Heap 𝓤} {A : Atoms 𝓤} {K : Type 
       use1 W (‵ (partAt (array E) fullShare xs l 0)) (array-whole 𝓤 H A W (E .type) fullShare (E .count) xs l 0) $
       fpick t (λ us. fsplit t $ move t (1 ∷ []) $
       peeks t (array E) (Is (array E)) (shows 𝓤 H A (array E)) xs us (λ is. drop t $
-      rewrite t 0 (λ (ws : List Val). ‵ (cellAt fullShare ((array E) .mir) ws l 0)) (is .1 .0 .0) refl $
+      rewrite t 0 (λ (ws : List Val). ‵ (cellAt fullShare (array E .mir) ws l 0)) (is .1 .0 .0) refl $
       use1 W (‵ (fat fullShare (arrayTy E) l 0 (arrayVal (is .0)))) (W .laws .raw-at fullShare (arrayTy E) l 0 (arrayVal
       (is .0))) $
       k (arrayVal (is .0)) (subst (Is (array E) xs) (is .1 .0 .0) is)))

@@ -50,7 +50,8 @@ use Rattle.route.proofs.Step as St
 use Rattle.route.proofs.Step.Laws as St′
 use Rattle.records.specs.Laid.{laid}
 use Rattle.records.proofs.Copied.{copied, length-copied, copied-is}
-use Rattle.records.proofs.Record.{records-of, S, word, records, vals, tells, holds, fails, typed, typed-all, makes}
+use Rattle.records.proofs.Record.{S, word, records, vals, tells, holds, fails, typed, typed-all, makes}
+use Rattle.records.proofs.Record.{records-of}
 use Rattle.records.proofs.Called.{Known, tells as ends-with, meets}
 use Rattle.records.proofs.Locals.{held, sets, all-rooms}
 use Rattle.records.proofs.InArray.{array-out, array-in}
