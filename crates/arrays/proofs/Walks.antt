@@ -27,7 +27,7 @@ use Rattle.route.specs.declared.Step.{Step}
 use Rattle.route.proofs.Step as St
 use Rattle.route.proofs.Step.Laws as St′
 use Rattle.records.proofs.Record.{S, word}
-use Rattle.records.proofs.Locals.{value, all-locals, all-freed, held, sets}
+use Rattle.records.proofs.Locals.{value, sized, slice-sized, all-locals, all-freed, held, sets, points-to}
 use Rattle.records.proofs.LentBoth.{Lending, Passed, Returned, lends-both}
 use Rattle.arrays.proofs.First.{hundred, firstTy, fits, hundreds, typed-all}
 
@@ -114,22 +114,18 @@ module _ {M : Type 1} (𝓤 : URA M) (H : Heap 𝓤) (A : Atoms 𝓤) (W : Given
   calls-one rest Q Kf met ends =
       qed W (raw rest ∷ []) ∵ enter ! C Λ (body-one τ τ₇ k) (vint w64 p ∷ val a ∷ vint w64 n ∷ vint w64 q ∷ val b ∷
       vint w64 m ∷ v₇ ∷ []) _ $ all-locals ! _ (λ l. params1 ! $
-      pass1 ! (init ! 24 refl (tt, record { fits = fits-p })) $
+      pass1 ! (init ! 24 refl (sized fits-p)) $
       pass1 ! (init ! 22 refl (typed-all 𝓤 H A W a (val a) is-a)) $
-      pass1 ! (init ! 20 refl (tt, record { fits = fits n few₀ })) $
-      pass1 ! (init ! 18 refl (tt, record { fits = fits-q })) $
+      pass1 ! (init ! 20 refl (sized (fits n few₀))) $
+      pass1 ! (init ! 18 refl (sized fits-q)) $
       pass1 ! (init ! 16 refl (typed-all 𝓤 H A W b (val b) is-b)) $
-      pass1 ! (init ! 14 refl (tt, record { fits = fits m few₁ })) $
+      pass1 ! (init ! 14 refl (sized (fits m few₁))) $
       pass1 ! (init ! 12 refl wt₇) $ pass0 ! $
       -- both arrays are put away, and the first records of each are pointed to
       sets ! (of-opd ! (held ! 22 refl)) 10 refl (typed-all 𝓤 H A W a (val a) is-a) $
       sets ! (of-opd ! (held ! 16 refl)) 8 refl (typed-all 𝓤 H A W b (val b) is-b) $
-      sets ! (addr ! (from ! (stop !))) 6 refl (tt, tt) $
-      sets ! (agg ! (and-then ! (held ! 6 refl) (and-then ! (held ! 20 refl) (no-more !)))) 4 refl
-      (tt, (tt, (record { fits = fits n few₀ }, tt))) $
-      sets ! (addr ! (from ! (stop !))) 2 refl (tt, tt) $
-      sets ! (agg ! (and-then ! (held ! 2 refl) (and-then ! (held ! 14 refl) (no-more !)))) 0 refl
-      (tt, (tt, (record { fits = fits m few₁ }, tt))) $
+      points-to ! 6 refl refl (tt, tt) 4 refl (held ! 20 refl) (slice-sized (fits n few₀)) $
+      points-to ! 2 refl refl (tt, tt) 0 refl (held ! 14 refl) (slice-sized (fits m few₁)) $
       -- both lists and what else is owned go to the callee
       nothing ! $ move ! (11 ∷ 9 ∷ 29 ∷ 0 ∷ []) $
       lends-both W (hundreds 𝓤 H A W) a b n m C Λ fm few₀ few₁ (val a) (val b) is-a is-b _ _ k τ _ _ _ rest (‵ ftrue) Q
@@ -147,22 +143,18 @@ module _ {M : Type 1} (𝓤 : URA M) (H : Heap 𝓤) (A : Atoms 𝓤) (W : Given
   calls-two τ₈ v₈ wt₈ rest Q Kf met ends =
       qed W (raw rest ∷ []) ∵ enter ! C Λ (body-two τ τ₇ τ₈ k) (vint w64 p ∷ val a ∷ vint w64 n ∷ vint w64 q ∷ val b ∷
       vint w64 m ∷ v₇ ∷ v₈ ∷ []) _ $ all-locals ! _ (λ l. params1 ! $
-      pass1 ! (init ! 26 refl (tt, record { fits = fits-p })) $
+      pass1 ! (init ! 26 refl (sized fits-p)) $
       pass1 ! (init ! 24 refl (typed-all 𝓤 H A W a (val a) is-a)) $
-      pass1 ! (init ! 22 refl (tt, record { fits = fits n few₀ })) $
-      pass1 ! (init ! 20 refl (tt, record { fits = fits-q })) $
+      pass1 ! (init ! 22 refl (sized (fits n few₀))) $
+      pass1 ! (init ! 20 refl (sized fits-q)) $
       pass1 ! (init ! 18 refl (typed-all 𝓤 H A W b (val b) is-b)) $
-      pass1 ! (init ! 16 refl (tt, record { fits = fits m few₁ })) $
+      pass1 ! (init ! 16 refl (sized (fits m few₁))) $
       pass1 ! (init ! 14 refl wt₇) $ pass1 ! (init ! 12 refl wt₈) $ pass0 ! $
       -- both arrays are put away, and the first records of each are pointed to
       sets ! (of-opd ! (held ! 24 refl)) 10 refl (typed-all 𝓤 H A W a (val a) is-a) $
       sets ! (of-opd ! (held ! 18 refl)) 8 refl (typed-all 𝓤 H A W b (val b) is-b) $
-      sets ! (addr ! (from ! (stop !))) 6 refl (tt, tt) $
-      sets ! (agg ! (and-then ! (held ! 6 refl) (and-then ! (held ! 22 refl) (no-more !)))) 4 refl
-      (tt, (tt, (record { fits = fits n few₀ }, tt))) $
-      sets ! (addr ! (from ! (stop !))) 2 refl (tt, tt) $
-      sets ! (agg ! (and-then ! (held ! 2 refl) (and-then ! (held ! 16 refl) (no-more !)))) 0 refl
-      (tt, (tt, (record { fits = fits m few₁ }, tt))) $
+      points-to ! 6 refl refl (tt, tt) 4 refl (held ! 22 refl) (slice-sized (fits n few₀)) $
+      points-to ! 2 refl refl (tt, tt) 0 refl (held ! 16 refl) (slice-sized (fits m few₁)) $
       -- both lists and what else is owned go to the callee
       nothing ! $ move ! (11 ∷ 9 ∷ 31 ∷ 0 ∷ []) $
       lends-both W (hundreds 𝓤 H A W) a b n m C Λ fm few₀ few₁ (val a) (val b) is-a is-b _ _ k τ _ _ _ rest (‵ ftrue) Q
@@ -181,27 +173,23 @@ module _ {M : Type 1} (𝓤 : URA M) (H : Heap 𝓤) (A : Atoms 𝓤) (W : Given
   calls-mut e o j room rest Q Kf met ends =
       qed W (raw rest ∷ []) ∵ enter ! C Λ (body-mut τ τ₇ k) (vint w64 p ∷ val a ∷ vint w64 n ∷ vint w64 q ∷ val b ∷
       vint w64 m ∷ v₇ ∷ sliceVal (e, o) j ∷ []) _ $ all-locals ! _ (λ l. params1 ! $
-      pass1 ! (init ! 30 refl (tt, record { fits = fits-p })) $
+      pass1 ! (init ! 30 refl (sized fits-p)) $
       pass1 ! (init ! 28 refl (typed-all 𝓤 H A W a (val a) is-a)) $
-      pass1 ! (init ! 26 refl (tt, record { fits = fits n few₀ })) $
-      pass1 ! (init ! 24 refl (tt, record { fits = fits-q })) $
+      pass1 ! (init ! 26 refl (sized (fits n few₀))) $
+      pass1 ! (init ! 24 refl (sized fits-q)) $
       pass1 ! (init ! 22 refl (typed-all 𝓤 H A W b (val b) is-b)) $
-      pass1 ! (init ! 20 refl (tt, record { fits = fits m few₁ })) $
-      pass1 ! (init ! 18 refl wt₇) $ pass1 ! (init ! 16 refl (tt, (tt, (record { fits = room }, tt)))) $ pass0 ! $
+      pass1 ! (init ! 20 refl (sized (fits m few₁))) $
+      pass1 ! (init ! 18 refl wt₇) $ pass1 ! (init ! 16 refl (slice-sized room)) $ pass0 ! $
       -- both arrays are put away, and the first records of each are pointed to
       sets ! (of-opd ! (held ! 28 refl)) 14 refl (typed-all 𝓤 H A W a (val a) is-a) $
       sets ! (of-opd ! (held ! 22 refl)) 12 refl (typed-all 𝓤 H A W b (val b) is-b) $
-      sets ! (addr ! (from ! (stop !))) 10 refl (tt, tt) $
-      sets ! (agg ! (and-then ! (held ! 10 refl) (and-then ! (held ! 26 refl) (no-more !)))) 8 refl
-      (tt, (tt, (record { fits = fits n few₀ }, tt))) $
-      sets ! (addr ! (from ! (stop !))) 6 refl (tt, tt) $
-      sets ! (agg ! (and-then ! (held ! 6 refl) (and-then ! (held ! 20 refl) (no-more !)))) 4 refl
-      (tt, (tt, (record { fits = fits m few₁ }, tt))) $
+      points-to ! 10 refl refl (tt, tt) 8 refl (held ! 26 refl) (slice-sized (fits n few₀)) $
+      points-to ! 6 refl refl (tt, tt) 4 refl (held ! 20 refl) (slice-sized (fits m few₁)) $
       -- the bytes are lent on
       sets ! (addr ! (from ! (fld ! refl (hop ! (look-in ! 16 (sub ! 0 refl (whole !))) (stop !))))) 2 refl
       (tt, tt) $
       sets ! (agg ! (and-then ! (held ! 2 refl) (and-then ! (load ! (from ! (fld ! refl (stop !)))
-      (look-in ! 16 (sub ! 1 refl (whole !)))) (no-more !)))) 0 refl (tt, (tt, (record { fits = room }, tt))) $
+      (look-in ! 16 (sub ! 1 refl (whole !)))) (no-more !)))) 0 refl (slice-sized room) $
       -- both lists and what else is owned go to the callee
       nothing ! $ move ! (15 ∷ 13 ∷ 35 ∷ 0 ∷ []) $
       lends-both W (hundreds 𝓤 H A W) a b n m C Λ fm few₀ few₁ (val a) (val b) is-a is-b _ _ k τ _ _ _ rest (‵ ftrue) Q

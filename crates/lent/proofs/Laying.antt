@@ -43,7 +43,7 @@ use Rattle.route.specs.declared.Step.{Step}
 use Rattle.route.specs.Flat.{Laid}
 use Rattle.route.proofs.Step as St
 use Rattle.records.proofs.Called.{told}
-use Rattle.records.proofs.Locals.{value, all-locals, all-freed, held, sets}
+use Rattle.records.proofs.Locals.{value, sized, slice-sized, all-locals, all-freed, held, sets, points-to}
 use Rattle.records.proofs.InArray.{Elements, array-out, array-in}
 use Rattle.records.proofs.LentRow.{lentRow, mutRow, lends-mut, mut-back}
 use Rattle.records.proofs.LentBoth.{Lending, Passed, Returned, lends-both}
@@ -319,66 +319,35 @@ module _ {M : Type 1} (𝓤 : URA M) (H : Heap 𝓤) (A : Atoms 𝓤) (W : Given
     calls-one rest Q Kf met ends =
         qed W (Entered 𝓤 H A W C Λ κ₀ κ₁ q₀ q₁ p₀ p₁ x₀ x₁ c rest) ∵ enter ! C Λ (body-one τ τ₅ (reads c) k)
         (vint w64 p₀ ∷ val x₀ ∷ vint w64 p₁ ∷ val x₁ ∷ v₅ ∷ []) _ $ all-locals ! _ (λ l. params1 ! $
-        pass1 ! (init ! 32 refl (tt, record { fits = fits₀ })) $ pass1 ! (init ! 30 refl (
-          tt,
-          (
-            tt,
-            (
-              record {
-                fits =
-                    room₀;
-              },
-              tt,
-            ),
-          ),
-        )) $
-        pass1 ! (init ! 28 refl (tt, record { fits = fits₁ })) $ pass1 ! (init ! 26 refl (
-          tt,
-          (
-            tt,
-            (
-              record {
-                fits =
-                    room₁;
-              },
-              tt,
-            ),
-          ),
-        )) $
+        pass1 ! (init ! 32 refl (sized fits₀)) $ pass1 ! (init ! 30 refl (slice-sized room₀)) $
+        pass1 ! (init ! 28 refl (sized fits₁)) $ pass1 ! (init ! 26 refl (slice-sized room₁)) $
         pass1 ! (init ! 24 refl wt₅) $ pass0 ! $
         sets ! (rep ! 260 (lit ! tt)) 22 refl (zeros-typed 𝓤 H A W) $
         sets ! (rep ! 260 (lit ! tt)) 20 refl (zeros-typed 𝓤 H A W) $
         -- the first list is laid
-        sets ! (addr ! (from ! (stop !))) 14 refl (tt, tt) $
-        sets ! (agg ! (and-then ! (held ! 14 refl) (and-then ! (lit ! tt) (no-more !)))) 12 refl
-        (tt, (tt, (record { fits = lit< tt }, tt))) $
+        points-to ! 14 refl refl (tt, tt) 12 refl (lit ! tt) (slice-sized (lit< tt)) $
         move ! (36 ∷ 37 ∷ 38 ∷ 39 ∷ 22 ∷ []) $
         lays-which κ₀ κ₁ q₀ q₁ x₀ x₁ (c .0) _ ! (λ i₀ i₁ i₂ i₃ i₄. and-then ! (either (c .0) val x₀ x₁
         (held ! 34 refl) (held ! 30 refl)) (and-then ! (held ! 17 refl) (no-more !))) (λ n a va laid-a is-a.
-        land ! (from ! (stop !)) (init ! 23 refl (tt, record { fits = below n (laid-a .within) })) $
+        land ! (from ! (stop !)) (init ! 23 refl (sized (below n (laid-a .within)))) $
         -- and the second
-        sets ! (addr ! (from ! (stop !))) 15 refl (tt, tt) $
-        sets ! (agg ! (and-then ! (held ! 15 refl) (and-then ! (lit ! tt) (no-more !)))) 13 refl
-        (tt, (tt, (record { fits = lit< tt }, tt))) $ move ! (0 ∷ 1 ∷ 2 ∷ 3 ∷ 25 ∷ []) $
+        points-to ! 15 refl refl (tt, tt) 13 refl (lit ! tt) (slice-sized (lit< tt)) $
+        move ! (0 ∷ 1 ∷ 2 ∷ 3 ∷ 25 ∷ []) $
         lays-which κ₀ κ₁ q₀ q₁ x₀ x₁ (c .1 .0) _ ! (λ i₀ i₁ i₂ i₃ i₄. and-then ! (either (c .1 .0) val x₀ x₁
         (held ! 34 refl) (held ! 30 refl)) (and-then ! (held ! 14 refl) (no-more !))) (λ m b vb laid-b is-b.
-        land ! (from ! (stop !)) (init ! 22 refl (tt, record { fits = below m (laid-b .within) })) $
+        land ! (from ! (stop !)) (init ! 22 refl (sized (below m (laid-b .within)))) $
         -- what is laid is pointed to
-        sets ! (addr ! (from ! (stop !))) 12 refl (tt, tt) $
-        sets ! (agg ! (and-then ! (held ! 12 refl) (and-then ! (held ! 24 refl) (no-more !)))) 10 refl
-        (tt, (tt, (record { fits = below n (laid-a .within) }, tt))) $
-        sets ! (addr ! (from ! (stop !))) 8 refl (tt, tt) $
-        sets ! (agg ! (and-then ! (held ! 8 refl) (and-then ! (held ! 22 refl) (no-more !)))) 6 refl
-        (tt, (tt, (record { fits = below m (laid-b .within) }, tt))) $
+        points-to ! 12 refl refl (tt, tt) 10 refl (held ! 24 refl) (slice-sized (below n (laid-a .within))) $
+        points-to ! 8 refl refl (tt, tt) 6 refl (held ! 22 refl) (slice-sized (below m (laid-b .within))) $
         -- and lent with all else that is owned
         group ! 2 $ move ! (4 ∷ 3 ∷ 39 ∷ 0 ∷ []) $
         lends-both W (numbers 𝓤 H A W) a b n m C Λ fm (laid-a .within) (laid-b .within) va vb is-a is-b _ _ k τ _ _ _
         rest
         (‵ (flft κ₀ q₀) ⊛ ‵ (flft κ₁ q₁)) (Q (laying laid-a laid-b)) Kf ! (met (laying laid-a laid-b))
         (ends (laying laid-a laid-b)) (λ i₀ i₁ i₂ i₃ i₄ i₅. and-then !
-        (either (c .1 .1 .0) (λ (p : ℕ). vint w64 p) p₀ p₁ (held ! 38 refl) (held ! 34 refl))
+        (either (c .1 .1 .0) (vint w64) p₀ p₁ (held ! 38 refl) (held ! 34 refl))
         (and-then ! (held ! 12 refl) (and-then !
-        (either (c .1 .1 .1) (λ (p : ℕ). vint w64 p) p₀ p₁ (held ! 38 refl) (held ! 34 refl))
+        (either (c .1 .1 .1) (vint w64) p₀ p₁ (held ! 38 refl) (held ! 34 refl))
         (and-then ! (held ! 8 refl) (and-then ! (held ! 30 refl) (no-more !)))))) (λ v typed u w.
         land ! (from ! (stop !)) (init ! 37 refl typed) $ returns ! (look ! 37 refl) $
         move ! (37 ∷ 38 ∷ 35 ∷ 36 ∷ 33 ∷ 34 ∷ 31 ∷ 32 ∷ 29 ∷ 30 ∷ 27 ∷ 28 ∷ 1 ∷ 26 ∷ 2 ∷ 25 ∷ 23 ∷ 24 ∷ 21 ∷ 22 ∷ 19 ∷
@@ -391,66 +360,35 @@ module _ {M : Type 1} (𝓤 : URA M) (H : Heap 𝓤) (A : Atoms 𝓤) (W : Given
     calls-two τ₆ v₆ wt₆ rest Q Kf met ends =
         qed W (Entered 𝓤 H A W C Λ κ₀ κ₁ q₀ q₁ p₀ p₁ x₀ x₁ c rest) ∵ enter ! C Λ (body-two τ τ₅ τ₆ (reads c) k)
         (vint w64 p₀ ∷ val x₀ ∷ vint w64 p₁ ∷ val x₁ ∷ v₅ ∷ v₆ ∷ []) _ $ all-locals ! _ (λ l. params1 ! $
-        pass1 ! (init ! 34 refl (tt, record { fits = fits₀ })) $ pass1 ! (init ! 32 refl (
-          tt,
-          (
-            tt,
-            (
-              record {
-                fits =
-                    room₀;
-              },
-              tt,
-            ),
-          ),
-        )) $
-        pass1 ! (init ! 30 refl (tt, record { fits = fits₁ })) $ pass1 ! (init ! 28 refl (
-          tt,
-          (
-            tt,
-            (
-              record {
-                fits =
-                    room₁;
-              },
-              tt,
-            ),
-          ),
-        )) $
+        pass1 ! (init ! 34 refl (sized fits₀)) $ pass1 ! (init ! 32 refl (slice-sized room₀)) $
+        pass1 ! (init ! 30 refl (sized fits₁)) $ pass1 ! (init ! 28 refl (slice-sized room₁)) $
         pass1 ! (init ! 26 refl wt₅) $ pass1 ! (init ! 24 refl wt₆) $ pass0 ! $
         sets ! (rep ! 260 (lit ! tt)) 22 refl (zeros-typed 𝓤 H A W) $
         sets ! (rep ! 260 (lit ! tt)) 20 refl (zeros-typed 𝓤 H A W) $
         -- the first list is laid
-        sets ! (addr ! (from ! (stop !))) 14 refl (tt, tt) $
-        sets ! (agg ! (and-then ! (held ! 14 refl) (and-then ! (lit ! tt) (no-more !)))) 12 refl
-        (tt, (tt, (record { fits = lit< tt }, tt))) $
+        points-to ! 14 refl refl (tt, tt) 12 refl (lit ! tt) (slice-sized (lit< tt)) $
         move ! (38 ∷ 39 ∷ 40 ∷ 41 ∷ 22 ∷ []) $
         lays-which κ₀ κ₁ q₀ q₁ x₀ x₁ (c .0) _ ! (λ i₀ i₁ i₂ i₃ i₄. and-then ! (either (c .0) val x₀ x₁
         (held ! 36 refl) (held ! 32 refl)) (and-then ! (held ! 17 refl) (no-more !))) (λ n a va laid-a is-a.
-        land ! (from ! (stop !)) (init ! 23 refl (tt, record { fits = below n (laid-a .within) })) $
+        land ! (from ! (stop !)) (init ! 23 refl (sized (below n (laid-a .within)))) $
         -- and the second
-        sets ! (addr ! (from ! (stop !))) 15 refl (tt, tt) $
-        sets ! (agg ! (and-then ! (held ! 15 refl) (and-then ! (lit ! tt) (no-more !)))) 13 refl
-        (tt, (tt, (record { fits = lit< tt }, tt))) $ move ! (0 ∷ 1 ∷ 2 ∷ 3 ∷ 25 ∷ []) $
+        points-to ! 15 refl refl (tt, tt) 13 refl (lit ! tt) (slice-sized (lit< tt)) $
+        move ! (0 ∷ 1 ∷ 2 ∷ 3 ∷ 25 ∷ []) $
         lays-which κ₀ κ₁ q₀ q₁ x₀ x₁ (c .1 .0) _ ! (λ i₀ i₁ i₂ i₃ i₄. and-then ! (either (c .1 .0) val x₀ x₁
         (held ! 36 refl) (held ! 32 refl)) (and-then ! (held ! 14 refl) (no-more !))) (λ m b vb laid-b is-b.
-        land ! (from ! (stop !)) (init ! 22 refl (tt, record { fits = below m (laid-b .within) })) $
+        land ! (from ! (stop !)) (init ! 22 refl (sized (below m (laid-b .within)))) $
         -- what is laid is pointed to
-        sets ! (addr ! (from ! (stop !))) 12 refl (tt, tt) $
-        sets ! (agg ! (and-then ! (held ! 12 refl) (and-then ! (held ! 24 refl) (no-more !)))) 10 refl
-        (tt, (tt, (record { fits = below n (laid-a .within) }, tt))) $
-        sets ! (addr ! (from ! (stop !))) 8 refl (tt, tt) $
-        sets ! (agg ! (and-then ! (held ! 8 refl) (and-then ! (held ! 22 refl) (no-more !)))) 6 refl
-        (tt, (tt, (record { fits = below m (laid-b .within) }, tt))) $
+        points-to ! 12 refl refl (tt, tt) 10 refl (held ! 24 refl) (slice-sized (below n (laid-a .within))) $
+        points-to ! 8 refl refl (tt, tt) 6 refl (held ! 22 refl) (slice-sized (below m (laid-b .within))) $
         -- and lent with all else that is owned
         group ! 2 $ move ! (4 ∷ 3 ∷ 41 ∷ 0 ∷ []) $
         lends-both W (numbers 𝓤 H A W) a b n m C Λ fm (laid-a .within) (laid-b .within) va vb is-a is-b _ _ k τ _ _ _
         rest
         (‵ (flft κ₀ q₀) ⊛ ‵ (flft κ₁ q₁)) (Q (laying laid-a laid-b)) Kf ! (met (laying laid-a laid-b))
         (ends (laying laid-a laid-b)) (λ i₀ i₁ i₂ i₃ i₄ i₅. and-then !
-        (either (c .1 .1 .0) (λ (p : ℕ). vint w64 p) p₀ p₁ (held ! 40 refl) (held ! 36 refl))
+        (either (c .1 .1 .0) (vint w64) p₀ p₁ (held ! 40 refl) (held ! 36 refl))
         (and-then ! (held ! 12 refl) (and-then !
-        (either (c .1 .1 .1) (λ (p : ℕ). vint w64 p) p₀ p₁ (held ! 40 refl) (held ! 36 refl))
+        (either (c .1 .1 .1) (vint w64) p₀ p₁ (held ! 40 refl) (held ! 36 refl))
         (and-then ! (held ! 8 refl) (and-then ! (held ! 32 refl) (and-then ! (held ! 30 refl) (no-more !))))))) (λ v
         typed u w.
         land ! (from ! (stop !)) (init ! 39 refl typed) $ returns ! (look ! 39 refl) $
@@ -464,71 +402,40 @@ module _ {M : Type 1} (𝓤 : URA M) (H : Heap 𝓤) (A : Atoms 𝓤) (W : Given
     calls-mut e o j room₆ rest Q Kf met ends =
         qed W (Entered 𝓤 H A W C Λ κ₀ κ₁ q₀ q₁ p₀ p₁ x₀ x₁ c rest) ∵ enter ! C Λ (body-mut τ τ₅ (reads c) k)
         (vint w64 p₀ ∷ val x₀ ∷ vint w64 p₁ ∷ val x₁ ∷ v₅ ∷ sliceVal (e, o) j ∷ []) _ $ all-locals ! _ (λ l. params1 ! $
-        pass1 ! (init ! 38 refl (tt, record { fits = fits₀ })) $ pass1 ! (init ! 36 refl (
-          tt,
-          (
-            tt,
-            (
-              record {
-                fits =
-                    room₀;
-              },
-              tt,
-            ),
-          ),
-        )) $
-        pass1 ! (init ! 34 refl (tt, record { fits = fits₁ })) $ pass1 ! (init ! 32 refl (
-          tt,
-          (
-            tt,
-            (
-              record {
-                fits =
-                    room₁;
-              },
-              tt,
-            ),
-          ),
-        )) $
-        pass1 ! (init ! 30 refl wt₅) $ pass1 ! (init ! 28 refl (tt, (tt, (record { fits = room₆ }, tt)))) $ pass0 ! $
+        pass1 ! (init ! 38 refl (sized fits₀)) $ pass1 ! (init ! 36 refl (slice-sized room₀)) $
+        pass1 ! (init ! 34 refl (sized fits₁)) $ pass1 ! (init ! 32 refl (slice-sized room₁)) $
+        pass1 ! (init ! 30 refl wt₅) $ pass1 ! (init ! 28 refl (slice-sized room₆)) $ pass0 ! $
         sets ! (rep ! 260 (lit ! tt)) 26 refl (zeros-typed 𝓤 H A W) $
         sets ! (rep ! 260 (lit ! tt)) 24 refl (zeros-typed 𝓤 H A W) $
         -- the first list is laid
-        sets ! (addr ! (from ! (stop !))) 18 refl (tt, tt) $
-        sets ! (agg ! (and-then ! (held ! 18 refl) (and-then ! (lit ! tt) (no-more !)))) 16 refl
-        (tt, (tt, (record { fits = lit< tt }, tt))) $
+        points-to ! 18 refl refl (tt, tt) 16 refl (lit ! tt) (slice-sized (lit< tt)) $
         move ! (42 ∷ 43 ∷ 44 ∷ 45 ∷ 26 ∷ []) $
         lays-which κ₀ κ₁ q₀ q₁ x₀ x₁ (c .0) _ ! (λ i₀ i₁ i₂ i₃ i₄. and-then ! (either (c .0) val x₀ x₁
         (held ! 40 refl) (held ! 36 refl)) (and-then ! (held ! 21 refl) (no-more !))) (λ n a va laid-a is-a.
-        land ! (from ! (stop !)) (init ! 27 refl (tt, record { fits = below n (laid-a .within) })) $
+        land ! (from ! (stop !)) (init ! 27 refl (sized (below n (laid-a .within)))) $
         -- and the second
-        sets ! (addr ! (from ! (stop !))) 19 refl (tt, tt) $
-        sets ! (agg ! (and-then ! (held ! 19 refl) (and-then ! (lit ! tt) (no-more !)))) 17 refl
-        (tt, (tt, (record { fits = lit< tt }, tt))) $ move ! (0 ∷ 1 ∷ 2 ∷ 3 ∷ 29 ∷ []) $
+        points-to ! 19 refl refl (tt, tt) 17 refl (lit ! tt) (slice-sized (lit< tt)) $
+        move ! (0 ∷ 1 ∷ 2 ∷ 3 ∷ 29 ∷ []) $
         lays-which κ₀ κ₁ q₀ q₁ x₀ x₁ (c .1 .0) _ ! (λ i₀ i₁ i₂ i₃ i₄. and-then ! (either (c .1 .0) val x₀ x₁
         (held ! 40 refl) (held ! 36 refl)) (and-then ! (held ! 18 refl) (no-more !))) (λ m b vb laid-b is-b.
-        land ! (from ! (stop !)) (init ! 26 refl (tt, record { fits = below m (laid-b .within) })) $
+        land ! (from ! (stop !)) (init ! 26 refl (sized (below m (laid-b .within)))) $
         -- what is laid is pointed to
-        sets ! (addr ! (from ! (stop !))) 16 refl (tt, tt) $
-        sets ! (agg ! (and-then ! (held ! 16 refl) (and-then ! (held ! 28 refl) (no-more !)))) 14 refl
-        (tt, (tt, (record { fits = below n (laid-a .within) }, tt))) $
-        sets ! (addr ! (from ! (stop !))) 12 refl (tt, tt) $
-        sets ! (agg ! (and-then ! (held ! 12 refl) (and-then ! (held ! 26 refl) (no-more !)))) 10 refl
-        (tt, (tt, (record { fits = below m (laid-b .within) }, tt))) $
+        points-to ! 16 refl refl (tt, tt) 14 refl (held ! 28 refl) (slice-sized (below n (laid-a .within))) $
+        points-to ! 12 refl refl (tt, tt) 10 refl (held ! 26 refl) (slice-sized (below m (laid-b .within))) $
         -- the bytes are lent on
         sets ! (addr ! (from ! (fld ! refl (hop ! (look-in ! 32 (sub ! 0 refl (whole !))) (stop !))))) 8 refl
         (tt, tt) $
         sets ! (agg ! (and-then ! (held ! 8 refl) (and-then ! (load ! (from ! (fld ! refl (stop !)))
-        (look-in ! 32 (sub ! 1 refl (whole !)))) (no-more !)))) 6 refl (tt, (tt, (record { fits = room₆ }, tt))) $
+        (look-in ! 32 (sub ! 1 refl (whole !)))) (no-more !)))) 6 refl (slice-sized room₆) $
         -- and lent with all else that is owned
         group ! 2 $ move ! (4 ∷ 3 ∷ 45 ∷ 0 ∷ []) $
         lends-both W (numbers 𝓤 H A W) a b n m C Λ fm (laid-a .within) (laid-b .within) va vb is-a is-b _ _ k τ _ _ _
         rest
         (‵ (flft κ₀ q₀) ⊛ ‵ (flft κ₁ q₁)) (Q (laying laid-a laid-b)) Kf ! (met (laying laid-a laid-b))
         (ends (laying laid-a laid-b)) (λ i₀ i₁ i₂ i₃ i₄ i₅. and-then !
-        (either (c .1 .1 .0) (λ (p : ℕ). vint w64 p) p₀ p₁ (held ! 44 refl) (held ! 40 refl))
+        (either (c .1 .1 .0) (vint w64) p₀ p₁ (held ! 44 refl) (held ! 40 refl))
         (and-then ! (held ! 16 refl) (and-then !
-        (either (c .1 .1 .1) (λ (p : ℕ). vint w64 p) p₀ p₁ (held ! 44 refl) (held ! 40 refl))
+        (either (c .1 .1 .1) (vint w64) p₀ p₁ (held ! 44 refl) (held ! 40 refl))
         (and-then ! (held ! 12 refl) (and-then ! (held ! 36 refl) (and-then ! (held ! 8 refl) (no-more !))))))) (λ v
         typed u w.
         land ! (from ! (stop !)) (init ! 43 refl typed) $ returns ! (look ! 43 refl) $
