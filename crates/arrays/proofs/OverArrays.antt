@@ -34,6 +34,7 @@ use denote.Triple.Spec.{Meets}
 use denote.Triple.Clauses.{Clauses, Ended, closing}
 use denote.Triple.Walked.{says as says-so, needs}
 use Rattle.route.specs.declared.Step.{Step}
+use Rattle.records.proofs.Locals.{slice-sized}
 use Rattle.records.proofs.Called.{Known, tells, meets}
 use Rattle.records.proofs.Record.{S, vals, tells as tells-S}
 use Rattle.records.proofs.LentBoth.{Lending, Returned}
@@ -248,7 +249,7 @@ module _ (R : RattleType) {M : Type 1} (𝓤 : URA M) (H : Heap 𝓤) (A : Atoms
       (z .0)))
       (λ κs κ κ′ p a q b z r ws e. e) name (body-one τ namesTy name) 𝓣 known
       (λ p q n m a b fp fq fn fm ia ib κs z are. calls-one 𝓤 H A W (𝓣 .C) (𝓣 .Λ) (fmOf 𝓤 H (W .laws) 𝓣) p q n m a b
-      fp fq fn fm ia ib τ namesTy name _ (tt, (tt, (record { fits = are .0 .0 .1 .0 }, tt))))
+      fp fq fn fm ia ib τ namesTy name _ (slice-sized (are .0 .0 .1 .0)))
 
   pub with-order : (g : Lists Step (List ℕ → List ℕ → R .Denot))
       → Triple 𝓤 (𝓣 .C name) (Known 𝓤 H A (lists S tt R order) (facts S tt R order 𝓤 (order-fact S tt R g)))
@@ -258,8 +259,8 @@ module _ (R : RattleType) {M : Type 1} (𝓤 : URA M) (H : Heap 𝓤) (A : Atoms
       (λ κs p a q b z r e. r ≡ g p a q b (now (z .0)) (now (z .1 .0)))
       (λ κs κ κ′ p a q b z r ws e. e) name (body-two τ namesTy bytesTy name) 𝓣 known
       (λ p q n m a b fp fq fn fm ia ib κs z are. calls-two 𝓤 H A W (𝓣 .C) (𝓣 .Λ) (fmOf 𝓤 H (W .laws) 𝓣) p q n m a b
-      fp fq fn fm ia ib τ namesTy name _ (tt, (tt, (record { fits = are .0 .0 .1 .0 }, tt)))
-      bytesTy _ (tt, (tt, (record { fits = are .1 .0 .0 .1 .0 }, tt))))
+      fp fq fn fm ia ib τ namesTy name _ (slice-sized (are .0 .0 .1 .0))
+      bytesTy _ (slice-sized (are .1 .0 .0 .1 .0)))
 
   pub with-bytes : (g : Lists Step (List ℕ → List ℕ → R .Denot)) (h : Lists Step (List ℕ → List ℕ → List ℕ))
       → Triple 𝓤 (𝓣 .C name) (Known 𝓤 H A (lists S tt R bytes) (facts S tt R bytes 𝓤 (bytes-fact S tt R g h)))
@@ -271,5 +272,5 @@ module _ (R : RattleType) {M : Type 1} (𝓤 : URA M) (H : Heap 𝓤) (A : Atoms
       × (now (e .1 .0) ≡ h p a q b (now (z .0)) (now (z .1 .0))))
       (λ κs κ κ′ p a q b z r ws e. e) name (body-mut τ namesTy name) 𝓣 known
       (λ p q n m a b fp fq fn fm ia ib κs z are. calls-mut 𝓤 H A W (𝓣 .C) (𝓣 .Λ) (fmOf 𝓤 H (W .laws) 𝓣) p q n m a b
-      fp fq fn fm ia ib τ namesTy name _ (tt, (tt, (record { fits = are .0 .0 .1 .0 }, tt)))
+      fp fq fn fm ia ib τ namesTy name _ (slice-sized (are .0 .0 .1 .0))
       (z .1 .0 .ptr .0) (z .1 .0 .ptr .1) _ (are .1 .0 .0 .1 .0))

@@ -36,6 +36,7 @@ use denote.Triple.Clauses.{closing}
 use denote.Triple.Walked.{says as tells-fact}
 use Rattle.route.specs.declared.Step.{Step}
 use Rattle.route.proofs.Step as St
+use Rattle.records.proofs.Locals.{slice-sized}
 use Rattle.records.proofs.Called.{Known, tells, meets}
 use Rattle.records.proofs.LentBoth.{Lending, Returned}
 use Rattle.records.proofs.lay.Symbol.{name as #lay}
@@ -232,7 +233,7 @@ module _ (R : RattleType) {M : Type 1} (𝓤 : URA M) (H : Heap 𝓤) (A : Atoms
       name (body-one τ namesTy (reads c) name) 𝓣 known
       (λ κs q₀ q₁ p₀ p₁ x₀ x₁ f₀ f₁ r₀ r₁ z are. calls-one 𝓤 H A W mem run (𝓣 .C) (𝓣 .Λ) (fmOf 𝓤 H (W .laws) 𝓣)
       known-lay (κs .0) (κs .1 .0) q₀ q₁ p₀ p₁ x₀ x₁ c f₀ f₁ r₀ r₁ τ namesTy name _
-      (tt, (tt, (record { fits = are .0 .0 .1 .0 }, tt)))))
+      (slice-sized (are .0 .0 .1 .0))))
 
   pub with-order : (f : Lists ℕ (List ℕ → List ℕ → R .Denot)) (g : Lists Step (List ℕ → List ℕ → R .Denot))
       → ((p : ℕ) (a : List Step) (q : ℕ) (b : List Step) (y : Laying (pick (c .0) a b) (pick (c .1 .0) a b))
@@ -247,8 +248,8 @@ module _ (R : RattleType) {M : Type 1} (𝓤 : URA M) (H : Heap 𝓤) (A : Atoms
       name (body-two τ namesTy bytesTy (reads c) name) 𝓣 known
       (λ κs q₀ q₁ p₀ p₁ x₀ x₁ f₀ f₁ r₀ r₁ z are. calls-two 𝓤 H A W mem run (𝓣 .C) (𝓣 .Λ) (fmOf 𝓤 H (W .laws) 𝓣)
       known-lay (κs .0) (κs .1 .0) q₀ q₁ p₀ p₁ x₀ x₁ c f₀ f₁ r₀ r₁ τ namesTy name _
-      (tt, (tt, (record { fits = are .0 .0 .1 .0 }, tt)))
-      bytesTy _ (tt, (tt, (record { fits = are .1 .0 .0 .1 .0 }, tt)))))
+      (slice-sized (are .0 .0 .1 .0))
+      bytesTy _ (slice-sized (are .1 .0 .0 .1 .0))))
 
   -- (what is said of the result and of the bytes may be one fact or two)
   pub with-bytes : (s : Lists ℕ (List ℕ → List ℕ → R .Denot → List ℕ → SProp 𝓤))
@@ -268,5 +269,5 @@ module _ (R : RattleType) {M : Type 1} (𝓤 : URA M) (H : Heap 𝓤) (A : Atoms
       name (body-mut τ namesTy (reads c) name) 𝓣 known
       (λ κs q₀ q₁ p₀ p₁ x₀ x₁ f₀ f₁ r₀ r₁ z are. calls-mut 𝓤 H A W mem run (𝓣 .C) (𝓣 .Λ) (fmOf 𝓤 H (W .laws) 𝓣)
       known-lay (κs .0) (κs .1 .0) q₀ q₁ p₀ p₁ x₀ x₁ c f₀ f₁ r₀ r₁ τ namesTy name _
-      (tt, (tt, (record { fits = are .0 .0 .1 .0 }, tt)))
+      (slice-sized (are .0 .0 .1 .0))
       (z .1 .0 .ptr .0) (z .1 .0 .ptr .1) _ (are .1 .0 .0 .1 .0)))

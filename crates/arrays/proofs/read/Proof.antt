@@ -44,7 +44,7 @@ use Rattle.facts.specs.Facts.{readOf}
 use Rattle.records.specs.Laid.{laid}
 use Rattle.records.proofs.Record.{S, word, vals, tells as tells-S, makes}
 use Rattle.records.proofs.Called.{Known, told, tells, meets}
-use Rattle.records.proofs.Locals.{value, all-locals, all-freed, held, sets}
+use Rattle.records.proofs.Locals.{value, all-locals, all-freed, held, sets, sized, slice-sized, points-to}
 use Rattle.lent.specs.declared.Counts.{Counts}
 use Rattle.lent.specs.Reading.{counted}
 use Rattle.lent.proofs.Counts as Ct
@@ -250,24 +250,20 @@ module _ {M : Type 1} (𝓤 : URA M) (H : Heap 𝓤) (A : Atoms 𝓤) (W : Given
     steps is-a few₀ is-b few₁ room room′ =
         qed W Entered ∵ enter ! C Λ function (sv ∷ val a ∷ vint w64 n ∷ val b ∷ vint w64 m ∷ dv ∷ []) _ $
         all-locals ! _ (λ l. params1 ! $
-        pass1 ! (init ! 32 refl (tt, (tt, (record { fits = room }, tt)))) $
+        pass1 ! (init ! 32 refl (slice-sized room)) $
         pass1 ! (init ! 30 refl (typed-all 𝓤 H A W a (val a) is-a)) $
-        pass1 ! (init ! 28 refl (tt, record { fits = fits n few₀ })) $
+        pass1 ! (init ! 28 refl (sized (fits n few₀))) $
         pass1 ! (init ! 26 refl (typed-all 𝓤 H A W b (val b) is-b)) $
-        pass1 ! (init ! 24 refl (tt, record { fits = fits m few₁ })) $
-        pass1 ! (init ! 22 refl (tt, (tt, (record { fits = room′ }, tt)))) $ pass0 ! $
+        pass1 ! (init ! 24 refl (sized (fits m few₁))) $
+        pass1 ! (init ! 22 refl (slice-sized room′)) $ pass0 ! $
         -- both arrays are put away, the first records of each are pointed to, and the names are lent on
         sets ! (of-opd ! (held ! 30 refl)) 20 refl (typed-all 𝓤 H A W a (val a) is-a) $
         sets ! (of-opd ! (held ! 26 refl)) 18 refl (typed-all 𝓤 H A W b (val b) is-b) $
-        sets ! (addr ! (from ! (stop !))) 14 refl (tt, tt) $
-        sets ! (agg ! (and-then ! (held ! 14 refl) (and-then ! (held ! 28 refl) (no-more !)))) 12 refl
-        (tt, (tt, (record { fits = fits n few₀ }, tt))) $
-        sets ! (addr ! (from ! (stop !))) 10 refl (tt, tt) $
-        sets ! (agg ! (and-then ! (held ! 10 refl) (and-then ! (held ! 24 refl) (no-more !)))) 8 refl
-        (tt, (tt, (record { fits = fits m few₁ }, tt))) $
+        points-to ! 14 refl refl (tt, tt) 12 refl (held ! 28 refl) (slice-sized (fits n few₀)) $
+        points-to ! 10 refl refl (tt, tt) 8 refl (held ! 24 refl) (slice-sized (fits m few₁)) $
         sets ! (addr ! (from ! (fld ! refl (hop ! (look-in ! 22 (sub ! 0 refl (whole !))) (stop !))))) 6 refl (tt, tt) $
         sets ! (agg ! (and-then ! (held ! 6 refl) (and-then ! (load ! (from ! (fld ! refl (stop !)))
-        (look-in ! 22 (sub ! 1 refl (whole !)))) (no-more !)))) 4 refl (tt, (tt, (record { fits = room′ }, tt))) $
+        (look-in ! 22 (sub ! 1 refl (whole !)))) (no-more !)))) 4 refl (slice-sized room′) $
         lft-new ! tt (λ α. lft-new ! tt (λ β.
         move ! (22 ∷ []) $ lends-first-mut W (hundreds 𝓤 H A W) a n _ ! tt (val a) is-a (α ∷ []) few₀ (λ γ.
         move ! (23 ∷ []) $ lends-first-mut W (hundreds 𝓤 H A W) b m _ ! tt (val b) is-b (β ∷ []) few₁ (λ δ.

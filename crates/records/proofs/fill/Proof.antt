@@ -53,7 +53,7 @@ use Rattle.records.proofs.Copied.{copied, length-copied, copied-is}
 use Rattle.records.proofs.Record.{S, word, records, vals, tells, holds, fails, typed, typed-all, makes}
 use Rattle.records.proofs.Record.{records-of}
 use Rattle.records.proofs.Called.{Known, tells as ends-with, meets}
-use Rattle.records.proofs.Locals.{held, sets, all-rooms}
+use Rattle.records.proofs.Locals.{held, sets, all-rooms, sized, slice-sized}
 use Rattle.records.proofs.InArray.{array-out, array-in}
 use Rattle.records.proofs.CountedLoop.{counted-loop}
 use Rattle.records.proofs.fill.Key.{name as #records·fill}
@@ -160,7 +160,7 @@ module _ {M : Type 1} (𝓤 : URA M) (H : Heap 𝓤) (A : Atoms 𝓤) (W : Given
         rewrite ! 3 (λ (t : Bool). ‵ (fat fullShare tyBool l₆ 0 (vbool t))) (holds (ltb i n) (lt→ltb i n lt)) refl $
         stays ! (held ! 3 refl) $
         sets ! (bin ! (held ! 2 refl) (lit ! tt) (record { fits = offset-fits })) 4 refl
-        (tt, record { fits = offset-fits }) $
+        (sized offset-fits) $
         sets ! (addr ! (from ! (stop !))) 5 refl (tt, tt) $
         sets ! (bin ! (held ! 5 refl) (held ! 4 refl) tt) 6 refl (tt, tt) $
         rewrite ! 6 (λ (k : ℕ). ‵ (fat fullShare tyPtr l₉ 0 (vptr l₄ k))) (sym (place-is 32 0 i)) refl $
@@ -171,7 +171,7 @@ module _ {M : Type 1} (𝓤 : URA M) (H : Heap 𝓤) (A : Atoms 𝓤) (W : Given
         (getD xs i blank) _ is) $
         elem-back ! S fullShare xs i blank (vals (getD xs i blank)) l₄ 0 in-array $
         sets ! (bin ! (held ! 2 refl) (lit ! tt) (record { fits = offset-fits })) 8 refl
-        (tt, record { fits = offset-fits }) $
+        (sized offset-fits) $
         sets ! (bin ! (load ! (from ! (fld ! refl (stop !))) (look-in ! 10 (sub ! 0 refl (whole !))))
         (held ! 8 refl) tt) 9 refl (tt, tt) $
         rewrite ! 9 (λ (k : ℕ). ‵ (fat fullShare tyPtr l₁₂ 0 (vptr b k))) (sym (place-is 32 o i)) refl $
@@ -184,7 +184,7 @@ module _ {M : Type 1} (𝓤 : URA M) (H : Heap 𝓤) (A : Atoms 𝓤) (W : Given
         move ! (1 ∷ 0 ∷ []) $
         elem-put ! S fullShare (copied ys xs i) i (getD xs i blank) (vals (getD xs i blank)) b o in-list $
         assigns-last ! (bin ! (held ! 2 refl) (lit ! tt) (record { fits = next-fits })) (from ! (stop !))
-        (store ! 2 refl (tt, record { fits = next-fits })) $
+        (store ! 2 refl (sized next-fits)) $
         forget ! 3 refl $ forget ! 4 refl $ forget ! 5 refl $ forget ! 6 refl $ forget ! 7 refl $ forget ! 8 refl $
         forget ! 9 refl $
         rewrite ! 2 (λ (j : ℕ). ‵ (fat fullShare word l₅ 0 (vint w64 j))) (add-one i) refl $ by ! k))
@@ -241,11 +241,11 @@ module _ {M : Type 1} (𝓤 : URA M) (H : Heap 𝓤) (A : Atoms 𝓤) (W : Given
       alloc1 ! (λ l₀. alloc1 ! (λ l₁. alloc1 ! (λ l₂. alloc1 ! (λ l₃. alloc1 ! (λ l₄. alloc1 ! (λ l₅. alloc1 !
       (λ l₆. alloc1 ! (λ l₇. alloc1 ! (λ l₈. alloc1 ! (λ l₉. alloc1 ! (λ l₁₀. alloc1 ! (λ l₁₁. alloc1 !
       (λ l₁₂. alloc0 ! $ params1 ! $
-      pass1 ! (init ! 22 refl (tt, (tt, (record { fits = g .0 }, tt)))) $
-      pass1 ! (init ! 20 refl (tt, record { fits = gn })) $
+      pass1 ! (init ! 22 refl (slice-sized (g .0))) $
+      pass1 ! (init ! 20 refl (sized gn)) $
       pass1 ! (init ! 18 refl (typed-all 𝓤 H A W xs xv given)) $ pass0 ! $
       sets ! (of-opd ! (held ! 18 refl)) 16 refl (typed-all 𝓤 H A W xs xv given) $
-      sets ! (of-opd ! (lit ! tt)) 14 refl (tt, record { fits = lit< tt }) $
+      sets ! (of-opd ! (lit ! tt)) 14 refl (sized (lit< tt)) $
       move ! (27 ∷ []) $ fsplit ! $ move ! (1 ∷ []) $ drop ! $ fsplit ! $ drop ! $ fsplit ! $ move ! (28 ∷ []) $
       split ! $ move ! (2 ∷ 3 ∷ 0 ∷ []) $
       opens-slice ! tt S ys b o $ move ! (21 ∷ []) $

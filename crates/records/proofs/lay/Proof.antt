@@ -55,7 +55,7 @@ use Rattle.route.proofs.flat.put.Met as put-thm
 use Rattle.records.proofs.LaidRecords.{Turned, turned-init, turned-room, turned-step, turned-done, take-whole}
 use Rattle.records.proofs.Record.{S, word, holds, fails, typed}
 use Rattle.records.proofs.Called.{Known, tells as ends-with, meets}
-use Rattle.records.proofs.Locals.{value, held, sets, all-rooms}
+use Rattle.records.proofs.Locals.{value, held, sets, all-rooms, sized, slice-sized}
 use Rattle.records.proofs.CountedLoop.{counted-loop}
 use Rattle.records.proofs.OneRecord.{RecordAt, reads}
 use Rattle.records.proofs.OnePut.{Put, puts}
@@ -174,7 +174,7 @@ module _ {M : Type 1} (𝓤 : URA M) (H : Heap 𝓤) (A : Atoms 𝓤) (W : Given
             sets ! (addr ! (from ! (fld ! refl (hop ! (look-in ! 10 (sub ! 0 refl (whole !))) (stop !))))) 6 refl
             (tt, tt) $
             sets ! (agg ! (and-then ! (held ! 6 refl) (and-then ! (load ! (from ! (fld ! refl (stop !)))
-            (look-in ! 10 (sub ! 1 refl (whole !)))) (no-more !)))) 7 refl (tt, (tt, (record { fits = h .0 }, tt))) $
+            (look-in ! 10 (sub ! 1 refl (whole !)))) (no-more !)))) 7 refl (slice-sized (h .0)) $
             -- the record at i is copied out
             move ! (2 ∷ []) $ use1 W (‵ Own ⊛ ‵ Own) (shr-slice-copy 𝓤 H A W (named 0) κ₀ S .twice xs (sv ∷ [])) $
             split ! $ move ! (3 ∷ 0 ∷ []) $
@@ -192,7 +192,7 @@ module _ {M : Type 1} (𝓤 : URA M) (H : Heap 𝓤) (A : Atoms 𝓤) (W : Given
             fpack ! (Turned ys ws (suc i)) (λ s. row u64 fullShare (s .numbers) e f)
             (turned-step s long (omega arith) (omega arith) z put same) $
             assigns-last ! (bin ! (held ! 3 refl) (lit ! tt) (record { fits = next-fits })) (from ! (stop !))
-            (store ! 3 refl (tt, record { fits = next-fits })) $
+            (store ! 3 refl (sized next-fits)) $
             forget ! 4 refl $ forget ! 5 refl $ forget ! 6 refl $ forget ! 7 refl $ forget ! 8 refl $
             rewrite ! 3 (λ (j : ℕ). ‵ (fat fullShare word l₄ 0 (vint w64 j))) (add-one i) refl $ by ! k)))
           where
@@ -211,7 +211,7 @@ module _ {M : Type 1} (𝓤 : URA M) (H : Heap 𝓤) (A : Atoms 𝓤) (W : Given
             rewrite ! 4 (λ (t : Bool). ‵ (fat fullShare tyBool l₆ 0 (vbool t))) (fails (ltb n n) (λ a. lt-irrefl n
             (ltb→lt n n a))) refl $
             leaves-loop ! (held ! 4 refl) $ exec ! C Λ En body.t-6 (atRet En Post) $ fpick ! (λ s.
-            sets ! (bin ! (lit ! tt) (held ! 11 refl) (record { fits = fits })) 12 refl (tt, record { fits = fits }) $
+            sets ! (bin ! (lit ! tt) (held ! 11 refl) (record { fits = fits })) 12 refl (sized fits) $
             move ! (0 ∷ 14 ∷ 15 ∷ 16 ∷ []) $ closes-slice ! tt u64 ws (s .numbers) (s .as-long) e f $
             returns ! (look ! 14 refl) $ forget ! 5 refl $ forget ! 6 refl $ forget ! 11 refl $ forget ! 12 refl $
             forget ! 13 refl $ forget ! 14 refl $
@@ -234,25 +234,25 @@ module _ {M : Type 1} (𝓤 : URA M) (H : Heap 𝓤) (A : Atoms 𝓤) (W : Given
         enter ! C Λ function (sv ∷ iv ∷ []) _ $
         alloc1 ! (λ l₀. alloc1 ! (λ l₁. alloc1 ! (λ l₂. alloc1 ! (λ l₃. alloc1 ! (λ l₄. alloc1 ! (λ l₅. alloc1 !
         (λ l₆. alloc1 ! (λ l₇. alloc1 ! (λ l₈. alloc1 ! (λ l₉. alloc1 ! (λ l₁₀. alloc0 ! $ params1 ! $
-        pass1 ! (init ! 18 refl (tt, (tt, (record { fits = g .0 }, tt)))) $
-        pass1 ! (init ! 16 refl (tt, (tt, (record { fits = h .0 }, tt)))) $ pass0 ! $
+        pass1 ! (init ! 18 refl (slice-sized (g .0))) $
+        pass1 ! (init ! 16 refl (slice-sized (h .0))) $ pass0 ! $
         sets ! (of-opd ! (load ! (from ! (fld ! refl (stop !))) (look-in ! 18 (sub ! 1 refl (whole !))))) 14 refl
-        (tt, record { fits = g .0 }) $
+        (sized (g .0)) $
         sets ! (bin ! (lit ! tt) (held ! 14 refl) tt) 10 refl (tt, tt) $
         move ! (22 ∷ 23 ∷ []) $ split ! $ move ! (1 ∷ []) $ split ! $ move ! (3 ∷ []) $ fsplit ! $ move ! (1 ∷ []) $
         fsplit ! $ fsplit ! $ drop ! $ fsplit ! $ move ! (0 ∷ 1 ∷ 4 ∷ []) $ opens-slice ! tt u64 ws e f $
         fpack ! (Turned ys ws 0) (λ s. row u64 fullShare (s .numbers) e f) (turned-init ys ws) $
         first ! $ branches ! (held ! 18 refl)
         (λ over. assigns-last ! (of-opd ! (lit ! tt)) (from ! (stop !)) (store ! 22 refl
-        (tt, record { fits = lit< tt })) $ exec ! C Λ _ body.t-4 (atRet
+        (sized (lit< tt))) $ exec ! C Λ _ body.t-4 (atRet
         (En l₀ l₁ l₂ l₃ l₄ l₅ l₆ l₇ l₈ l₉ l₁₀) Post) $
-        sets ! (of-opd ! (lit ! tt)) 20 refl (tt, record { fits = lit< tt }) $ forget ! 18 refl $
+        sets ! (of-opd ! (lit ! tt)) 20 refl (sized (lit< tt)) $ forget ! 18 refl $
         keep ! (0 ∷ 7 ∷ 5 ∷ 20 ∷ 16 ∷ 14 ∷ 12 ∷ 10 ∷ 8 ∷ 26 ∷ 24 ∷ 22 ∷ 28 ∷ 18 ∷ 1 ∷ 2 ∷ 3 ∷ 29 ∷ 27 ∷ 25 ∷ 23 ∷ 21 ∷
         19 ∷ 17 ∷ 15 ∷ 13 ∷ 11 ∷ 9 ∷ []) $ by ! (loops l₀ l₁ l₂ l₃ l₄ l₅ l₆ l₇ l₈ l₉ l₁₀ _ (omega arith)
         (omega (arith, ltb→lt _ (length ys) over)) refl))
         (λ within. skips ! $ exec ! C Λ _ body.t-4 (atRet
         (En l₀ l₁ l₂ l₃ l₄ l₅ l₆ l₇ l₈ l₉ l₁₀) Post) $
-        sets ! (of-opd ! (lit ! tt)) 20 refl (tt, record { fits = lit< tt }) $ forget ! 18 refl $
+        sets ! (of-opd ! (lit ! tt)) 20 refl (sized (lit< tt)) $ forget ! 18 refl $
         keep ! (0 ∷ 7 ∷ 5 ∷ 20 ∷ 16 ∷ 14 ∷ 12 ∷ 10 ∷ 8 ∷ 26 ∷ 24 ∷ 22 ∷ 28 ∷ 18 ∷ 1 ∷ 2 ∷ 3 ∷ 29 ∷ 27 ∷ 25 ∷ 23 ∷ 21 ∷
         19 ∷ 17 ∷ 15 ∷ 13 ∷ 11 ∷ 9 ∷ []) $ by ! (loops l₀ l₁ l₂ l₃ l₄ l₅ l₆ l₇ l₈ l₉ l₁₀ (length ys)
         (nltb→le 65 (length ys) within) (omega arith) (take-whole ys (nltb→le 65 (length ys) within)))))))))))))))

@@ -42,7 +42,7 @@ use Rattle.route.proofs.Step as St
 use Rattle.route.proofs.Step.Laws as St′
 use Rattle.records.proofs.Record.{S, word, vals, tells, bv, is-blank, offset-fits, typed, makes}
 use Rattle.records.proofs.Called.{Known, tells as ends-with, meets}
-use Rattle.records.proofs.Locals.{envOf, all-locals, all-rooms, all-freed, held, sets}
+use Rattle.records.proofs.Locals.{envOf, all-locals, all-rooms, all-freed, held, sets, sized, slice-sized}
 use Rattle.records.proofs.record_at.Key.{name as #records·record-at}
 use Rattle.records.proofs.record_at as record-at′
 use Rattle.records.proofs.record_at.Statement as stated
@@ -96,16 +96,16 @@ module _ {M : Type 1} (𝓤 : URA M) (H : Heap 𝓤) (A : Atoms 𝓤) (W : Given
   walk 𝓣 g fits =
       qed W ((‵ (flft κ q) ⊛ ‵ ftrue) ∷ ‵ (owns (ShrSlice (named 0) κ S ∷ usize ∷ []) (xs, (i, tt))
       (sv ∷ [], (vint w64 i ∷ [], tt))) ∷ []) ∵ enter ! (𝓣 .C) (𝓣 .Λ) function (sv ∷ vint w64 i ∷ []) _ $
-      all-locals ! _ (λ l. params1 ! $ pass1 ! (init ! 12 refl (tt, (tt, (record { fits = g .0 }, tt)))) $
-      pass1 ! (init ! 10 refl (tt, record { fits = fits })) $ pass0 ! $
+      all-locals ! _ (λ l. params1 ! $ pass1 ! (init ! 12 refl (slice-sized (g .0))) $
+      pass1 ! (init ! 10 refl (sized fits)) $ pass0 ! $
       -- what is owned on entry comes first
       move ! (17 ∷ []) $ fsplit ! $ move ! (18 ∷ []) $ split ! $ move ! (2 ∷ 0 ∷ []) $
       sets ! (of-opd ! (load ! (from ! (fld ! refl (stop !))) (look-in ! 16 (sub ! 1 refl (whole !))))) 12 refl
-      (tt, record { fits = g .0 }) $
+      (sized (g .0)) $
       sets ! (bin ! (held ! 14 refl) (held ! 12 refl) tt) 10 refl (tt, tt) $
       first ! $ branches ! (held ! 10 refl)
       (λ in-list. sets ! (bin ! (held ! 14 refl) (lit ! tt) (record { fits = lies in-list })) 8 refl
-      (tt, record { fits = lies in-list }) $
+      (sized (lies in-list)) $
       sets ! (bin ! (load ! (from ! (fld ! refl (stop !))) (look-in ! 16 (sub ! 0 refl (whole !)))) (held ! 8 refl) tt)
       6 refl (tt, tt) $
       rewrite ! 6 (λ (k : ℕ). ‵ (fat fullShare tyPtr (l .1 .1 .1 .1 .1 .1 .0) 0 (vptr b k))) (sym

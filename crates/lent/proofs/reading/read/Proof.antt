@@ -54,7 +54,7 @@ use Rattle.reader.proofs.reads.read.Symbol as read-def
 use Rattle.reader.proofs.reads.read.Met as read-thm
 use Rattle.records.specs.Laid.{laid}
 use Rattle.records.proofs.Called.{Known, told, tells, meets}
-use Rattle.records.proofs.Locals.{value, all-locals, all-freed, held, sets}
+use Rattle.records.proofs.Locals.{value, all-locals, all-freed, held, sets, sized, slice-sized}
 use Rattle.records.proofs.fill.Symbol as fill-def
 use Rattle.records.proofs.fill.Symbol.{name as #fill}
 use Rattle.records.proofs.fill.Met as fill-thm
@@ -239,10 +239,10 @@ module _ {M : Type 1} (𝓤 : URA M) (H : Heap 𝓤) (A : Atoms 𝓤) (W : Given
         qed W Entered ∵ enter ! C Λ function
         (sv ∷ listVal St.the-row x₁ ∷ listVal St.the-row x₂ ∷ listVal u32 x₃ ∷ []) _ $
         all-locals ! _ (λ l. params1 ! $
-        pass1 ! (init ! 30 refl (tt, (tt, (record { fits = room₀ }, tt)))) $
-        pass1 ! (init ! 28 refl (tt, (tt, (record { fits = room₁ }, tt)))) $
-        pass1 ! (init ! 26 refl (tt, (tt, (record { fits = room₂ }, tt)))) $
-        pass1 ! (init ! 24 refl (tt, (tt, (record { fits = room₃ }, tt)))) $ pass0 ! $
+        pass1 ! (init ! 30 refl (slice-sized room₀)) $
+        pass1 ! (init ! 28 refl (slice-sized room₁)) $
+        pass1 ! (init ! 26 refl (slice-sized room₂)) $
+        pass1 ! (init ! 24 refl (slice-sized room₃)) $ pass0 ! $
         move ! (34 ∷ 35 ∷ []) $ use2 W (raw (Read 𝓤 H A mem run .pre to-read)) asks-read $
         calls-at ! fm (Read 𝓤 H A mem run) known-read to-read (and-then ! (held ! 31 refl) (no-more !))
         (λ v. told-read ! tt v (λ is.
@@ -250,11 +250,11 @@ module _ {M : Type 1} (𝓤 : URA M) (H : Heap 𝓤) (A : Atoms 𝓤) (W : Given
         rewrite ! 23 (λ (u : Val). ‵ (fat fullShare Sh′.mir (l .1 .1 .1 .1 .1 .0) 0 u)) (ap only
         (Sh′.lowers .val-is s _ is)) refl $
         sets ! (of-opd ! (load ! (from ! (fld ! refl (stop !))) (look-in ! 29 (sub ! 1 refl (whole !))))) 19 refl
-        (tt, record { fits = room₁ }) $
+        (sized room₁) $
         sets ! (of-opd ! (load ! (from ! (fld ! refl (stop !))) (look-in ! 27 (sub ! 1 refl (whole !))))) 17 refl
-        (tt, record { fits = room₂ }) $
+        (sized room₂) $
         sets ! (of-opd ! (load ! (from ! (fld ! refl (stop !))) (look-in ! 25 (sub ! 1 refl (whole !))))) 15 refl
-        (tt, record { fits = room₃ }) $
+        (sized room₃) $
         use0 W (raw (Count 𝓤 H A mem run .pre to-count)) (asks-count (subst (Is Sh.the-row s)
         (Sh′.lowers .val-is s _ is) is)) $
         calls-at ! fm (Count 𝓤 H A mem run) known-count to-count (and-then ! (held ! 24 refl) (and-then !
@@ -266,7 +266,7 @@ module _ {M : Type 1} (𝓤 : URA M) (H : Heap 𝓤) (A : Atoms 𝓤) (W : Given
         sets ! (addr ! (from ! (fld ! refl (hop ! (look-in ! 29 (sub ! 0 refl (whole !))) (stop !))))) 11 refl
         (tt, tt) $
         sets ! (agg ! (and-then ! (held ! 11 refl) (and-then ! (load ! (from ! (fld ! refl (stop !))) (look-in ! 29
-        (sub ! 1 refl (whole !)))) (no-more !)))) 9 refl (tt, (tt, (record { fits = room₁ }, tt))) $
+        (sub ! 1 refl (whole !)))) (no-more !)))) 9 refl (slice-sized room₁) $
         move ! (35 ∷ 36 ∷ []) $ lays St.the-row 𝓤 H A W
         (LL.makes St.the-type St′.the-plain 𝓤 H A) C Λ fm #fill known-fill κ₁ q₁ x₁ (c .«old_len») (s .old .steps) _
         (old-steps s _ is) (fits .old) (below (c .«old_len») (fits .old .0)) ! (and-then ! (held ! 10 refl)
@@ -276,7 +276,7 @@ module _ {M : Type 1} (𝓤 : URA M) (H : Heap 𝓤) (A : Atoms 𝓤) (W : Given
         land ! (from ! (stop !)) (init ! 15 refl typed₁) $
         sets ! (addr ! (from ! (fld ! refl (hop ! (look-in ! 29 (sub ! 0 refl (whole !))) (stop !))))) 9 refl (tt, tt) $
         sets ! (agg ! (and-then ! (held ! 9 refl) (and-then ! (load ! (from ! (fld ! refl (stop !))) (look-in ! 29
-        (sub ! 1 refl (whole !)))) (no-more !)))) 7 refl (tt, (tt, (record { fits = room₂ }, tt))) $
+        (sub ! 1 refl (whole !)))) (no-more !)))) 7 refl (slice-sized room₂) $
         move ! (37 ∷ 38 ∷ []) $ lays St.the-row 𝓤 H A W
         (LL.makes St.the-type St′.the-plain 𝓤 H A) C Λ fm #fill known-fill κ₂ q₂ x₂ (c .«new_len») (s .new .steps) _
         (new-steps s _ is) (fits .new) (below (c .«new_len») (fits .new .0)) ! (and-then ! (held ! 8 refl) (and-then !
@@ -286,7 +286,7 @@ module _ {M : Type 1} (𝓤 : URA M) (H : Heap 𝓤) (A : Atoms 𝓤) (W : Given
         land ! (from ! (stop !)) (store ! 17 refl typed₂) $
         sets ! (addr ! (from ! (fld ! refl (hop ! (look-in ! 29 (sub ! 0 refl (whole !))) (stop !))))) 7 refl (tt, tt) $
         sets ! (agg ! (and-then ! (held ! 7 refl) (and-then ! (load ! (from ! (fld ! refl (stop !))) (look-in ! 29
-        (sub ! 1 refl (whole !)))) (no-more !)))) 5 refl (tt, (tt, (record { fits = room₃ }, tt))) $
+        (sub ! 1 refl (whole !)))) (no-more !)))) 5 refl (slice-sized room₃) $
         move ! (39 ∷ 40 ∷ []) $ lays u32 𝓤 H A W (uint-makes 𝓤 H A W w32) C Λ fm #put known-put κ₃ q₃ x₃
         (c .«done_len») (s .done) _ (done-names s _ is) (fits .done) (below (c .«done_len») (fits .done .0)) !
         (and-then ! (held ! 6 refl) (and-then ! (load ! (from ! (fld ! refl (stop !))) (look-in ! 26 (sub ! 6 refl
