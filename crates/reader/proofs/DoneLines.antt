@@ -3,8 +3,10 @@
 use mathlib.Core.Path.{_≡_, refl, sym, ap, _∙_, subst}
 use mathlib.Core.Bool.{true, false, not}
 use mathlib.Core.List.{List, [], _∷_}
-use Prim.Native.Nat.{ℕ, _+_, _%_, _≤_, _<_}
+use Prim.Native.Nat.{ℕ, _+_, _-_, _%_, _^_, _≤_, _<_}
 use native.Mathlib.Omega.{arith}
+use mir.Syntax.{w64}
+use mir.Val.{Fits}
 use lib.Dec.{eqb, ltb}
 use lib.ListN.{length, set}
 use borrow.Author.Tests.{eq-eqb, ltb-true, not-false}
@@ -43,6 +45,13 @@ done-settled : (v : Version) (line value len : ℕ) (list : List ℕ) (z : Sheet
     (withDones (len + 1) (set list len value) z)
 unfolding doneIn
 done-settled v line value len list z = refl
+
+pub done-room : (v : Version) (line len value : ℕ) (o : Outcome) → o ≡ doneRow v line len value → o .number ≡ 0
+    → len < 64
+unfolding doneRow
+done-room v line len value o row z₁ =
+    ltb-true len 64 (unless-elim (ltb len 64) 4 line refl (head-passed (unless (ltb len 64) 4 line) _
+    (ap (λ (x : Outcome). eqb (x .number) 0) (sym row) ∙ eq-eqb (o .number) 0 z₁) .0))
 
 -- ---- the loop
 
@@ -122,13 +131,6 @@ module _ (v : Version) (s list₀ list : List ℕ) (from lines₀ : ℕ) (outcom
                 (settled-no o _ bad ∙ sym (settled-no o (withDones len list z) bad))));
           }
 
-      pub done-room : o .number ≡ 0 → len < 64
-      unfolding doneRow
-      done-room z₁ =
-          ltb-true len 64 (unless-elim (ltb len 64) 4 (lines + 1) refl
-          (head-passed (unless (ltb len 64) 4 (lines + 1)) _
-          (ap (λ (x : Outcome). eqb (x .number) 0) (sym row) ∙ eq-eqb (o .number) 0 z₁) .0))
-
       done-fits : o .number ≡ 0 → nameFits v (n .value) ≡ true
       unfolding doneRow
       done-fits z₁ =
@@ -145,7 +147,7 @@ module _ (v : Version) (s list₀ list : List ℕ) (from lines₀ : ℕ) (outcom
             limits = h .limits;
             within = hn .within;
             counted = later;
-            few = omega (arith, done-room z₁);
+            few = omega (arith, done-room v (lines + 1) len (n .value) o row z₁);
             goes = λ z zero pre. onto _ (reads-done z zero pre _
                 (done-more z zero ∙ ap (λ (x : ℕ). passed (lines + 1) o (withDones (len + 1) (set list len x) z))
                 same));
@@ -153,11 +155,15 @@ module _ (v : Version) (s list₀ list : List ℕ) (from lines₀ : ℕ) (outcom
 
 -- ---- what the loop needs on its way
 
-pub done-later : (v : Version) (s list₀ list : List ℕ) (from lines₀ : ℕ) (outcome₀ outcome : Outcome) (lines at len : ℕ)
-    (w : List ℕ) (n : Numeral) → Named v s list₀ list from lines₀ outcome₀ outcome lines at len → NumberedOn v s at w n
-    → not (n .ok) ≡ false → (lines + 1 ≤ length s) × (at < n .at)
-done-later v s list₀ list from lines₀ outcome₀ outcome lines at len w n h hn good = let past =
-    hn .past (not-false (n .ok) good) in (omega (arith, past, hn .within, h .counted), past)
+module _ (v : Version) (s w : List ℕ) (at : ℕ) (n : Numeral) (hn : NumberedOn v s at w n)
+    (good : not (n .ok) ≡ false) where
+  pub done-fits-line : (list₀ list : List ℕ) (from lines₀ : ℕ) (outcome₀ outcome : Outcome) (lines len : ℕ)
+      → Named v s list₀ list from lines₀ outcome₀ outcome lines at len → length s < 2 ^ 64 → Fits w64 (lines + 1)
+  done-fits-line list₀ list from lines₀ outcome₀ outcome lines len h wide =
+      omega (arith, hn .past (not-false (n .ok) good), hn .within, h .counted)
+
+  pub done-later : length s - n .at < length s - at
+  done-later = omega (arith, hn .past (not-false (n .ok) good), hn .within)
 
 -- ---- its ends
 

@@ -3,8 +3,10 @@
 use mathlib.Core.Path.{_≡_, refl, sym, ap, _∙_, subst}
 use mathlib.Core.Bool.{true, false, not}
 use mathlib.Core.List.{List, [], _∷_}
-use Prim.Native.Nat.{ℕ, _+_, _≤_}
+use Prim.Native.Nat.{ℕ, _+_, _^_, _≤_, _<_}
 use native.Mathlib.Omega.{arith}
+use mir.Syntax.{w64}
+use mir.Val.{Fits}
 use lib.Dec.{eqb, leb}
 use lib.ListN.{length}
 use borrow.Author.Tests.{eq-eqb, leb-true, not-false}
@@ -123,10 +125,13 @@ module _ (v : Version) (s : List ℕ) (p : Pass) (above : ℕ) (n : Numeral) (hp
             (reads-new z far u _ (λ t k. new-first v t (n .value) (p .lines) (p .outcome) z zero k));
       })
 
-  module _ (good : not (n .ok) ≡ false) (o : Outcome) where
-    pub later : p .lines + 1 ≤ n .at
-    later = omega (arith, hn .past (not-false (n .ok) good), hp .few (not-false (p .ok) held))
+  later : not (n .ok) ≡ false → p .lines + 1 ≤ n .at
+  later good = omega (arith, hn .past (not-false (n .ok) good), hp .few (not-false (p .ok) held))
 
+  pub new-fits : not (n .ok) ≡ false → length s < 2 ^ 64 → Fits w64 (p .lines + 1)
+  new-fits good wide = omega (arith, later good, hn .within)
+
+  module _ (good : not (n .ok) ≡ false) (o : Outcome) where
     abbrev head : Head
     head = record { pass = record { at = n .at; ok = true; lines = p .lines + 1; outcome = o }; places = n .value }
 
@@ -134,7 +139,7 @@ module _ (v : Version) (s : List ℕ) (p : Pass) (above : ℕ) (n : Numeral) (hp
     unfolding newRow
     new-on z₀ e =
         record {
-          placed = record { within = hn .within; few = λ _. later };
+          placed = record { within = hn .within; few = λ _. later good };
           fits = λ z. fits-places (n .value)
               (unless-elim (placesFit (n .value)) 2 (p .lines + 1) refl
               (head-passed _ [] (head-passed (unless (not (eqb above 0)) 4 (p .lines + 1)) _
@@ -147,7 +152,7 @@ module _ (v : Version) (s : List ℕ) (p : Pass) (above : ℕ) (n : Numeral) (hp
     pub new-past : (p .outcome .number ≡ 0 → ⊥) → o ≡ p .outcome → NewOn v s p above head
     new-past z₀ e =
         record {
-          placed = record { within = hn .within; few = λ _. later };
+          placed = record { within = hn .within; few = λ _. later good };
           fits = λ z. absurd (z₀ (ap (λ (x : Outcome). x .number) (sym e) ∙ z));
           goes = λ z zero a far u.
               upto-on v s (n .at) (n .ok) NewRoute _ good
@@ -204,15 +209,18 @@ module _ (s : List ℕ) (p : Pass) (above : ℕ) (c : Cursor) (hp : Placed s p) 
             (reads-job v z far u _ (λ t k. job-first v t (p .lines) (p .outcome) z zero k));
       })
 
-  module _ (good : not (c .ok) ≡ false) (o : Outcome) where
-    pub job-later : p .lines + 1 ≤ c .at
-    job-later = omega (arith, hc .past (not-false (c .ok) good), hp .few (not-false (p .ok) held))
+  job-later : not (c .ok) ≡ false → p .lines + 1 ≤ c .at
+  job-later good = omega (arith, hc .past (not-false (c .ok) good), hp .few (not-false (p .ok) held))
 
+  pub job-fits : not (c .ok) ≡ false → length s < 2 ^ 64 → Fits w64 (p .lines + 1)
+  job-fits good wide = omega (arith, job-later good, hc .within)
+
+  module _ (good : not (c .ok) ≡ false) (o : Outcome) where
     pub job-on : p .outcome .number ≡ 0 → o ≡ jobRow (p .lines + 1) above
         → JobOn s p above (record { at = c .at; ok = true; lines = p .lines + 1; outcome = o })
     job-on z₀ e =
         record {
-          placed = record { within = hc .within; few = λ _. job-later };
+          placed = record { within = hc .within; few = λ _. job-later good };
           goes = λ v z zero a far u.
               upto-on v s (c .at) (c .ok) JobPart _ good
               (reads-job v z far u _ (λ t k. job-passing v t (p .lines) (p .outcome) z zero k above o z₀ a e));
@@ -222,7 +230,7 @@ module _ (s : List ℕ) (p : Pass) (above : ℕ) (c : Cursor) (hp : Placed s p) 
         → JobOn s p above (record { at = c .at; ok = true; lines = p .lines + 1; outcome = o })
     job-past z₀ e =
         record {
-          placed = record { within = hc .within; few = λ _. job-later };
+          placed = record { within = hc .within; few = λ _. job-later good };
           goes = λ v z zero a far u.
               upto-on v s (c .at) (c .ok) JobPart _ good
               (reads-job v z far u _ (λ t k. job-refused v t (p .lines) (p .outcome) z zero k z₀

@@ -3,9 +3,11 @@
 use mathlib.Core.Path.{_≡_, refl, sym, ap, ap₂, _∙_, subst}
 use mathlib.Core.Bool.{Bool, true, false, not, cond}
 use mathlib.Core.List.{List, [], _∷_, _++_, append-nil}
-use Prim.Native.Nat.{ℕ, zero, suc, _+_, _-_, _*_, _≤_, _<_}
+use Prim.Native.Nat.{ℕ, zero, suc, _+_, _-_, _*_, _^_, _≤_, _<_}
 use native.Mathlib.Omega.{arith}
 use native.Mathlib.Numerals.{add-one}
+use mir.Syntax.{w64}
+use mir.Val.{Fits}
 use lib.Dec.{eqb, ltb}
 use lib.ListN.{length, getD, take, set, replicate, length-replicate}
 use lib.Seq.{length-take-le}
@@ -131,107 +133,122 @@ stepped-init v limits s places list hint p hp held fits is hs =
     }
 
 module _ (v : Version) (s : List ℕ) (places : ℕ) (list hint : List ℕ) (from lines₀ : ℕ) (outcome₀ outcome : Outcome)
-    (lines at len : ℕ) (h : Stepped v s places list hint from lines₀ outcome₀ outcome lines at len) (x : Bool)
-    (test : x ≡ eqb (getD s (at + 1) 0) 115) (so : x ≡ true) (l : StepLine) (hl : StepOn v s at l) where
+    (lines at len : ℕ) (h : Stepped v s places list hint from lines₀ outcome₀ outcome lines at len) (l : StepLine)
+    (hl : StepOn v s at l) where
   abbrev route : Route
   route = record { places = places; len = len; steps = stepsIn list }
-
-  reads-step : (q : Part) (z : Sheet) → hasSteps q ≡ true → z .number ≡ 0
-      → Prefix v s from q (passed lines₀ outcome₀ (withRoute q (bare places) z)) → (k : State)
-      → more (λ n y. stepIn v q n (hl .form) y) (passed lines outcome (withRoute q route z)) ≡ k
-      → Upto v s (l .at) (l .ok) q k
-  reads-step q z r nil pre k e =
-      let now = h .goes q z r nil pre in
-      prefix-of v s (l .at) (l .ok) q _ k (hl .goes q (now .lines) r (eqb-true (getD s (at + 1) 0) 115 (sym test ∙ so))
-      (now .reading))
-      (step-state v q (now .lines) (hl .form) r ∙ ap (more (λ n y. stepIn v q n (hl .form) y)) (now .state) ∙ e)
-
-  pub step-breaks : not (l .ok) ≡ true → (q : Part) (z : Sheet) (k : State) → hasSteps q ≡ true → z .number ≡ 0
-      → Prefix v s from q (passed lines₀ outcome₀ (withRoute q (bare places) z)) → Upto v s (l .at) false q k
-  step-breaks bad q z k r nil pre = upto-broken v s (l .at) (l .ok) q q _ _ bad (reads-step q z r nil pre _ refl)
 
   module _ (good : not (l .ok) ≡ false) where
     later : lines + 1 ≤ l .at
     later = omega (arith, hl .past (not-false (l .ok) good), h .counted)
 
-    onto : (q : Part) (k : State) → Upto v s (l .at) (l .ok) q k → Prefix v s (l .at) q k
-    onto q k u = upto-held v s (l .at) (l .ok) q k good u
+    pub line-fits : length s < 2 ^ 64 → Fits w64 (lines + 1)
+    line-fits wide = omega (arith, hl .past (not-false (l .ok) good), hl .within, h .counted)
 
-    pub stepped-past : (outcome .number ≡ 0 → ⊥) → Stepped v s places list hint from lines₀ outcome₀ outcome (lines + 1)
-        (l .at) len
-    stepped-past z₀ =
-        record {
-          limits = h .limits;
-          within = hl .within;
-          counted = later;
-          few = h .few;
-          long = h .long;
-          fits = h .fits;
-          hinted = h .hinted;
-          goes = λ q z r nil pre. onto q _ (reads-step q z r nil pre _
-              (more-refused _ lines outcome (withRoute q route z) (withRoute q route z) z₀));
-        }
+    pub line-later : length s - l .at < length s - at
+    line-later = omega (arith, hl .past (not-false (l .ok) good), hl .within)
 
-    module _ (z₀ : outcome .number ≡ 0) (o : Outcome)
-        (row : (f : Form) → IsForm l f → o ≡ formRow v (lines + 1) places (length (stepsIn (take (4 * len) list)))
-        (names (stepsIn (take (4 * len) list))) f) where
-      the-row : o ≡ formRow v (lines + 1) places len (names (stepsOf route)) (hl .form)
-      the-row =
-          row (hl .form) (hl .is)
-          ∙ ap₂ (λ (n : ℕ) (x : List ℕ). formRow v (lines + 1) places n x (hl .form))
-          (above-is list len (h .long) (h .few))
-          (names-above list len (h .long) (h .few) ∙ ap names (sym (few-steps route (h .few))))
+  abbrev RowIs : Outcome → Type 0
+  RowIs o = (f : Form) → IsForm l f → o ≡ formRow v (lines + 1) places (length (stepsIn (take (4 * len) list)))
+      (names (stepsIn (take (4 * len) list))) f
 
-      settles : (q : Part) (z : Sheet) → hasSteps q ≡ true
-          → stepIn v q (lines + 1) (hl .form) (withRoute q route z)
-          ≡ settled o (withRoute q (stepped route (recordOf (hl .form))) z)
-      settles q z r = step-settled v q (lines + 1) (hl .form) route z r
-          ∙ ap (λ (x : Outcome). settled x (withRoute q (stepped route (recordOf (hl .form))) z)) (sym the-row)
+  module _ (o : Outcome) (row : RowIs o) where
+    the-row : o ≡ formRow v (lines + 1) places len (names (stepsOf route)) (hl .form)
+    the-row =
+        row (hl .form) (hl .is)
+        ∙ ap₂ (λ (n : ℕ) (x : List ℕ). formRow v (lines + 1) places n x (hl .form))
+        (above-is list len (h .long) (h .few))
+        (names-above list len (h .long) (h .few) ∙ ap names (sym (few-steps route (h .few))))
 
-      step-more : (q : Part) (z : Sheet) → hasSteps q ≡ true → z .number ≡ 0
-          → more (λ n y. stepIn v q n (hl .form) y) (passed lines outcome (withRoute q route z))
-          ≡ passed (lines + 1) o (withRoute q (stepped route (recordOf (hl .form))) z)
-      step-more q z r nil = more-on _ lines outcome (withRoute q route z) _ o z₀ (route-number q route z ∙ nil)
-          (settles q z r)
+    module _ (z₁ : o .number ≡ 0) where
+      passing : eqb (formRow v (lines + 1) places len (names (stepsOf route)) (hl .form) .number) 0 ≡ true
+      passing = ap (λ (x : Outcome). eqb (x .number) 0) (sym the-row) ∙ eq-eqb (o .number) 0 z₁
 
-      pub stepped-row : (o .number ≡ 0 → ⊥) → Stepped v s places list hint from lines₀ outcome₀ o (lines + 1) (l .at)
-          len
-      stepped-row bad =
+      row-four : eqb (unless (ltb len 64) 4 (lines + 1) .number) 0 ≡ true
+      unfolding formRow
+      row-four = head-passed (unless (ltb len 64) 4 (lines + 1)) _ passing .0
+
+      row-two : eqb (unless (formFits v places (hl .form)) 2 (lines + 1) .number) 0 ≡ true
+      unfolding formRow
+      row-two = head-passed (unless (formFits v places (hl .form)) 2 (lines + 1)) _
+          (head-passed (unless (ltb len 64) 4 (lines + 1)) _ passing .1) .0
+
+      pub step-room : len < 64
+      step-room = ltb-true len 64 (unless-elim (ltb len 64) 4 (lines + 1) refl row-four)
+
+      pub put-room : len < length (stepsIn list)
+      put-room = omega (arith, step-room, room list len (h .long) (h .few))
+
+  module _ (x : Bool) (test : x ≡ eqb (getD s (at + 1) 0) 115) (so : x ≡ true) where
+    reads-step : (q : Part) (z : Sheet) → hasSteps q ≡ true → z .number ≡ 0
+        → Prefix v s from q (passed lines₀ outcome₀ (withRoute q (bare places) z)) → (k : State)
+        → more (λ n y. stepIn v q n (hl .form) y) (passed lines outcome (withRoute q route z)) ≡ k
+        → Upto v s (l .at) (l .ok) q k
+    reads-step q z r nil pre k e =
+        let now = h .goes q z r nil pre in
+        prefix-of v s (l .at) (l .ok) q _ k
+        (hl .goes q (now .lines) r (eqb-true (getD s (at + 1) 0) 115 (sym test ∙ so)) (now .reading))
+        (step-state v q (now .lines) (hl .form) r ∙ ap (more (λ n y. stepIn v q n (hl .form) y)) (now .state) ∙ e)
+
+    pub step-breaks : not (l .ok) ≡ true → (q : Part) (z : Sheet) (k : State) → hasSteps q ≡ true → z .number ≡ 0
+        → Prefix v s from q (passed lines₀ outcome₀ (withRoute q (bare places) z)) → Upto v s (l .at) false q k
+    step-breaks bad q z k r nil pre = upto-broken v s (l .at) (l .ok) q q _ _ bad (reads-step q z r nil pre _ refl)
+
+    module _ (good : not (l .ok) ≡ false) where
+      onto : (q : Part) (k : State) → Upto v s (l .at) (l .ok) q k → Prefix v s (l .at) q k
+      onto q k u = upto-held v s (l .at) (l .ok) q k good u
+
+      pub stepped-past : (outcome .number ≡ 0 → ⊥)
+          → Stepped v s places list hint from lines₀ outcome₀ outcome (lines + 1) (l .at) len
+      stepped-past z₀ =
           record {
             limits = h .limits;
             within = hl .within;
-            counted = later;
+            counted = later good;
             few = h .few;
             long = h .long;
-            fits = λ z. absurd (bad z);
+            fits = h .fits;
             hinted = h .hinted;
             goes = λ q z r nil pre. onto q _ (reads-step q z r nil pre _
-                (step-more q z r nil ∙ ap (λ (x : Sheet). record { lines = lines + 1; sheet = x })
-                (settled-no o _ bad ∙ sym (settled-no o (withRoute q route z) bad))));
+                (more-refused _ lines outcome (withRoute q route z) (withRoute q route z) z₀));
           }
 
-      module _ (z₁ : o .number ≡ 0) where
-        passing : eqb (formRow v (lines + 1) places len (names (stepsOf route)) (hl .form) .number) 0 ≡ true
-        passing = ap (λ (x : Outcome). eqb (x .number) 0) (sym the-row) ∙ eq-eqb (o .number) 0 z₁
+      module _ (z₀ : outcome .number ≡ 0) (o : Outcome) (row : RowIs o) where
+        settles : (q : Part) (z : Sheet) → hasSteps q ≡ true
+            → stepIn v q (lines + 1) (hl .form) (withRoute q route z)
+            ≡ settled o (withRoute q (stepped route (recordOf (hl .form))) z)
+        settles q z r = step-settled v q (lines + 1) (hl .form) route z r
+            ∙ ap (λ (x : Outcome). settled x (withRoute q (stepped route (recordOf (hl .form))) z))
+            (sym (the-row o row))
 
-        row-four : eqb (unless (ltb len 64) 4 (lines + 1) .number) 0 ≡ true
-        unfolding formRow
-        row-four = head-passed (unless (ltb len 64) 4 (lines + 1)) _ passing .0
+        step-more : (q : Part) (z : Sheet) → hasSteps q ≡ true → z .number ≡ 0
+            → more (λ n y. stepIn v q n (hl .form) y) (passed lines outcome (withRoute q route z))
+            ≡ passed (lines + 1) o (withRoute q (stepped route (recordOf (hl .form))) z)
+        step-more q z r nil = more-on _ lines outcome (withRoute q route z) _ o z₀ (route-number q route z ∙ nil)
+            (settles q z r)
 
-        row-two : eqb (unless (formFits v places (hl .form)) 2 (lines + 1) .number) 0 ≡ true
-        unfolding formRow
-        row-two = head-passed (unless (formFits v places (hl .form)) 2 (lines + 1)) _
-            (head-passed (unless (ltb len 64) 4 (lines + 1)) _ passing .1) .0
+        pub stepped-row : (o .number ≡ 0 → ⊥) → Stepped v s places list hint from lines₀ outcome₀ o (lines + 1) (l .at)
+            len
+        stepped-row bad =
+            record {
+              limits = h .limits;
+              within = hl .within;
+              counted = later good;
+              few = h .few;
+              long = h .long;
+              fits = λ z. absurd (bad z);
+              hinted = h .hinted;
+              goes = λ q z r nil pre. onto q _ (reads-step q z r nil pre _
+                  (step-more q z r nil ∙ ap (λ (x : Sheet). record { lines = lines + 1; sheet = x })
+                  (settled-no o _ bad ∙ sym (settled-no o (withRoute q route z) bad))));
+            }
 
-        pub step-room : len < 64
-        step-room = ltb-true len 64 (unless-elim (ltb len 64) 4 (lines + 1) refl row-four)
-
-        module _ (one : Step) (list′ hint′ : List ℕ)
+        module _ (z₁ : o .number ≡ 0) (one : Step) (list′ hint′ : List ℕ)
             (of : (v : Version) (f : Form) (n : ℕ) → Limits v → IsForm l f → n ≤ 64 → formFits v n f ≡ true
             → one ≡ recordOf f) (put : stepsIn list′ ≡ set (stepsIn list) len one) where
           one-is : one ≡ recordOf (hl .form)
           one-is = of v (hl .form) places (h .limits) (hl .is) (h .fits z₀)
-              (unless-elim (formFits v places (hl .form)) 2 (lines + 1) refl row-two)
+              (unless-elim (formFits v places (hl .form)) 2 (lines + 1) refl (row-two o row z₁))
 
           put-is : stepped route (recordOf (hl .form))
               ≡ record { places = places; len = len + 1; steps = stepsIn list′ }
@@ -241,14 +258,14 @@ module _ (v : Version) (s : List ℕ) (places : ℕ) (list hint : List ℕ) (fro
                 places = places;
                 len = len + 1;
                 steps = set (stepsIn list) len (recordOf (hl .form));
-              }) route) (lt-ltb len 64 step-room)
+              }) route) (lt-ltb len 64 (step-room o row z₁))
               ∙ ap (λ (x : Step). record { places = places; len = len + 1; steps = set (stepsIn list) len x })
               (sym one-is)
               ∙ ap (λ (x : List Step). record { places = places; len = len + 1; steps = x }) (sym put)
 
           names-on : names (take (len + 1) (stepsIn list′)) ≡ names (take len (stepsIn list)) ++ (one .name ∷ [])
           names-on = ap (λ (x : List Step). names (take (len + 1) x)) put
-              ∙ take-more (stepsIn list) len one (omega (arith, room list len (h .long) (h .few), step-room))
+              ∙ take-more (stepsIn list) len one (put-room o row z₁)
 
           pub stepped-step : length list′ ≡ length list
               → ((c : List ℕ) → length c ≡ len → Hinted c hint → Hinted (c ++ (one .name ∷ [])) hint′)
@@ -257,8 +274,8 @@ module _ (v : Version) (s : List ℕ) (places : ℕ) (list hint : List ℕ) (fro
               record {
                 limits = h .limits;
                 within = hl .within;
-                counted = later;
-                few = omega (arith, step-room);
+                counted = later good;
+                few = omega (arith, step-room o row z₁);
                 long = same ∙ h .long;
                 fits = λ _. h .fits z₀;
                 hinted = subst (λ (x : List ℕ). Hinted x hint′) (sym names-on)
@@ -280,15 +297,8 @@ module _ (v : Version) (s : List ℕ) (places : ℕ) (list hint : List ℕ) (fro
   pub part-room : length (take (4 * len) list) ≡ 4 * len
   part-room = length-take-le (4 * len) list (omega (arith, h .long, h .few))
 
-  pub put-room : len < 64 → len < length (stepsIn list)
-  put-room less = omega (arith, less, room list len (h .long) (h .few))
-
   pub same-room : (list₀ : List ℕ) → list₀ ≡ replicate 256 0 → length list ≡ length list₀
   same-room list₀ is = h .long ∙ sym (ap length is ∙ length-replicate {A = ℕ} 256 0)
-
-  pub line-later : (l : StepLine) → StepOn v s at l → not (l .ok) ≡ false → (lines + 1 ≤ length s) × (at < l .at)
-  line-later l hl good = let past = hl .past (not-false (l .ok) good) in
-      (omega (arith, past, hl .within, h .counted), past)
 
 -- ---- its ends
 
@@ -314,8 +324,8 @@ module _ (v : Version) (s : List ℕ) (p : Pass) (places : ℕ) (list hint : Lis
         placed = broken-placed s (l .at) (hl .within);
         few = omega arith;
         over = λ z. absurd (apart (sym z));
-        goes = λ q z r nil u. step-breaks v s places list hint (p .at) (p .lines) (p .outcome) outcome lines at len h x
-            test so l hl bad q z _ r nil (upto-held v s (p .at) (p .ok) q _ held u);
+        goes = λ q z r nil u. step-breaks v s places list hint (p .at) (p .lines) (p .outcome) outcome lines at len h l
+            hl x test so bad q z _ r nil (upto-held v s (p .at) (p .ok) q _ held u);
       })
 
   pub steps-done : (x : Bool) → x ≡ eqb (getD s (at + 1) 0) 115 → x ≡ false

@@ -5,47 +5,48 @@ use Rattle.reader.proofs.lists.read_by.Statement.{statement}
 use Rattle.reader.proofs.lists.read_by.Tie as tie
 
 dones-requires : tie.Need-dones-requires
-dones-requires c κs = let new-steps = c .before .before in let old-head =
-    new-steps .before .before .before .before .before in (old-head .before .before .pre .0, search needs)
+dones-requires c κs = let start : tie.Start = search in search needs
 
 returns : tie.Need-returns
 returns c =
-    let done = c .before .before .before .before in
-    let job = done .before .before in
-    let new-steps = job .before in
-    let new-head = new-steps .before .before in
-    let old-steps = new-head .before in
-    let old-head = old-steps .before .before in
+    let done : tie.After-dones = search in
+    let job : tie.After-job-head = search in
+    let new-steps : tie.After-steps2 = search in
+    let new-head : tie.After-new-head = search in
+    let old-steps : tie.After-steps = search in
+    let old-head : tie.After-old-head = search in
+    let start : tie.Start = search in
     read-broken _ _ _ _ _ _ _ _ _ _ _ _ (old-head .old-head .ensures) (old-steps .steps .ensures)
-    (new-head .new-head .ensures) (new-steps .steps2 .ensures)
-    (job .job-head .ensures) (done .dones .ensures) (old-head .before .before .pre .1 .1 .1) _ (c .refused .ensures)
-    (c .before .if1 .taken)
+    (new-head .new-head .ensures) (new-steps .steps2 .ensures) (job .job-head .ensures) (done .dones .ensures)
+    (start .pre .1 .1 .1) _ (c .refused .ensures) (search)
 
 returns-2 : tie.Need-returns-2
 returns-2 c =
-    let done = c .before .before .before .before .before .before in
-    let job = done .before .before in
-    let new-steps = job .before in
-    let new-head = new-steps .before .before in
-    let old-steps = new-head .before in
-    let old-head = old-steps .before .before in
+    let held : tie.Else1 = search in
+    let done : tie.After-dones = search in
+    let job : tie.After-job-head = search in
+    let new-steps : tie.After-steps2 = search in
+    let new-head : tie.After-new-head = search in
+    let old-steps : tie.After-steps = search in
+    let old-head : tie.After-old-head = search in
+    let start : tie.Start = search in
     read-refused _ _ _ _ _ _ _ _ _ _ _ _ (old-head .old-head .ensures) (old-steps .steps .ensures)
-    (new-head .new-head .ensures) (new-steps .steps2 .ensures)
-    (job .job-head .ensures) (done .dones .ensures) (old-head .before .before .pre .1 .1 .1) _ (c .refused2 .ensures)
-    (c .before .before .before .if1 .left) (c .before .if2 .taken)
+    (new-head .new-head .ensures) (new-steps .steps2 .ensures) (job .job-head .ensures) (done .dones .ensures)
+    (start .pre .1 .1 .1) _ (c .refused2 .ensures) (held .if1 .left) (search)
 
 returns-3 : tie.Need-returns-3
 returns-3 c =
-    let done = c .before .before .before .before .before in
-    let job = done .before .before in
-    let new-steps = job .before in
-    let new-head = new-steps .before .before in
-    let old-steps = new-head .before in
-    let old-head = old-steps .before .before in
+    let held : tie.Else1 = search in
+    let done : tie.After-dones = search in
+    let job : tie.After-job-head = search in
+    let new-steps : tie.After-steps2 = search in
+    let new-head : tie.After-new-head = search in
+    let old-steps : tie.After-steps = search in
+    let old-head : tie.After-old-head = search in
+    let start : tie.Start = search in
     read-facts _ _ _ _ _ _ _ _ _ _ _ _ (old-head .old-head .ensures) (old-steps .steps .ensures)
-    (new-head .new-head .ensures) (new-steps .steps2 .ensures)
-    (job .job-head .ensures) (done .dones .ensures) (old-head .before .before .pre .1 .1 .1)
-    (c .before .before .if1 .left) (c .if2 .left)
+    (new-head .new-head .ensures) (new-steps .steps2 .ensures) (job .job-head .ensures) (done .dones .ensures)
+    (start .pre .1 .1 .1) (held .if1 .left) (search)
 
 pub read-by-spec : {M : Type 1} → statement M
 read-by-spec = tie.close (tie.spec (λ c κs. search needs) (λ c κs. search needs) (λ c κs. search needs)

@@ -2,8 +2,8 @@
 use Prim.Native.Nat.{_-_}
 use native.Mathlib.Omega.{arith}
 use lib.ListN.{length}
-use Rattle.reader.proofs.DoneLines.{Named, named-init, named-past, named-row, named-name, done-room, done-later}
-use Rattle.reader.proofs.DoneLines.{dones-passes, dones-break, dones-done}
+use Rattle.reader.proofs.DoneLines.{Named, named-init, named-past, named-row, named-name, done-room}
+use Rattle.reader.proofs.DoneLines.{done-fits-line, done-later, dones-passes, dones-break, dones-done}
 use borrow.Author.Needs.{needs}
 use Rattle.reader.proofs.parts.dones.Statement.{statement}
 use Rattle.reader.proofs.parts.dones.Tie as tie
@@ -25,72 +25,35 @@ returns-2 : tie.Need-returns-2 Inv-loop μ-loop
 returns-2 c = search (needs, dones-break)
 
 add-lines : tie.Need-add-lines Inv-loop μ-loop
-add-lines c =
-    let good = c in
-    let read = good .before .before in
-    let inv = read .before .before .before .loop .inv in
-    let less = done-later _ _ _ _ _ _ _ _ _ _ _ _ _ inv (read .numbered .ensures) (good .if2 .left) in
-    omega (arith, less)
+add-lines c = search (needs, done-fits-line)
 
 loop-less : tie.Need-loop-less Inv-loop μ-loop
-loop-less c =
-    let good = c .before .before in
-    let read = good .before .before in
-    let inv = read .before .before .before .loop .inv in
-    let less = done-later _ _ _ _ _ _ _ _ _ _ _ _ _ inv (read .numbered .ensures) (good .if2 .left) in
-    omega (arith, less, read .numbered .ensures .within)
+loop-less c = search (needs, done-later)
 
 loop-again : tie.Need-loop-again Inv-loop μ-loop
 loop-again c = search (needs, named-past)
 
 loop-less-2 : tie.Need-loop-less-2 Inv-loop μ-loop
-loop-less-2 c =
-    let good = c .before .before .before .before .before in
-    let read = good .before .before in
-    let inv = read .before .before .before .loop .inv in
-    let less = done-later _ _ _ _ _ _ _ _ _ _ _ _ _ inv (read .numbered .ensures) (good .if2 .left) in
-    omega (arith, less, read .numbered .ensures .within)
+loop-less-2 c = search (needs, done-later)
 
 loop-again-2 : tie.Need-loop-again-2 Inv-loop μ-loop
 loop-again-2 c = search (needs, named-row)
 
 mul-list : tie.Need-mul-list Inv-loop μ-loop
-mul-list c =
-    let good = c .before .before .before .before .before .before in
-    let read = good .before .before in
-    let inv = read .before .before .before .loop .inv in
-    let less = done-room _ _ _ _ _ _ _ _ _ _ _ inv (read .before .before .loop-test .taken) _ (read .numbered .ensures)
-    (good .if2 .left) (c .before .before .before .before .if3 .left) _
-    (c .before .before .before .done-row .ensures) (c .before .if4 .left) in
-    omega (arith, less)
+mul-list c = search needs
 
 element-write-list : tie.Need-element-write-list Inv-loop μ-loop
 element-write-list c =
-    let good = c .before .before .before .before .before .before in
-    let read = good .before .before in
-    let inv = read .before .before .before .loop .inv in
-    let less = done-room _ _ _ _ _ _ _ _ _ _ _ inv (read .before .before .loop-test .taken) _ (read .numbered .ensures)
-    (good .if2 .left) (c .before .before .before .before .if3 .left) _
-    (c .before .before .before .done-row .ensures) (c .before .if4 .left) in
+    let test : tie.Else4 Inv-loop μ-loop = search in
+    let row : tie.After-done-row Inv-loop μ-loop = search in
+    let less = done-room _ _ _ _ _ (row .done-row .ensures) (test .if4 .left) in
     omega (arith, less)
 
 add-len : tie.Need-add-len Inv-loop μ-loop
-add-len c =
-    let good = c .before .before .before .before .before .before in
-    let read = good .before .before in
-    let inv = read .before .before .before .loop .inv in
-    let less = done-room _ _ _ _ _ _ _ _ _ _ _ inv (read .before .before .loop-test .taken) _ (read .numbered .ensures)
-    (good .if2 .left) (c .before .before .before .before .if3 .left) _
-    (c .before .before .before .done-row .ensures) (c .before .if4 .left) in
-    omega (arith, less)
+add-len c = search needs
 
 loop-less-3 : tie.Need-loop-less-3 Inv-loop μ-loop
-loop-less-3 c =
-    let good = c .before .before .before .before .before .before in
-    let read = good .before .before in
-    let inv = read .before .before .before .loop .inv in
-    let less = done-later _ _ _ _ _ _ _ _ _ _ _ _ _ inv (read .numbered .ensures) (good .if2 .left) in
-    omega (arith, less, read .numbered .ensures .within)
+loop-less-3 c = search (needs, done-later)
 
 loop-again-3 : tie.Need-loop-again-3 Inv-loop μ-loop
 loop-again-3 c = search (needs, named-name)

@@ -1,7 +1,5 @@
 -- `reader::parts::job_head`: its line, and row 4.
-use native.Mathlib.Omega.{arith}
-use Rattle.refusal.specs.Rows.{pass}
-use Rattle.reader.proofs.HeadLines.{job-passes, job-breaks, job-on, job-past, job-later}
+use Rattle.reader.proofs.HeadLines.{job-passes, job-breaks, job-on, job-past, job-fits}
 use borrow.Author.Needs.{needs}
 use Rattle.reader.proofs.parts.job_head.Statement.{statement}
 use Rattle.reader.proofs.parts.job_head.Tie as tie
@@ -13,12 +11,7 @@ returns-2 : tie.Need-returns-2
 returns-2 c = search (needs, job-breaks)
 
 add-lines : tie.Need-add-lines
-add-lines c =
-    let read = c .before .before .before in
-    let held = read .before .before in
-    let less = job-later _ _ 0 _ (held .before .before .before .pre) (held .if1 .left) (read .text .ensures)
-    (c .before .if2 .left) pass in
-    omega (arith, less, read .text .ensures .within)
+add-lines c = search (needs, job-fits)
 
 returns-3 : tie.Need-returns-3
 returns-3 c = search (needs, job-on)

@@ -1,7 +1,5 @@
 -- `reader::parts::new_head`: its line, and rows 4 and 2.
-use native.Mathlib.Omega.{arith}
-use Rattle.refusal.specs.Rows.{pass}
-use Rattle.reader.proofs.HeadLines.{new-passes, new-breaks, new-on, new-past, later}
+use Rattle.reader.proofs.HeadLines.{new-passes, new-breaks, new-on, new-past, new-fits}
 use borrow.Author.Needs.{needs}
 use Rattle.reader.proofs.parts.new_head.Statement.{statement}
 use Rattle.reader.proofs.parts.new_head.Tie as tie
@@ -13,12 +11,7 @@ returns-2 : tie.Need-returns-2
 returns-2 c = search (needs, new-breaks)
 
 add-lines : tie.Need-add-lines
-add-lines c =
-    let read = c .before .before .before in
-    let held = read .before .before in
-    let less = later _ _ _ 0 _ (held .before .before .before .pre .1) (held .if1 .left) (read .numbered .ensures)
-    (c .before .if2 .left) pass in
-    omega (arith, less, read .numbered .ensures .within)
+add-lines c = search (needs, new-fits)
 
 returns-3 : tie.Need-returns-3
 returns-3 c = search (needs, new-on)

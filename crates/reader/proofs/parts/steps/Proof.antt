@@ -1,11 +1,11 @@
 -- `reader::parts::steps`: a step put away for each line that no row refuses.
 use mathlib.Core.Path.{sym}
-use Prim.Native.Nat.{_-_}
+use Prim.Native.Nat.{_-_, _<_}
 use native.Mathlib.Omega.{arith}
 use lib.ListN.{length}
 use Rattle.reader.proofs.StepLines.{Stepped, stepped-init, stepped-past, stepped-row, stepped-step, step-room}
-use Rattle.reader.proofs.StepLines.{hinted-above, part-room, put-room, same-room, line-later, steps-passes}
-use Rattle.reader.proofs.StepLines.{steps-break, steps-done}
+use Rattle.reader.proofs.StepLines.{hinted-above, part-room, put-room, same-room, line-fits, line-later}
+use Rattle.reader.proofs.StepLines.{steps-passes, steps-break, steps-done}
 use borrow.Author.Needs.{needs}
 use Rattle.reader.proofs.parts.steps.Statement.{statement}
 use Rattle.reader.proofs.parts.steps.Tie as tie
@@ -24,107 +24,70 @@ loop-holds : tie.Need-loop-holds Inv-loop μ-loop
 loop-holds c = search (needs, stepped-init)
 
 same-length : tie.Need-same-length Inv-loop μ-loop
-same-length c = let at = c .before .before .before .before .before .before in same-room _ _ _ _ _ _ _ _ _ _ _ _
-    (at .loop .inv) _ (at .before .before .before .before .before .before .pre .1 .1 .1)
+same-length c = let row : tie.Start Inv-loop μ-loop = search in search (needs, same-room)
 
 returns-2 : tie.Need-returns-2 Inv-loop μ-loop
 returns-2 c = search (needs, steps-break)
 
 add-lines : tie.Need-add-lines Inv-loop μ-loop
-add-lines c =
-    let read = c .before .before in
-    let less = line-later _ _ _ _ _ _ _ _ _ _ _ _ (read .before .before .before .loop .inv) _ (read .step .ensures)
-    (c .if3 .left) in
-    omega (arith, less)
+add-lines c = let row : tie.Start Inv-loop μ-loop = search in search (needs, line-fits)
 
 loop-less : tie.Need-loop-less Inv-loop μ-loop
-loop-less c =
-    let held = c .before .before in
-    let read = held .before .before in
-    let less = line-later _ _ _ _ _ _ _ _ _ _ _ _ (read .before .before .before .loop .inv) _ (read .step .ensures)
-    (held .if3 .left) in
-    omega (arith, less, read .step .ensures .within)
+loop-less c = search (needs, line-later)
 
 loop-again : tie.Need-loop-again Inv-loop μ-loop
 loop-again c = search (needs, stepped-past)
 
 slice-aggregate-step-row : tie.Need-slice-aggregate-step-row Inv-loop μ-loop
-slice-aggregate-step-row c = sym (part-room _ _ _ _ _ _ _ _ _ _ _ _
-    (c .before .before .before .before .before .before .before .before .before .loop .inv))
+slice-aggregate-step-row c = sym (search part-room)
 
 step-row-requires : tie.Need-step-row-requires Inv-loop μ-loop
 step-row-requires c κs = search (needs, hinted-above)
 
 loop-less-2 : tie.Need-loop-less-2 Inv-loop μ-loop
-loop-less-2 c =
-    let row = c .before .before in
-    let over = row .before .before .before in
-    let good = over .before .before in
-    let read = good .before .before in
-    let inv = read .before .before .before .loop .inv in
-    let less = line-later _ _ _ _ _ _ _ _ _ _ _ _ inv _ (read .step .ensures) (good .if3 .left) in
-    omega (arith, less, read .step .ensures .within)
+loop-less-2 c = search (needs, line-later)
 
 loop-again-2 : tie.Need-loop-again-2 Inv-loop μ-loop
-loop-again-2 c = search (needs, stepped-row)
+loop-again-2 c =
+    let row : tie.After-step-row Inv-loop μ-loop = search in
+    let over : tie.Else4 Inv-loop μ-loop = search in
+    let good : tie.Else3 Inv-loop μ-loop = search in
+    let read : tie.After-step Inv-loop μ-loop = search in
+    let turn : tie.After-stepping Inv-loop μ-loop = search in
+    stepped-row _ _ _ _ _ _ _ _ _ _ _ _ (turn .before .loop .inv) _ (read .step .ensures) _ (turn .stepping .ensures)
+    (search) (good .if3 .left) (over .if4 .left) _ (row .step-row .ensures) (c .if5 .taken)
 
 put-requires : tie.Need-put-requires Inv-loop μ-loop
-put-requires c κs =
-    let row = c .before .before .before .before in
-    let over = row .before .before .before in
-    let good = over .before .before in
-    let read = good .before .before in
-    let inv = read .before .before .before .loop .inv in
-    let less = step-room _ _ _ _ _ _ _ _ _ _ _ _ inv _ (read .before .before .stepping .ensures)
-    (read .before .if2 .taken) _ (read .step .ensures) (good .if3 .left) (over .if4 .left) _
-    (row .step-row .ensures) (c .before .before .if5 .left) in
-    put-room _ _ _ _ _ _ _ _ _ _ _ _ inv less
+put-requires c κs = search put-room
 
 hint-more-requires : tie.Need-hint-more-requires Inv-loop μ-loop
 hint-more-requires c κs =
-    let row = c .before .before .before .before .before .before .before .before in
-    let over = row .before .before .before in
-    let good = over .before .before in
-    let read = good .before .before in
-    let inv = read .before .before .before .loop .inv in
-    step-room _ _ _ _ _ _ _ _ _ _ _ _ inv _ (read .before .before .stepping .ensures) (read .before .if2 .taken) _
-    (read .step .ensures) (good .if3 .left) (over .if4 .left) _ (row .step-row .ensures)
-    (c .before .before .before .before .before .before .if5 .left)
+    let test : tie.Else5 Inv-loop μ-loop = search in
+    let row : tie.After-step-row Inv-loop μ-loop = search in
+    let read : tie.After-step Inv-loop μ-loop = search in
+    let turn : tie.At-loop Inv-loop μ-loop = search in
+    step-room _ _ _ _ _ _ _ _ _ _ _ _ (turn .loop .inv) _ (read .step .ensures) _ (row .step-row .ensures)
+    (test .if5 .left)
 
 add-len : tie.Need-add-len Inv-loop μ-loop
-add-len c =
-    let row = c .before .before .before .before .before .before .before .before .before in
-    let over = row .before .before .before in
-    let good = over .before .before in
-    let read = good .before .before in
-    let inv = read .before .before .before .loop .inv in
-    let less = step-room _ _ _ _ _ _ _ _ _ _ _ _ inv _ (read .before .before .stepping .ensures)
-    (read .before .if2 .taken) _ (read .step .ensures) (good .if3 .left) (over .if4 .left) _
-    (row .step-row .ensures) (c .before .before .before .before .before .before .before .if5 .left) in
-    omega (arith, less)
+add-len c = let turn : tie.At-loop Inv-loop μ-loop = search in omega arith
 
 loop-less-3 : tie.Need-loop-less-3 Inv-loop μ-loop
-loop-less-3 c =
-    let row = c .before .before .before .before .before .before .before .before .before in
-    let over = row .before .before .before in
-    let good = over .before .before in
-    let read = good .before .before in
-    let inv = read .before .before .before .loop .inv in
-    let less = line-later _ _ _ _ _ _ _ _ _ _ _ _ inv _ (read .step .ensures) (good .if3 .left) in
-    omega (arith, less, read .step .ensures .within)
+loop-less-3 c = let read : tie.Else3 Inv-loop μ-loop = search in search (needs, line-later)
 
 loop-again-3 : tie.Need-loop-again-3 Inv-loop μ-loop
 loop-again-3 c =
-    let row = c .before .before .before .before .before .before .before .before .before in
-    let over = row .before .before .before in
-    let good = over .before .before in
-    let read = good .before .before in
-    let inv = read .before .before .before .loop .inv in
-    let put = c .before .before .before .before .put .ensures in
-    stepped-step _ _ _ _ _ _ _ _ _ _ _ _ inv _ (read .before .before .stepping .ensures) (read .before .if2 .taken) _
-    (read .step .ensures) (good .if3 .left) (over .if4 .left) _ (row .step-row .ensures)
-    (c .before .before .before .before .before .before .before .if5 .left) _ _ _
-    (c .before .before .before .before .before .before .step-of .ensures) (put .0) (put .1) (c .hint-more .ensures)
+    let put : tie.After-put Inv-loop μ-loop = search in
+    let one : tie.After-step-of Inv-loop μ-loop = search in
+    let test : tie.Else5 Inv-loop μ-loop = search in
+    let row : tie.After-step-row Inv-loop μ-loop = search in
+    let over : tie.Else4 Inv-loop μ-loop = search in
+    let good : tie.Else3 Inv-loop μ-loop = search in
+    let read : tie.After-step Inv-loop μ-loop = search in
+    let turn : tie.After-stepping Inv-loop μ-loop = search in
+    stepped-step _ _ _ _ _ _ _ _ _ _ _ _ (turn .before .loop .inv) _ (read .step .ensures) _ (turn .stepping .ensures)
+    (search) (good .if3 .left) (over .if4 .left) _ (row .step-row .ensures) (test .if5 .left) _ _ _
+    (one .step-of .ensures) (put .put .ensures .0) (put .put .ensures .1) (c .hint-more .ensures)
 
 same-length-2 : tie.Need-same-length-2 Inv-loop μ-loop
 same-length-2 c = search (needs, same-room)
