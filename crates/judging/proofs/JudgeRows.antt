@@ -1,11 +1,11 @@
 -- Judge after the rows to 12, branch by branch: what each answer of the code is by the definition.
-use mathlib.Core.Path.{_≡_, refl, sym, ap, _∙_}
+use mathlib.Core.Path.{_≡_, refl, sym, ap, _∙_, subst}
 use mathlib.Core.Bool.{Bool, true, false, cond}
 use mathlib.Core.List.{List, map}
 use mathlib.Core.Option.{none, some, Option·getD}
 use Prim.Native.Nat.{ℕ, suc, _-_, _≤_, _<_}
 use native.Mathlib.Omega.{arith}
-use lib.ListN.{length}
+use lib.ListN.{length, take}
 use borrow.Author.Tests.{eq-eqb, ltb-true}
 use Rattle.mask.specs.Mask.{has, below, count}
 use Rattle.mask.proofs.Laws.{has-below}
@@ -15,41 +15,50 @@ use Rattle.route.specs.declared.Step.{Step}
 use Rattle.route.specs.declared.Marking.{Marking}
 use Rattle.slice.specs.Slice.{variables}
 use Rattle.precedence.specs.Order.{inTurn}
-use Rattle.precedence.proofs.InTurn.{map-getD-inTurn}
+use Rattle.precedence.specs.Table.{table}
+use Rattle.precedence.proofs.InTurn.{length-inTurn, map-getD-inTurn}
 use Rattle.slice.proofs.Sweep.{kept-below}
 use Rattle.matching.specs.Straight.{fireAll, stepsOn, runsStraight}
 use Rattle.matching.specs.Fit.{keptOf}
 use Rattle.matching.specs.KeptRows.{keptRows}
-use Rattle.matching.specs.inner.Matched.{straightEnd}
+use Rattle.matching.specs.inner.Matched.{matched, straightEnd}
 use Rattle.matching.specs.declared.End.{End}
 use Rattle.matching.specs.declared.End.the-variants.{At, Stuck}
 use Rattle.matching.specs.declared.Prepared.{Prepared}
 use Rattle.matching.proofs.Matched.{length-matched}
 use Rattle.matching.proofs.KeptRows.{limit-holds, members-same}
 use Rattle.answering.specs.Answer.{padded, judgeStopped, answer}
+use Rattle.search.specs.Candidates.{firstOrder, sequence}
+use Rattle.search.specs.declared.Sequence.{Sequence}
+use Rattle.search.specs.declared.Sequence.the-variants.{Of, Nothing}
 use Rattle.candidates.specs.FirstFit.{firstFit}
+use Rattle.candidates.specs.inner.Columns.{ColumnsOf, Packed, positions, placedBy}
+use Rattle.candidates.specs.declared.Columns.{Columns}
 use Rattle.judging.specs.Judge.{judgeFound, judgeRows}
-use Rattle.answering.specs.inner.Listed.{placedOn}
+use Rattle.answering.specs.inner.Listed.{placedOn, AnswersList}
+use Rattle.answering.specs.declared.Placed.{Placed}
+use Rattle.answering.specs.declared.Judged.{Judged}
 use Rattle.judging.specs.inner.Passing.{Passing}
-use Rattle.candidates.proofs.CandidateColumns.{AllSame}
+use Rattle.candidates.proofs.CandidateColumns.{Room, AllSame}
+use Rattle.candidates.proofs.FirstFit.{Found, none-fit, order-fit}
 
 -- all below n are n
-pub below-few : (n : ℕ) → count 64 (below n) ≤ n
-below-few n = count-few 64 (below n) n (λ i h. ltb-true i n (sym (has-below n i) ∙ h))
+pub below-few : (kept len n : ℕ) → kept ≡ below len → len ≡ n → count 64 kept ≤ n
+below-few kept len n e f = count-few 64 kept n
+    (λ i h. ltb-true i n (sym (has-below n i) ∙ ap (λ (k : ℕ). has k i) (sym (e ∙ ap (λ (k : ℕ). below k) f)) ∙ h))
 
 -- all occurrences in turn, and where they end
 pub straight-list :
     (from : ℕ) (new l : List Step) (len : ℕ) (order : List ℕ) (marking : Marking)
-    → len ≡ length (inTurn 0 (length l))
-    → order ≡ padded 64 (map suc (inTurn 0 (length l)))
+    → len ≡ length l
+    → order ≡ padded 64 (map suc (inTurn 0 len))
     → marking .tokens ≡ Option·getD (fireAll new from l) 0
     → record { len = len; order = order; marking = marking } ≡ placedOn from new l (inTurn 0 (length l))
 unfolding stepsOn
 straight-list from new l len order marking p q r =
     λ i. record {
-      len =
-          p i;
-      order = q i;
+      len = (p ∙ sym (length-inTurn 0 (length l))) i;
+      order = (q ∙ ap (λ (k : ℕ). padded 64 (map suc (inTurn 0 k))) p) i;
       marking = record {
         tokens = (r ∙ ap (λ (x : List Step). Option·getD (fireAll new from x) 0) (sym (map-getD-inTurn blank l)))
             i;
@@ -160,3 +169,46 @@ module _ {p : Prepared} {l t : List Step} (k : Passing p l t) where
 
   pub passing-same : AllSame (k .new) l (p .kept)
   passing-same = rw (k .kept-is) (members-same (p .line) (p .start .tokens) (k .new) l (k .passes))
+
+-- ---- the search over the kept
+
+module _ {p : Prepared} {l t : List Step} (k : Passing p l t) (rows : List ℕ) (c : Columns)
+    (cols : ColumnsOf (p .kept) rows t c) where
+  pub columns-few : p .straight ≡ Stuck → c .len ≤ 16
+  columns-few stuck = omega (arith, cols .length-is, passing-limit k stuck)
+
+  columns-are : ColumnsOf (p .kept) rows (matched (k .new) l) c
+  columns-are = subst (λ (x : List Step). ColumnsOf (p .kept) rows x c) (k .matches-are) cols
+
+  module _ (table-is : rows ≡ table l) (room : Room c) (r : Sequence)
+      (e : r ≡ sequence (firstOrder (take (c .len) (c .ins)) (take (c .len) (c .outs)) (take (c .len) (c .before))
+      (p .start .tokens))) where
+    pub none-judged : r ≡ Nothing → (z : Judged) → z ≡ judgeStopped 13 (p .line)
+        → z ≡ judgeFound (p .line) (p .start .tokens) (k .new) l (firstFit (p .start .tokens) (k .new) l)
+    none-judged f z is =
+        is
+        ∙ none-answer (p .line) (p .start .tokens) (k .new) l
+        (none-fit (k .new) l (p .kept) rows c (k .kept-is) (passing-same k) table-is columns-are room (p .start .tokens)
+        r e f)
+
+    module _ (x : ℕ) (of : r ≡ Of x) (q : Placed)
+        (placed : (o : List ℕ) → Packed x (c .len) o → q ≡ placedBy c (p .start .tokens) o) where
+      found : Found (k .new) l c (p .start .tokens) x
+      found = order-fit (k .new) l (p .kept) rows c (k .kept-is) (passing-same k) table-is columns-are room
+          (p .start .tokens) r e x of
+
+      pub order-short : q .len ≤ 64
+      order-short = omega (
+        arith,
+        ap (λ (y : Placed). y .len) (placed (found .order) (found .packed)),
+        found .packed .long,
+        room .few,
+      )
+
+      pub order-judged : (z : Judged) → AnswersList rows (p .vars) (p .kept) q l z
+          → z ≡ judgeFound (p .line) (p .start .tokens) (k .new) l (firstFit (p .start .tokens) (k .new) l)
+      order-judged z answers =
+          answers (p .start .tokens) (k .new) (positions c (found .order)) table-is (k .vars-are)
+          (placed (found .order) (found .packed) ∙ found .placed-is)
+          ∙ fit-answer (p .line) (p .start .tokens) (k .new) l (p .kept) (positions c (found .order)) (k .kept-is)
+          (found .fit)

@@ -26,15 +26,9 @@ judge-prepared-requires c κs = (search (needs, prepared-passing), search needs)
 
 returns-2 : tie.Need-returns-2
 returns-2 c =
-    let passed = c .before .before .before .before .before .before in
-    let made = passed .before .before .before .before .before in
-    let long = made .before .before .before .before .before .before .before .pre .1 in
-    let answers = c .before .before .judge-prepared .ensures in (
-      judged-prepared _ _ _ _ (made .prepare .ensures) _ (passed .before .passed .ensures) (passed .if1 .left) _ _ long
-          (answers .0),
-      work-prepared _ _ _ _ (made .prepare .ensures) _ (passed .before .passed .ensures) (passed .if1 .left) _ _ long
-          (answers .1),
-    )
+    let passed : tie.Else1 = search in
+    let start : tie.Start = search in
+    (search judged-prepared, search work-prepared)
 
 pub judge-checked-spec : {M : Type 1} → statement M
 judge-checked-spec = tie.close (tie.spec (λ c. search needs) (λ c. search needs) (λ c κs. search needs)

@@ -6,37 +6,34 @@ use Rattle.judging.proofs.JudgeRows.{rows-straight, rows-search, passin
 use Rattle.judging.proofs.judging.judge_prepared.Statement.{statement}
 use Rattle.judging.proofs.judging.judge_prepared.Tie as tie
 
-abbrev start : tie.After-table-of → tie.Start
-start c = c .before .before .before .before
-
 table-of-requires : tie.Need-table-of-requires
-table-of-requires c κs = c .before .before .before .pre .0 .short
+table-of-requires c κs = let start : tie.Start = search in start .pre .0 .short
 
 judge-straight-requires : tie.Need-judge-straight-requires
-judge-straight-requires c κs = start (c .before .before .before) .pre .0 .short
+judge-straight-requires c κs = let start : tie.Start = search in start .pre .0 .short
 
 judge-kept-requires : tie.Need-judge-kept-requires
-judge-kept-requires c κs =
-    let t = c .before .before .before in
-    (start t .pre .0, (c .before .enum-told .given .1, (t .table-of .ensures, start t .pre .1)))
+judge-kept-requires c κs = let start : tie.Start = search in search needs
 
 returns : tie.Need-returns
 returns c =
-    let end = c .before .before .straight .given .1 in
-    let t = c .before .before .before .before in (
+    let end : tie.After-straight = search in
+    let rows : tie.After-table-of = search in (
       λ k.
-          c .judge-straight .ensures _ (k .new) (t .table-of .ensures) (k .vars-are) (passing-straight k _ end .1)
-          ∙ rows-straight _ _ _ _ (k .passes) (passing-straight k _ end .0),
-      λ k. cond-yes _ _ refl (passing-straight k _ end .0),
+          c .judge-straight .ensures _ (k .new) (rows .table-of .ensures) (k .vars-are)
+          (passing-straight k _ (end .straight .given .1) .1)
+          ∙ rows-straight _ _ _ _ (k .passes) (passing-straight k _ (end .straight .given .1) .0),
+      λ k. cond-yes _ _ refl (passing-straight k _ (end .straight .given .1) .0),
     )
 
 returns-2 : tie.Need-returns-2
 returns-2 c =
-    let end = c .before .before .before .before .enum-told .given .1 in
-    let judged = c .before .before .judge-kept .ensures in (
+    let kept : tie.After-judge-kept = search in
+    let stuck : tie.After-enum-told = search in
+    let judged = kept .judge-kept .ensures in
+    let end = stuck .enum-told .given .1 in (
       λ k. judged .0 k ∙ rows-search _ _ _ _ (k .passes) (passing-stuck k end),
-      λ k. judged .1
-          ∙ cond-no _ _ refl (passing-stuck k end),
+      λ k. judged .1 ∙ cond-no _ _ refl (passing-stuck k end),
     )
 
 pub judge-prepared-spec : {M : Type 1} → statement M
