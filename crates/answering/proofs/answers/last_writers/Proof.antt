@@ -1,5 +1,4 @@
 -- `answering::answers::last_writers`: the writers from here on, and the variables that are written nowhere there.
-use native.Mathlib.Omega.{arith}
 use borrow.Author.Needs.{needs}
 use Rattle.route.specs.Flat.{stepsIn}
 use Rattle.answering.proofs.LastWriters.{Wrote, wrote-init, wrote-step, wrote-early, wrote-done}
@@ -19,20 +18,16 @@ returns : tie.Need-returns Inv-loop μ-loop
 returns c new e = wrote-early _ new _ _ _ _ (c .if1 .taken) (c .before .before .loop .inv) e
 
 cast-number : tie.Need-cast-number Inv-loop μ-loop
-cast-number c = let l = c .before .before in omega (arith, l .loop .inv .within, l .before .before .before .pre)
+cast-number c = search needs
 
 step-at-requires : tie.Need-step-at-requires Inv-loop μ-loop
-step-at-requires c κs = omega (arith, c .before .before .loop .inv .within)
+step-at-requires c κs = search needs
 
 mark-writers-requires : tie.Need-mark-writers-requires Inv-loop μ-loop
-mark-writers-requires c κs = c .before .before .before .before .before .before .loop .inv .room
+mark-writers-requires c κs = search needs
 
 loop-again : tie.Need-loop-again Inv-loop μ-loop
-loop-again c =
-    let s = c .before .before .before .before in
-    let t = s .before .before in
-    wrote-step _ _ (t .before .loop .i) _ _ (t .loop-test .taken) (t .before .loop .inv) _ (s .step-at .ensures) _
-    (c .before .before .without32 .ensures) _ (c .mark-writers .ensures .0) (c .mark-writers .ensures .1)
+loop-again c = search wrote-step
 
 returns-2 : tie.Need-returns-2 Inv-loop μ-loop
 returns-2 c new e = wrote-done _ new _ _ _ _ (c .loop-test .left) (c .before .loop .inv) e
