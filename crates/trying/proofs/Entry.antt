@@ -4,7 +4,7 @@ use mathlib.Core.Path.{_≡_, refl, sym, ap, ap₂, _∙_}
 use mathlib.Core.Bool.{Bool, true, false, not, cond}
 use mathlib.Core.List.{List}
 use mathlib.Core.Option.{Option, none, some, Option·getD}
-use Prim.Native.Nat.{ℕ, suc, _+_, _-_, _^_, _≤_, _<_}
+use Prim.Native.Nat.{ℕ, suc, _+_, _-_, _*_, _^_, _≤_, _<_}
 use native.Mathlib.Omega.{arith}
 use native.Mathlib.Numerals.{add-one}
 use lib.Dec.{leb}
@@ -31,6 +31,8 @@ use Rattle.matching.proofs.Matched.{stepFor, matched-at}
 use Rattle.trying.specs.Try.{tryStopped, isKept, listRow, tryFrom}
 use Rattle.trying.specs.inner.Replayable.{Replayable}
 use Rattle.trying.specs.declared.Tried.{Tried}
+use mir.Syntax.{w64}
+use mir.Val.{Fits}
 use Rattle.trying.proofs.Row16.{Passed, passed-at, kept-range}
 use Rattle.trying.proofs.Row17.{positions, order-test}
 
@@ -80,6 +82,9 @@ module _ (o : List ℕ) (kept : ℕ) (rows : List ℕ) (steps : List Step) (from
 
       pub entry-below : k < 64
       entry-below = kept-range kept (getD o i 0) wide (passed .entry) .1
+
+      pub entry-offset : Fits w64 (k * 8)
+      entry-offset = omega (arith, entry-below)
 
       there : has kept k ≡ true
       unfolding isKept

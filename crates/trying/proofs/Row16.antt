@@ -10,7 +10,7 @@ use lib.Dec.{eqb, leb}
 use lib.Bits.{bitOr}
 use lib.ListN.{length, drop, getD, drop-of-length-le}
 use lib.Seq.{drop-cons}
-use borrow.Author.Tests.{eq-eqb, ne-eqb, leb-true, not-true}
+use borrow.Author.Tests.{eq-eqb, ne-eqb, leb-true, not-true, not-false}
 use Rattle.mask.specs.Mask.{has, bit, without}
 use Rattle.mask.proofs.Laws.{has-without}
 use Rattle.mask.proofs.Cut.{has-high}
@@ -48,6 +48,18 @@ kept-range kept b h e =
     let high : 64 ≤ b - 1 → ⊥ = λ k. let z : _≡_ {A = ℕ} 0 1 =
     cc (there, has-high 64 kept (b - 1) h k) in omega arith in
     (leb-true 1 b low, omega arith)
+
+-- an entry that is kept and new
+module _ (kept seen b : ℕ) (x : Bool) (narrow : kept < 2 ^ 64) (e : x ≡ (isKept kept b && not (has seen (b - 1))))
+    (f : not x ≡ false) where
+  fresh-range : (1 ≤ b) × (b - 1 < 64)
+  fresh-range = kept-range kept b narrow (both (isKept kept b) (not (has seen (b - 1))) (sym e ∙ not-false x f) .0)
+
+  pub fresh-first : 1 ≤ b
+  fresh-first = fresh-range .0
+
+  pub fresh-below : b - 1 < 64
+  fresh-below = fresh-range .1
 
 -- ---- a row that passes
 

@@ -1,13 +1,12 @@
 -- `trying::entries::check_list`: the row of the entries that are left answers for all.
-use mathlib.Core.Path.{_≡_, refl, sym, _∙_}
-use Prim.Native.Nat.{ℕ, _+_, _-_, _≤_, _<_}
+use mathlib.Core.Path.{_≡_, refl, _∙_}
+use Prim.Native.Nat.{_+_, _-_, _≤_}
 use native.Mathlib.Omega.{arith}
 use borrow.Author.Needs.{needs}
 use borrow.Author.Tests.{not-true, not-false}
-use lib.ListN.{length, drop, getD}
-use Rattle.mask.proofs.Truth.{both}
-use Rattle.trying.specs.Try.{isKept, listRow}
-use Rattle.trying.proofs.Row16.{kept-range, list-missing, list-whole, list-refused, list-on}
+use lib.ListN.{length, drop}
+use Rattle.trying.specs.Try.{listRow}
+use Rattle.trying.proofs.Row16.{fresh-first, fresh-below, list-missing, list-whole, list-refused, list-on}
 use Rattle.trying.proofs.entries.check_list.Statement.{statement}
 use Rattle.trying.proofs.entries.check_list.Tie as tie
 
@@ -18,21 +17,6 @@ Inv-loop order kept seen₀ i₀ seen i = (i ≤ length order)
 abbrev μ-loop : tie.MeasureT-loop
 μ-loop order kept seen₀ i₀ seen i = length order - i
 
--- an entry that passes
-module _ (c : tie.Else1 Inv-loop μ-loop) where
-  abbrev at : tie.At-loop Inv-loop μ-loop
-  at = c .before .before .before .before
-
-  abbrev b : ℕ
-  b = getD (at .before .before .args .order .now) (at .loop .i) 0
-
-  abbrev kept : ℕ
-  kept = at .before .before .args .kept
-
-  range : (1 ≤ b) × (b - 1 < 64)
-  range = kept-range kept b (omega arith) (both (isKept kept b) _
-      (sym (c .before .fresh .ensures) ∙ not-false _ (c .if1 .left)) .0)
-
 loop-holds : tie.Need-loop-holds Inv-loop μ-loop
 loop-holds c = (omega arith, refl)
 
@@ -41,21 +25,21 @@ cast-b c = omega (arith, c .shared-slice-known2 .given (c .before .before .loop 
 
 returns : tie.Need-returns Inv-loop μ-loop
 returns c =
-    let f = c .before .before in
-    let l = f .before .before .before in
+    let f : tie.After-fresh Inv-loop μ-loop = search in
+    let l : tie.At-loop Inv-loop μ-loop = search in
     c .refuse .ensures ∙ list-refused _ _ (l .loop .i) _ _ (l .loop .inv .1) (omega arith) _ (f .fresh .ensures)
     (not-true _ (c .before .if1 .taken))
 
 sub-bit64 : tie.Need-sub-bit64 Inv-loop μ-loop
-sub-bit64 c = omega (arith, range c .0)
+sub-bit64 c = search (needs, fresh-first)
 
 bit64-requires : tie.Need-bit64-requires Inv-loop μ-loop
-bit64-requires c κs = range c .1
+bit64-requires c κs = search (needs, fresh-below)
 
 loop-again : tie.Need-loop-again Inv-loop μ-loop
 loop-again c =
-    let f = c .before .before in
-    let l = f .before .before .before in (
+    let f : tie.After-fresh Inv-loop μ-loop = search in
+    let l : tie.At-loop Inv-loop μ-loop = search in (
       omega arith,
       list-on _ _ (l .loop .i) _ _ (l .loop .inv .1) (omega arith) _ (f .fresh .ensures)
           (not-false _ (c .before .if1 .left)) _ (c .bit64 .ensures),
@@ -63,12 +47,12 @@ loop-again c =
 
 returns-2 : tie.Need-returns-2 Inv-loop μ-loop
 returns-2 c =
-    let l = c .before .before .before in
+    let l : tie.At-loop Inv-loop μ-loop = search in
     c .refuse2 .ensures ∙ list-missing _ _ (l .loop .i) _ _ (l .loop .inv .1) (omega arith) (c .before .if2 .taken)
 
 returns-3 : tie.Need-returns-3 Inv-loop μ-loop
 returns-3 c =
-    let l = c .before .before .before in
+    let l : tie.At-loop Inv-loop μ-loop = search in
     c .pass .ensures ∙ list-whole _ _ (l .loop .i) _ _ (l .loop .inv .1) (omega arith) (c .before .if2 .left)
 
 pub check-list-spec : {M : Type 1} → statement M

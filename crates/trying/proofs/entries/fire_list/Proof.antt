@@ -1,11 +1,11 @@
 -- `trying::entries::fire_list`: the entries so far are placed, and the rows of those that are left answer for all.
-use Prim.Native.Nat.{ℕ, _-_, _≤_, _<_}
+use Prim.Native.Nat.{_-_, _≤_}
 use native.Mathlib.Omega.{arith}
 use borrow.Author.Needs.{needs}
-use lib.ListN.{length, getD}
+use lib.ListN.{length}
 use Rattle.route.specs.Flat.{stepsIn}
-use Rattle.trying.proofs.Entry.{Placed, placed-init, placed-done, entry-first, entry-below, entry-step}
-use Rattle.trying.proofs.Entry.{placed-early, placed-stuck, placed-step}
+use Rattle.trying.proofs.Entry.{Placed, placed-init, placed-done, entry-first, entry-below}
+use Rattle.trying.proofs.Entry.{entry-offset, entry-step, placed-early, placed-stuck, placed-step}
 use Rattle.trying.proofs.entries.fire_list.Statement.{statement}
 use Rattle.trying.proofs.entries.fire_list.Tie as tie
 
@@ -16,17 +16,6 @@ Inv-loop order kept matches rows placed₀ m₀ i₀ placed m i =
 abbrev μ-loop : tie.MeasureT-loop
 μ-loop order kept matches rows placed₀ m₀ i₀ placed m i = length order - i
 
--- where the entry at i lies
-module _ (c : tie.In-loop Inv-loop μ-loop) where
-  abbrev b : ℕ
-  b = getD (c .before .before .before .before .args .order .now) (c .before .loop .i) 0
-
-  first : 1 ≤ b
-  first = search (needs, entry-first)
-
-  below : b - 1 < 64
-  below = search (needs, entry-below)
-
 loop-holds : tie.Need-loop-holds Inv-loop μ-loop
 loop-holds c = (search needs, search (needs, placed-init))
 
@@ -34,13 +23,13 @@ cast-k : tie.Need-cast-k Inv-loop μ-loop
 cast-k c = omega (arith, c .shared-slice-known3 .given (c .before .before .loop .i))
 
 sub-k : tie.Need-sub-k Inv-loop μ-loop
-sub-k c = omega (arith, first (c .before))
+sub-k c = search (needs, entry-first)
 
 mul-within64 : tie.Need-mul-within64 Inv-loop μ-loop
-mul-within64 c = omega (arith, below (c .before))
+mul-within64 c = search (needs, entry-offset)
 
 array-read-within64 : tie.Need-array-read-within64 Inv-loop μ-loop
-array-read-within64 c = omega (arith, below (c .before))
+array-read-within64 c = search (needs, entry-below)
 
 returns : tie.Need-returns Inv-loop μ-loop
 returns c = search (needs, placed-early)

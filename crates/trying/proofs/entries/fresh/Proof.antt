@@ -19,9 +19,9 @@ returns-2 c =
 
 returns-3 : tie.Need-returns-3
 returns-3 c =
-    let w = c .before in
-    let a = w .before .before .before .args in
-    c .holds64 .ensures ∙ ap (λ (m : ℕ). has m (a .b - 1)) (w .without64 .ensures)
+    let start : tie.Start = search in
+    let a = start .args in
+    c .holds64 .ensures ∙ ap (λ (m : ℕ). has m (a .b - 1)) (c .before .without64 .ensures)
     ∙ fresh-is (a .kept) (a .seen) (a .b) (le-leb 1 (a .b) (omega arith))
 
 pub fresh-spec : {M : Type 1} → statement M

@@ -32,12 +32,12 @@ cast-if2 c = omega (arith, c .shared-slice-known .given (c .before .before .loop
 
 returns-2 : tie.Need-returns-2 Inv-loop μ-loop
 returns-2 c =
-    let l = c .before .before .before in
+    let l : tie.At-loop Inv-loop μ-loop = search in
     turn-off _ _ (l .loop .i) _ (l .loop .inv .1) (omega arith) (omega arith) (c .if2 .taken)
 
 loop-again : tie.Need-loop-again Inv-loop μ-loop
 loop-again c =
-    let l = c .before .before .before in
+    let l : tie.At-loop Inv-loop μ-loop = search in
     (omega arith, turn-on _ _ (l .loop .i) _ (l .loop .inv .1) (omega arith) (omega arith) (c .if2 .left))
 
 returns-3 : tie.Need-returns-3 Inv-loop μ-loop
