@@ -66,12 +66,13 @@ pub record TestAt (l : List Step) (matches : List ℕ) (i : ℕ) (b : Bool) : Ty
   pub says : (new : List Step) → MatchesOf new l matches → sameStep new (getD l i blank) ≡ b
 
 pub test-at :
-    {l : List Step} {matches : List ℕ} {i : ℕ} {s t : Step} {b : Bool} → i < length l → s ≡ getD l i blank
+    {l : List Step} {matches : List ℕ} {i n : ℕ} {s t : Step} {b : Bool} → i < n → n ≡ length l → s ≡ getD l i blank
     → t ≡ getD (stepsIn matches) i blank → b ≡ sameData s (present t) → TestAt l matches i b
 unfolding sameStep
-test-at {l} {matches} {i} h s-is t-is b-is =
+test-at {l} {matches} {i} h n-is s-is t-is b-is =
     record {
-      says = λ new is. sym (b-is ∙ ap₂ sameData s-is (ap present t-is ∙ present-at new l matches is i h));
+      says = λ new is. sym (b-is ∙ ap₂ sameData s-is (ap present t-is ∙ present-at new l matches is i
+          (omega (arith, h, n-is))));
     }
 
 module _

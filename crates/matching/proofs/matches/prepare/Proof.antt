@@ -35,12 +35,13 @@ weigh-requires c κs = ((search (lists-fit, lent-few), search needs), search (ne
 
 returns-2 : tie.Need-returns-2
 returns-2 c =
-    let made = c .before .before .before .before .before .before in
-    let passed = made .before .before in
-    let begun = passed .before .before .before .before .before in
-    let headed = begun .before .before in
-    let start = headed .before .before .before .before .before .before in
-    prepared-weighed _ _ _ (begun .begin .ensures) _ (passed .before .passed .ensures) _ (headed .job-line .ensures .0)
+    let made : tie.After-perform = search in
+    let passed : tie.Else1 = search in
+    let test : tie.After-passed = search in
+    let begun : tie.After-begin = search in
+    let headed : tie.After-job-line = search in
+    let start : tie.Start = search in
+    prepared-weighed _ _ _ (begun .begin .ensures) _ (test .passed .ensures) _ (headed .job-line .ensures .0)
     (start .pre .0) (passed .if1 .left) _ (made .perform .ensures) _ (c .weigh .ensures)
 
 pub prepare-spec : {M : Type 1} → statement M

@@ -7,7 +7,6 @@ use native.Mathlib.Omega.{arith}
 use borrow.Author.Needs.{needs}
 use lib.ListN.{length}
 use Rattle.mask.specs.Mask.{has}
-use Rattle.route.specs.Flat.{stepsIn}
 use Rattle.route.specs.declared.Step.{Step}
 use Rattle.slice.specs.Slice.{keptMask}
 use Rattle.slice.proofs.Sweep.{kept-below}
@@ -15,28 +14,24 @@ use Rattle.matching.specs.Fit.{keptOf}
 use Rattle.matching.proofs.matches.weigh.Statement.{statement}
 use Rattle.matching.proofs.matches.weigh.Tie as tie
 
-module _ (c : tie.After-keep) where
-  abbrev occurrences : List Step
-  occurrences = stepsIn (c .before .before .before .before .before .args .occurrences .now)
-
-  kept-room : (i : ℕ) → has (c .keep .result) i ≡ true → i < length occurrences
-  kept-room i h =
-      kept-below occurrences (c .before .variables-of .result) i (ap (λ (m : ℕ). has m i) (sym (c .keep .ensures)) ∙ h)
+kept-room : (l : List Step) (vars kept : ℕ) → kept ≡ keptMask l vars → (i : ℕ) → has kept i ≡ true → i < length l
+kept-room l vars kept e i h = kept-below l vars i (ap (λ (m : ℕ). has m i) (sym e) ∙ h)
 
 kept-rows-requires : tie.Need-kept-rows-requires
 kept-rows-requires c κs =
-    (omega arith, λ i h. let low = kept-room (c .before .before) i h in (omega arith, omega arith))
+    let k : tie.After-keep = search in
+    (omega arith, λ i h. let low = kept-room _ _ _ (k .keep .ensures) i h in (omega arith, omega arith))
 
 returns : tie.Need-returns
 unfolding keptOf
 returns c =
-    let s = c .before in
-    let k = s .before .before in
-    let v = k .before in
+    let s : tie.After-same-mask = search in
+    let k : tie.After-keep = search in
+    let v : tie.After-variables-of = search in
     λ is.
-    let kept = k .keep .ensures ∙ ap (keptMask (occurrences k)) (v .variables-of .ensures) in
-    let same = s .before .same-mask .ensures _ is in
-    let straight = s .straight-end .ensures _ _ is same in
+    let kept = k .keep .ensures ∙ ap (keptMask _) (v .variables-of .ensures) in
+    let same = s .same-mask .ensures _ is in
+    let straight = c .before .straight-end .ensures _ _ is same in
     record {
       outcome-is = c .kept-rows .ensures _ _ _ is kept same straight;
       line-is = refl;

@@ -3,7 +3,7 @@ use Prim.Native.Nat.{_-_, _≤_}
 use native.Mathlib.Omega.{arith}
 use borrow.Author.Needs.{needs}
 use Rattle.route.specs.Flat.{stepsIn}
-use Rattle.matching.proofs.SameMask.{SameSoFar, TestAt, test-at, same-init, same-hit, same-miss, same-done}
+use Rattle.matching.proofs.SameMask.{SameSoFar, test-at, same-init, same-hit, same-miss, same-done}
 use Rattle.matching.proofs.same.same_mask.Statement.{statement}
 use Rattle.matching.proofs.same.same_mask.Tie as tie
 
@@ -13,28 +13,14 @@ Inv-loop occurrences matches n same₀ i₀ same i = (i ≤ n) × SameSoFar (ste
 abbrev μ-loop : tie.MeasureT-loop
 μ-loop occurrences matches n same₀ i₀ same i = n - i
 
-module _ (c : tie.After-same-data Inv-loop μ-loop) where
-  abbrev at : tie.At-loop Inv-loop μ-loop
-  at = c .before .before .before .before
-
-  abbrev entry : tie.Start Inv-loop μ-loop
-  entry = at .before .before .before .before
-
-  tested :
-      TestAt (stepsIn (entry .args .occurrences .now)) (entry .args .matches .now) (at .loop .i) (c .same-data .result)
-  tested =
-      test-at (omega arith) (c .before .before .step-at .ensures) (c .before .step-at2 .ensures) (c .same-data .ensures)
-
 loop-holds : tie.Need-loop-holds Inv-loop μ-loop
 loop-holds c = (omega arith, same-init _ _)
 
 loop-again : tie.Need-loop-again Inv-loop μ-loop
-loop-again c = (omega arith, same-miss (at (c .before) .loop .inv .1) (tested (c .before)) (c .if1 .taken))
+loop-again c = (omega arith, search (same-miss, test-at))
 
 loop-again-2 : tie.Need-loop-again-2 Inv-loop μ-loop
-loop-again-2 c =
-    let e = c .before in
-    (omega arith, same-hit (at (e .before) .loop .inv .1) (tested (e .before)) (e .if1 .left) (c .bit64 .ensures))
+loop-again-2 c = (omega arith, search (same-hit, test-at))
 
 returns : tie.Need-returns Inv-loop μ-loop
 returns c = same-done (c .before .loop .inv .1) (omega arith) (omega arith)

@@ -1,6 +1,6 @@
 -- `reader::parts::steps`: a step put away for each line that no row refuses.
 use mathlib.Core.Path.{sym}
-use Prim.Native.Nat.{_-_, _<_}
+use Prim.Native.Nat.{_-_}
 use native.Mathlib.Omega.{arith}
 use lib.ListN.{length}
 use Rattle.reader.proofs.StepLines.{Stepped, stepped-init, stepped-past, stepped-row, stepped-step, step-room}
