@@ -6,25 +6,25 @@ use Rattle.lines.proofs.reading.step.Tie as tie
 
 list-requires-3 : tie.Need-list-requires-3
 list-requires-3 c κs =
-    let at-out = c .before .before .before .before in
-    let at-name = at-out .before .before .before .before .before in
-    (at-name .before .before .before .pre .0, search needs)
+    let at-name : tie.After-number = search in
+    let start : tie.Start = search in
+    (start .pre .0, search needs)
 
 list-requires-4 : tie.Need-list-requires-4
 list-requires-4 c κs =
-    let at-read = c .before .before .before .before in
-    let at-out = at-read .before .before .before in
-    let at-name = at-out .before .before .before .before .before in
-    (at-name .before .before .before .pre .0, search needs)
+    let at-out : tie.After-list2 = search in
+    let at-name : tie.After-number = search in
+    let start : tie.Start = search in
+    (start .pre .0, search needs)
 
 returns : tie.Need-returns
 returns c =
-    let at-end = c .before .before .before .before in
-    let at-write = at-end .before .before in
-    let at-read = at-write .before .before .before in
-    let at-out = at-read .before .before .before in
-    let at-in = at-out .before .before .before in
-    let at-name = at-in .before .before .before in
+    let at-end : tie.After-text6 = search in
+    let at-write : tie.After-list4 = search in
+    let at-read : tie.After-list3 = search in
+    let at-out : tie.After-list2 = search in
+    let at-in : tie.After-list = search in
+    let at-name : tie.After-number = search in
     step-on _ _ _ _ _ _ _ _ _ _ _ _ _ _ (at-name .before .text .ensures) (at-name .number .ensures)
     (at-in .before .text2 .ensures) (at-in .list .ensures)
     (at-out .before .text3 .ensures) (at-out .list2 .ensures) (at-read .before .text4 .ensures)

@@ -49,10 +49,10 @@ returns-3 : tie.Need-returns-3
 returns-3 c = search (needs, no-outs)
 
 returns-4 : tie.Need-returns-4
-returns-4 c = search (needs, last, no-reads)
+returns-4 c = search (needs, last)
 
 returns-5 : tie.Need-returns-5
-returns-5 c = search (needs, last, no-reads)
+returns-5 c = search (needs, no-reads)
 
 pub line-fits-spec : {M : Type 1} → statement M
 line-fits-spec = tie.close (tie.spec (λ c κs. search needs) returns returns-2 returns-3 returns-4 returns-5)
