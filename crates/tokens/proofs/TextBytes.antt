@@ -6,6 +6,8 @@ use mathlib.Core.List.{List, [], _∷_}
 use Prim.Native.Nat.{ℕ, zero, suc, _+_, _-_, _≤_, _<_}
 use native.Mathlib.Omega.{arith}
 use native.Mathlib.Numerals.{add-one}
+use mir.Syntax.{w8}
+use mir.Val.{Fits}
 use lib.Dec.{ltb}
 use lib.ListN.{length, drop, getD}
 use borrow.Author.Tests.{ltb-true, ltb-false, not-false}
@@ -137,8 +139,8 @@ text-other s from w i h r far = text-breaks s from w i h r (λ _. far)
 
 -- ---- four bytes at a time
 
-module _ (s : List ℕ) (at : ℕ) (w : List ℕ) (b : ℕ) (hs : (j : ℕ) → getD s j 0 < 256) (hw : (j : ℕ) → getD w j 0 < 256)
-    (e : four s at ≡ four w b) where
+module _ (s : List ℕ) (at : ℕ) (w : List ℕ) (b : ℕ) (hs : (j : ℕ) → Fits w8 (getD s j 0))
+    (hw : (j : ℕ) → Fits w8 (getD w j 0)) (e : four s at ≡ four w b) where
   pick : (k : ℕ) → k < 4 → getD s (at + k) 0 ≡ getD w (b + k) 0
   pick zero r =
       let x : at + 0 ≡ at = omega arith in
@@ -194,22 +196,24 @@ module _ (s : List ℕ) (at : ℕ) (w : List ℕ) (b : ℕ) (hs : (j : ℕ) → 
   )
   pick (suc (suc (suc (suc k)))) r = absurd (omega (arith, r))
 
-pub agreeing-told : (s : List ℕ) (from : ℕ) (w : List ℕ) → ((j : ℕ) → getD s j 0 < 256) → ((j : ℕ) → getD w j 0 < 256)
-    → from ≤ length s → 4 ≤ length w → length w ≤ 8 → length w ≤ length s - from → four s from ≡ four w 0
-    → four s (from + length w - 4) ≡ four w (length w - 4) → Agreeing s from w true
-agreeing-told s from w hs hw in-s some few room e f =
+pub agreeing-told : (s : List ℕ) (from : ℕ) (w : List ℕ) (a b c d : ℕ) → ((j : ℕ) → Fits w8 (getD s j 0))
+    → ((j : ℕ) → Fits w8 (getD w j 0)) → from ≤ length s → 4 ≤ length w → length w ≤ 8 → length w ≤ length s - from
+    → a ≡ four s from → b ≡ four w 0 → a ≡ b → c ≡ four s (from + length w - 4) → d ≡ four w (length w - 4) → c ≡ d
+    → Agreeing s from w true
+agreeing-told s from w a b c d hs hw in-s some few room a-is b-is first c-is d-is last =
     record { agrees = λ _ j r. go j r (ltb j 4) refl; within = λ _. omega (arith, in-s, room) }
   where
     go : (j : ℕ) → j < length w → (x : Bool) → ltb j 4 ≡ x → getD s (from + j) 0 ≡ getD w j 0
     go j r true y =
         let u : 0 + j ≡ j = omega arith in
-        pick s from w 0 hs hw e j (ltb-true j 4 y) ∙ ap (λ (x : ℕ). getD w x 0) u
+        pick s from w 0 hs hw (sym a-is ∙ first ∙ b-is) j (ltb-true j 4 y) ∙ ap (λ (x : ℕ). getD w x 0) u
     go j r false y =
         let low = ltb-false j 4 y in
         let u : from + j ≡ from + length w - 4 + (j - (length w - 4)) = omega (arith, some, few, low, r) in
         let v : length w - 4 + (j - (length w - 4)) ≡ j = omega (arith, some, few, low, r) in
         ap (λ (x : ℕ). getD s x 0) u
-        ∙ pick s (from + length w - 4) w (length w - 4) hs hw f (j - (length w - 4)) (omega (arith, some, few, low, r))
+        ∙ pick s (from + length w - 4) w (length w - 4) hs hw (sym c-is ∙ last ∙ d-is) (j - (length w - 4))
+        (omega (arith, some, few, low, r))
         ∙ ap (λ (x : ℕ). getD w x 0) v
 
 pub agreeing-not : (s : List ℕ) (from : ℕ) (w : List ℕ) → Agreeing s from w false
