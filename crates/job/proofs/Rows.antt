@@ -81,46 +81,52 @@ module _ (line i : ℕ) (done : List ℕ) (whole o : Outcome) where
 
 -- ---- a route's lines from its head on
 
-pub places-bound : (places : ℕ) → placesFit places ≡ true → places ≤ 64
+places-bound : (places : ℕ) → placesFit places ≡ true → places ≤ 64
 unfolding placesFit
 places-bound places e = leb-true places 64 (both (leb 1 places) (leb places 64) e .1)
+
+pub head-places : (places : ℕ) (f : Bool) → f ≡ placesFit places → not f ≡ false → places ≤ 64
+head-places places f fits ok = places-bound places (sym fits ∙ not-false f ok)
 
 module _ (line places : ℕ) (l : List Step) (f : Bool) (fits : f ≡ placesFit places) where
   pub route-two : (o : Outcome) → not f ≡ true → o ≡ refuse 2 line → o ≡ first (routeRows line places l)
   unfolding routeRows
   route-two o fails to = to ∙ sym (row-refuses (placesFit places) 2 line _ (sym fits ∙ not-true f fails) refl)
 
-  module _ (o : Outcome) (ok : not f ≡ false) (lines : o ≡ first (stepRows (line + 1) places [] l)) where
+  module _ (o : Outcome) (ok : not f ≡ false) (lines : o ≡ first (stepRows (line + 1) places [] l)) (t : Bool)
+      (test : t ≡ eqb (o .number) 0) where
     after-head : (k : List Outcome) → first (unless (placesFit places) 2 line ∷ k) ≡ first k
     after-head k = row-passes (placesFit places) 2 line k (sym fits ∙ not-false f ok)
 
-    number-is : eqb (o .number) 0 ≡ eqb (first (stepRows (line + 1) places [] l) .number) 0
-    number-is = ap (λ (x : Outcome). eqb (x .number) 0) lines
+    number-is : eqb (first (stepRows (line + 1) places [] l) .number) 0 ≡ t
+    number-is = ap (λ (x : Outcome). eqb (x .number) 0) (sym lines) ∙ sym test
 
-    pub route-steps : eqb (o .number) 0 ≡ false → o ≡ first (routeRows line places l)
+    pub route-steps : not t ≡ true → o ≡ first (routeRows line places l)
     unfolding routeRows
-    route-steps fails =
-        lines ∙ sym (rows-refuse (stepRows (line + 1) places [] l) _ (sym number-is ∙ fails)) ∙ sym (after-head _)
+    route-steps off =
+        lines ∙ sym (rows-refuse (stepRows (line + 1) places [] l) _ (number-is ∙ not-true t off)) ∙ sym (after-head _)
 
-    pub route-none : (p : Outcome) → eqb (o .number) 0 ≡ true → length l ≡ 0 → p ≡ refuse 4 (line + 1)
+    pub route-none : (p : Outcome) (n : ℕ) → not t ≡ false → n ≡ length l → n ≡ 0 → p ≡ refuse 4 (line + 1)
         → p ≡ first (routeRows line places l)
     unfolding routeRows
-    route-none p passes none to =
+    route-none p n on is nil to =
+        let none : length l ≡ 0 = sym is ∙ nil in
         to ∙ ap (λ (n : ℕ). refuse 4 n) next
         ∙ sym (row-refuses (not (eqb (length l) 0)) 4 (afterSteps line l) [] (ap not (eq-eqb (length l) 0 none)) refl)
-        ∙ sym (rows-pass (stepRows (line + 1) places [] l) _ (sym number-is ∙ passes))
+        ∙ sym (rows-pass (stepRows (line + 1) places [] l) _ (number-is ∙ not-false t on))
         ∙ sym (after-head _)
       where
         next : line + 1 ≡ afterSteps line l
         next = omega arith
 
-    pub route-pass : (p : Outcome) → eqb (o .number) 0 ≡ true → (length l ≡ 0 → ⊥) → p ≡ pass
+    pub route-pass : (p : Outcome) (n : ℕ) → not t ≡ false → n ≡ length l → (n ≡ 0 → ⊥) → p ≡ pass
         → p ≡ first (routeRows line places l)
     unfolding routeRows
-    route-pass p passes some to =
+    route-pass p n on is some to =
         to ∙ sym rows-end
-        ∙ sym (row-passes (not (eqb (length l) 0)) 4 (afterSteps line l) [] (ap not (ne-eqb (length l) 0 some)))
-        ∙ sym (rows-pass (stepRows (line + 1) places [] l) _ (sym number-is ∙ passes))
+        ∙ sym (row-passes (not (eqb (length l) 0)) 4 (afterSteps line l) []
+        (ap not (ne-eqb (length l) 0 (λ z. some (is ∙ z)))))
+        ∙ sym (rows-pass (stepRows (line + 1) places [] l) _ (number-is ∙ not-false t on))
         ∙ sym (after-head _)
 
 -- ---- what lines that pass have: no list is over 64, and each route has a step
@@ -195,6 +201,9 @@ module _ (line places : ℕ) (l : List Step) (a : Outcome) (is : a ≡ first (ro
 
   pub route-few : not t ≡ false → length l ≤ 64
   route-few on = route-fits line places l (asked ∙ not-false t on) .steps-fit
+
+  pub route-places : not t ≡ false → places ≤ 64
+  route-places on = route-fits line places l (asked ∙ not-false t on) .places-fit
 
 -- where the lines after a route of at most 64 steps begin
 pub head-fits : (l : List Step) (head : ℕ) → head ≡ afterSteps 1 l → length l ≤ 64 → head < 1000

@@ -38,12 +38,13 @@ returns c = search (needs, steps-over)
 
 slice-aggregate-check-step : tie.Need-slice-aggregate-check-step Inv-loop μ-loop
 slice-aggregate-check-step c =
-    let at = c .before .before .before .before in
-    flat-prefix (at .before .before .before .args .steps .now) (at .loop .i) (omega (arith, at .before .count .ensures))
+    let at : tie.At-loop Inv-loop μ-loop = search in
+    let start : tie.Start Inv-loop μ-loop = search in
+    flat-prefix (start .args .steps .now) (at .loop .i) (omega (arith, at .before .count .ensures))
 
 check-step-requires : tie.Need-check-step-requires Inv-loop μ-loop
 check-step-requires c κs =
-    let turn = c .before .before .before in
+    let turn : tie.Else1 Inv-loop μ-loop = search in
     ((search needs, flat-few _ _ 64 (turn .if1 .left)), search (needs, hinted-prefix))
 
 returns-2 : tie.Need-returns-2 Inv-loop μ-loop
@@ -51,10 +52,11 @@ returns-2 c = search (needs, steps-refused, flat-names)
 
 loop-again : tie.Need-loop-again Inv-loop μ-loop
 loop-again c =
-    let checked = c .before .before .before .before in
-    let step = checked .before .before .before in
-    let at = step .before .before .before in
-    let start = at .before .before .before in
+    let test : tie.Else2 Inv-loop μ-loop = search in
+    let checked : tie.After-check-step Inv-loop μ-loop = search in
+    let step : tie.After-step-at Inv-loop μ-loop = search in
+    let at : tie.At-loop Inv-loop μ-loop = search in
+    let start : tie.Start Inv-loop μ-loop = search in
     let counted = at .before .count .ensures in (
       search needs,
       (
@@ -62,7 +64,7 @@ loop-again c =
             (omega arith) (ap (λ (s : Step). s .name) (step .step-at .ensures)) (c .hint-more .ensures),
         steps-passed (start .args .line) (start .args .places) (at .loop .i) _ _ _ _ counted (at .loop .inv .1 .1)
             (omega arith) _ (step .step-at .ensures) _ _ (flat-names _ (at .loop .i)) (checked .check-step .ensures)
-            (c .before .before .before .passed .ensures) (c .before .before .if2 .left),
+            (test .before .passed .ensures) (test .if2 .left),
       ),
     )
 

@@ -12,8 +12,10 @@ use Rattle.job.proofs.lines.step_fits.Tie as tie
 returns : tie.Need-returns
 unfolding stepFits
 returns c =
-    let s = c .before .before .before .before .before .args .s in
-    and-yes (c .before .before .before .before .name-fits .ensures) (c .before .before .before .if1 .taken)
+    let named : tie.Then1 = search in
+    let start : tie.Start = search in
+    let s = start .args .s in
+    and-yes (named .before .name-fits .ensures) (named .if1 .taken)
     (c .within64 .ensures ∙ ap (λ (m : ℕ). within (bitOr (s .ins) (s .outs)) m) (c .before .below64 .ensures))
 
 returns-2 : tie.Need-returns-2
