@@ -23,7 +23,7 @@ returns c = search (needs, hint-none)
 
 name-at-requires : tie.Need-name-at-requires
 name-at-requires c κs =
-    let a = c .before .before .before in
+    let a : tie.Start = search in
     hint-inside (stepsIn (a .args .steps .now)) (a .args .hint .now) (a .args .name) _ (a .pre) refl (c .if1 .left)
 
 returns-2 : tie.Need-returns-2
