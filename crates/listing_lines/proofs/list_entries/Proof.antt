@@ -26,7 +26,9 @@ loop-holds : tie.Need-loop-holds Inv-loop μ-loop
 loop-holds c = (search needs, (search needs, search (needs, left-start)))
 
 cast-entry : tie.Need-cast-entry Inv-loop μ-loop
-cast-entry c = omega (arith, c .shared-slice-known2 .given (c .before .before .before .loop .i))
+cast-entry c =
+    let turn : tie.At-loop Inv-loop μ-loop = search in
+    omega (arith, c .shared-slice-known2 .given (turn .loop .i))
 
 entry-requires : tie.Need-entry-requires Inv-loop μ-loop
 entry-requires c κs = search (needs, room)
