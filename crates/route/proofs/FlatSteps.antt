@@ -52,6 +52,11 @@ flat-at (n ∷ a ∷ b ∷ c ∷ w) (suc i) h =
     (sym (past n a b c w (4 * suc i + 2) (4 * i + 2) (omega arith)))
     (sym (past n a b c w (4 * suc i + 3) (4 * i + 3) (omega arith)))
 
+pub flat-read : (w : List ℕ) (i : ℕ) (s : Step) → i < length (stepsIn w)
+    → s ≡ stepFrom (getD w (4 * i) 0) (getD w (4 * i + 1) 0) (getD w (4 * i + 2) 0) (getD w (4 * i + 3) 0)
+    → s ≡ getD (stepsIn w) i blank
+flat-read w i s h e = e ∙ sym (flat-at w i h)
+
 -- four numbers stored at 4 i and after it
 abbrev pub put4 : List ℕ → ℕ → ℕ → ℕ → ℕ → ℕ → List ℕ
 put4 w x n a b c = set (set (set (set w x n) (x + 1) a) (x + 2) b) (x + 3) c

@@ -27,26 +27,26 @@ room-at : (c : tie.At-loop Inv-loop μ-loop) → c .loop .i < length (stepsIn (c
 room-at c = omega (arith, length-flat (c .loop .into), room c)
 
 put-requires : tie.Need-put-requires Inv-loop μ-loop
-put-requires c κs = room-at (c .before .before .before .before)
+put-requires c κs = room-at (search)
 
 returns : tie.Need-returns Inv-loop μ-loop
 returns c =
-    let put = c .before .before in
-    let at = put .before .before .before .before .before in
-    let start = at .before .before in
+    let put : tie.After-put Inv-loop μ-loop = search in
+    let at : tie.At-loop Inv-loop μ-loop = search in
+    let start : tie.Start Inv-loop μ-loop = search in
     let r = start .args .t1 in
     lay-over r (full r _ (start .good .0)) (at .loop .into) (at .loop .i) (at .loop .inv .1) _ _ (room at) (omega arith)
     (put .put .ensures .0)
     (omega arith) (omega arith) (put .before .blank .ensures)
 
 put-requires-2 : tie.Need-put-requires-2 Inv-loop μ-loop
-put-requires-2 c κs = room-at (c .before .before .before .before)
+put-requires-2 c κs = room-at (search)
 
 loop-again : tie.Need-loop-again Inv-loop μ-loop
 loop-again c =
-    let put = c .before .before in
-    let at = put .before .before .before .before .before in
-    let start = at .before .before in
+    let put : tie.After-put2 Inv-loop μ-loop = search in
+    let at : tie.At-loop Inv-loop μ-loop = search in
+    let start : tie.Start Inv-loop μ-loop = search in
     let r = start .args .t1 in
     let on =
     lay-on r (full r _ (start .good .0)) (at .loop .into) (at .loop .i) (at .loop .inv .1) _ _ (room at) (omega arith)
