@@ -22,7 +22,7 @@ use denote.Builtin.{u64, usize, ArrayOf}
 use denote.Exit.{yes}
 use denote.Laws.{Is, Are, Ises}
 use denote.Plain.{uint-vals, uint-tells}
-use denote.RattleType.{RattleType, flat, owns}
+use denote.RattleType.{RattleType, Valss, flat, owns}
 use denote.Ref.{now}
 use denote.Signature.{Slot, plain, typesAt}
 use denote.Slice.{sliceTy}
@@ -156,37 +156,19 @@ module _ (R : RattleType) (l : List Slice) where
             frame ! $ frame ! $ move ! (1 ∷ 0 ∷ []) $ fjoin ! $ nothing ! $ fjoin ! $ nothing ! $ fjoin ! $ nothing ! $
             fjoin ! $ nothing ! $ fjoin ! $ nothing ! $ fjoin ! $ says-so ! e $ ends-here !)
 
-        abbrev at-entry : SProp 𝓤
-        at-entry = onEntry 𝓤 H A (first .signature) κs (y .0 .1) (y .0 .3) (
+        abbrev us : Valss (typesAt (first .signature .params) κs)
+        us = (
           vint w64 p ∷ [],
-          (
-            val a ∷ [],
-            (vint w64 n ∷ [], (vint w64 q ∷ [], (val b ∷ [], (vint w64 m ∷ [], alone-vals l κs z)))),
-          ),
+          (val a ∷ [], (vint w64 n ∷ [], (vint w64 q ∷ [], (val b ∷ [], (vint w64 m ∷ [], alone-vals l κs z))))),
         )
 
         walk : p < 2 ^ 64 → q < 2 ^ 64 → Is (Array S 100) a (val a ∷ []) → Is (Array S 100) b (val b ∷ [])
             → Are (typesAt (alone l) κs) (Ises (typesAt (alone l) κs)) z (alone-vals l κs z) → (n ≤ 100) × (m ≤ 100)
-            → ent 𝓤 at-entry (WpFn 𝓤 H (𝓣 .C) (𝓣 .Λ) body (vint w64 p ∷ val a ∷ vint w64 n ∷ vint w64 q ∷ val b ∷
-            vint w64 m ∷ flat (typesAt (alone l) κs) (alone-vals l κs z)) End)
+            → ent 𝓤 (onEntry 𝓤 H A (first .signature) κs (y .0 .1) (y .0 .3) us)
+            (WpFn 𝓤 H (𝓣 .C) (𝓣 .Λ) body (flat (typesAt (first .signature .params) κs) us) End)
         walk fits-p fits-q is-a is-b are few =
             qed W (raw tokens ∷ ‵ (owns (u64 ∷ Array S 100 ∷ usize ∷ u64 ∷ Array S 100 ∷ usize ∷ typesAt (alone l) κs)
-            (y .0 .3) (
-              vint w64 p ∷ [],
-              (
-                val a ∷ [],
-                (
-                  vint w64 n ∷ [],
-                  (
-                    vint w64 q ∷ [],
-                    (
-                      val b ∷ [],
-                      (vint w64 m ∷ [], alone-vals l κs z),
-                    ),
-                  ),
-                ),
-              ),
-            )) ∷ []) ∵ move ! (1 ∷ []) $
+            (y .0 .3) us) ∷ []) ∵ move ! (1 ∷ []) $
             fsplit ! $ drop ! $ fsplit ! $ drop ! $ fsplit ! $ drop ! $ fsplit ! $ drop ! $ fsplit ! $ drop ! $
             fsplit ! $ drop ! $ move ! (1 ∷ 0 ∷ []) $ join ! $ by ! (walks p q n m a b fits-p fits-q (few .0) (few .1)
             is-a is-b κs z are (mean 𝓤 H A Rest) Left End (λ x. met W (hundreds 𝓤 H A W) tt R l s (many l) 0 (same l) κs
@@ -199,19 +181,7 @@ module _ (R : RattleType) (l : List Slice) where
             uint-vals w64,
             (
               array-vals vals,
-              (
-                uint-vals w64,
-                (
-                  uint-vals w64,
-                  (
-                    array-vals vals,
-                    (
-                      uint-vals w64,
-                      spells (many l) κs 0 l (same l),
-                    ),
-                  ),
-                ),
-              ),
+              (uint-vals w64, (uint-vals w64, (array-vals vals, (uint-vals w64, spells (many l) κs 0 l (same l))))),
             ),
           ))
           (λ κs. (
@@ -220,10 +190,7 @@ module _ (R : RattleType) (l : List Slice) where
               array-tells S vals tells-S 100,
               (
                 uint-tells w64,
-                (
-                  uint-tells w64,
-                  (array-tells S vals tells-S 100, (uint-tells w64, tell (many l) κs 0 l (same l))),
-                ),
+                (uint-tells w64, (array-tells S vals tells-S 100, (uint-tells w64, tell (many l) κs 0 l (same l)))),
               ),
             ),
           ))

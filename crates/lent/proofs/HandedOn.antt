@@ -116,13 +116,7 @@ module _ {M : Type 1} {𝓤 : URA M} {H : Heap 𝓤} {A : Atoms 𝓤} (W : Given
       κs′,
       (fullShare, (fullShare, qs)),
       tt,
-      (
-        p,
-        (
-          lentRow (E .type) (take n a) (x .l₀) 0 (x .γ),
-          (q, (lentRow (E .type) (take m b) (x .l₁) 0 (x .δ), zs)),
-        ),
-      ),
+      (p, (lentRow (E .type) (take n a) (x .l₀) 0 (x .γ), (q, (lentRow (E .type) (take m b) (x .l₁) 0 (x .δ), zs)))),
       (
         vint w64 p ∷ [],
         (

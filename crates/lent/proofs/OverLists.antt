@@ -48,8 +48,7 @@ use Rattle.lent.proofs.Laying.{Lent, val, numbers, Lay, Which, old, new
 use Rattle.lent.proofs.Laying.{Laying, Walk, body-one, body-two, body-mut, calls-one, calls-two, calls-mut}
 
 module _ (R : RattleType) (l : List Slice) {M : Type 1} (𝓤 : URA M) (H : Heap 𝓤) (A : Atoms 𝓤) (W : Given 𝓤 H A)
-    (mem : Memory → SProp 𝓤) (run : Routine → Fun 𝓤) (τ : Ty)
-    (typed : (r : R .Denot) (v : Val) → Is R r (v ∷ []) → T (hasTy τ v) × WT v) (s : Says u64 tt R l 𝓤)
+    (τ : Ty) (typed : (r : R .Denot) (v : Val) → Is R r (v ∷ []) → T (hasTy τ v) × WT v) (s : Says u64 tt R l 𝓤)
     (φ : Fact St.the-row tt R l) (c : Choice) where
   abbrev k : ℕ
   k = suc (suc (many l))
@@ -160,10 +159,7 @@ module _ (R : RattleType) (l : List Slice) {M : Type 1} (𝓤 : URA M) (H : Heap
           uint-tells w64,
           (
             shr-slice-tells (named 0) (κs .0) St.the-row,
-            (
-              uint-tells w64,
-              (shr-slice-tells (named 1) (κs .1 .0) St.the-row, tell k κs 2 l (past l)),
-            ),
+            (uint-tells w64, (shr-slice-tells (named 1) (κs .1 .0) St.the-row, tell k κs 2 l (past l))),
           ),
         ))
         (λ g are. via 𝓤 _ (fst∗ 𝓤 _ (emp 𝓤)) (walk g (are .1 .1 .1 .1) (are .0 .1) (are .1 .1 .0 .1)
@@ -228,7 +224,7 @@ module _ (R : RattleType) {M : Type 1} (𝓤 : URA M) (H : Heap 𝓤) (A : Atoms
       → Meeting done (body-one τ namesTy) (done-fact St.the-row tt R g) n
   with-done f g agree known =
       subst (Meeting done (body-one τ namesTy) (done-fact St.the-row tt R g)) as-read
-      (over-lists R done 𝓤 H A W mem run τ typed (λ κs p a q b z r e. fact 𝓤 (done-fact u64 tt R f κs p a q b z r e))
+      (over-lists R done 𝓤 H A W τ typed (λ κs p a q b z r e. fact 𝓤 (done-fact u64 tt R f κs p a q b z r e))
       (done-fact St.the-row tt R g) c (λ κs κ κ′ p a q b z y r ws. fact-mono 𝓤 _ _ (agree p a q b y (now (z .0)) r))
       name (body-one τ namesTy (reads c) name) 𝓣 known
       (λ κs q₀ q₁ p₀ p₁ x₀ x₁ f₀ f₁ r₀ r₁ z are. calls-one 𝓤 H A W mem run (𝓣 .C) (𝓣 .Λ) (fmOf 𝓤 H (W .laws) 𝓣)
@@ -242,7 +238,7 @@ module _ (R : RattleType) {M : Type 1} (𝓤 : URA M) (H : Heap 𝓤) (A : Atoms
       → Meeting order (body-two τ namesTy bytesTy) (order-fact St.the-row tt R g) n
   with-order f g agree known =
       subst (Meeting order (body-two τ namesTy bytesTy) (order-fact St.the-row tt R g)) as-read
-      (over-lists R order 𝓤 H A W mem run τ typed (λ κs p a q b z r e. fact 𝓤 (order-fact u64 tt R f κs p a q b z r e))
+      (over-lists R order 𝓤 H A W τ typed (λ κs p a q b z r e. fact 𝓤 (order-fact u64 tt R f κs p a q b z r e))
       (order-fact St.the-row tt R g) c
       (λ κs κ κ′ p a q b z y r ws. fact-mono 𝓤 _ _ (agree p a q b y (now (z .0)) (now (z .1 .0)) r))
       name (body-two τ namesTy bytesTy (reads c) name) 𝓣 known
@@ -262,7 +258,7 @@ module _ (R : RattleType) {M : Type 1} (𝓤 : URA M) (H : Heap 𝓤) (A : Atoms
       → Meeting bytes (body-mut τ namesTy) (bytes-fact St.the-row tt R g h) n
   with-bytes s g h agree known =
       subst (Meeting bytes (body-mut τ namesTy) (bytes-fact St.the-row tt R g h)) as-read
-      (over-lists R bytes 𝓤 H A W mem run τ typed
+      (over-lists R bytes 𝓤 H A W τ typed
       (λ κs p a q b z r e. s p a q b (now (z .0)) (now (z .1 .0)) r (now (e .1 .0)))
       (bytes-fact St.the-row tt R g h) c
       (λ κs κ κ′ p a q b z y r ws. agree p a q b y (now (z .0)) (now (z .1 .0)) r (ws .1 .0))

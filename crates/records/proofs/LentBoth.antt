@@ -59,13 +59,14 @@ module _ {M : Type 1} {𝓤 : URA M} {H : Heap 𝓤} {A : Atoms 𝓤} (W : Given
           → Seq K W (‵ (fat fullShare (arrayTy E) l₀ 0 va) ∷ ‵ (fat fullShare (arrayTy E) l₁ 0 vb) ∷ raw rest ∷ F ∷ Γ)
           (runs C Λ En (seq (call k ops d) more) end)
       lends-both t met ends os cont =
-          lft-new t tt (λ α. lft-new t tt (λ β. move t (2 ∷ []) $ lends-first W E a n l₀ t tt va is-a (α ∷ []) few₀ (λ γ.
-          move t (5 ∷ []) $ lends-first W E b m l₁ t tt vb is-b (β ∷ []) few₁ (λ δ.
+          lft-new t tt (λ α. lft-new t tt (λ β. move t (2 ∷ []) $
+          lends-first W E a n l₀ t tt va is-a (α ∷ []) few₀ (λ γ. move t (5 ∷ []) $
+          lends-first W E b m l₁ t tt vb is-b (β ∷ []) few₁ (λ δ.
           -- [the second list, what comes back of it and the rest; the first's; the second token; the first; …]
           let x : Lending = record { α = α; β = β; l₀ = l₀; l₁ = l₁; γ = γ; δ = δ } in
           move t (7 ∷ 6 ∷ 3 ∷ 0 ∷ 8 ∷ []) $ group t 5 $
-          calls-from t fm (Passed x (raw rest)) (v₀ ∷ sliceVal (l₀, 0) n ∷ v₁ ∷ sliceVal (l₁, 0) m ∷
-          vs) (Q x) (met x) (os _ _ _ _ _ _) (λ v. move t (0 ∷ 5 ∷ []) $
+          calls-from t fm (Passed x (raw rest)) (v₀ ∷ sliceVal (l₀, 0) n ∷ v₁ ∷ sliceVal (l₁, 0) m ∷ vs) (Q x) (met x)
+          (os _ _ _ _ _ _) (λ v. move t (0 ∷ 5 ∷ []) $
           use2 W (Returned x τ Kf v) (ends x v) $ await t tt $ learn t (λ typed. split t $ move t (1 ∷ []) $ split t $
           -- [the second token; what came back; the first token; the second array's; the first's]
           move t (2 ∷ 5 ∷ 6 ∷ []) $ takes-back W E a n l₀ t tt (is-a .1 .0 .1) (λ u. move t (1 ∷ 3 ∷ 4 ∷ []) $

@@ -97,9 +97,9 @@ module _ {M : Type 1} {𝓤 : URA M} {H : Heap 𝓤} {A : Atoms 𝓤} {K : Type 
 
       -- entry n of the context is the room of the local that is assigned
       pub sets : K → {C : Calls 𝓤 H} {Λ : Loops 𝓤 H} {end : Post 𝓤 H} {rv : RValue} {rest : Body} {i : ℕ} {v : Val}
-          → Rv K W Γ E rv v → (n : ℕ)
-          → nth 𝓤 H A n Γ ≡ space 𝓤 H E i → T (hasTy (spotOf 𝓤 H E i .0) v) × WT v
-          → Moves K W (put 𝓤 H A n (cell 𝓤 H E i v) Γ) (runs C Λ E rest end) Γ (runs C Λ E (seq (assign (place i []) rv) rest) end)
+          → Rv K W Γ E rv v → (n : ℕ) → nth 𝓤 H A n Γ ≡ space 𝓤 H E i → T (hasTy (spotOf 𝓤 H E i .0) v) × WT v
+          → Moves K W (put 𝓤 H A n (cell 𝓤 H E i v) Γ) (runs C Λ E rest end) Γ
+          (runs C Λ E (seq (assign (place i []) rv) rest) end)
       sets t r n e wt = assigns t r (from t (stop t)) (init t n e wt)
 
 module _ {M : Type 1} {𝓤 : URA M} {H : Heap 𝓤} {A : Atoms 𝓤} {K : Type 0} {W : Given 𝓤 H A} {Γ : List (Item 𝓤)}

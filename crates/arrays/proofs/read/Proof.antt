@@ -151,22 +151,8 @@ module _ {M : Type 1} (𝓤 : URA M) (H : Heap 𝓤) (A : Atoms 𝓤) (W : Given
       (First 𝓤 H A mem run .post bound v)
   exits r v z e long is =
       qed W (‵ (flft κ q) ∷ ‵ (flft κ′ q′) ∷ ‵ (finally u32 (d .name) z) ∷ []) ∵
-      suffices ! _ (tells 𝓤 H A W first.ended (first.clauses 𝓤 H A mem run) bound v r (
-        tt,
-        (
-          tt,
-          (
-            tt,
-            (
-              tt,
-              (
-                tt,
-                (z, tt),
-              ),
-            ),
-          ),
-        ),
-      )) $
+      suffices ! _ (tells 𝓤 H A W first.ended (first.clauses 𝓤 H A mem run) bound v r
+      (tt, (tt, (tt, (tt, (tt, (z, tt))))))) $
       nothing ! $ move ! (2 ∷ 0 ∷ []) $ join ! $ move ! (1 ∷ 0 ∷ []) $ join ! $ frame ! $
       owned ! F.the-row (Is F.the-row) (LL.makes F.the-type F′.the-plain 𝓤 H A) r _ is $ frame ! $
       feqI ! ℕ (length z) (length (now d)) long $ move ! (1 ∷ 0 ∷ []) $ fjoin ! $ nothing ! $ move ! (1 ∷ 0 ∷ []) $
@@ -208,8 +194,9 @@ module _ {M : Type 1} (𝓤 : URA M) (H : Heap 𝓤) (A : Atoms 𝓤) (W : Given
 
   told-read : {K : Type 0} → K → {Γ : List (Item 𝓤)} {G : Goal 𝓤 H} → Soaks G → (α β l₇ l₈ : ℕ) (γ δ : GName) (v : Val)
       → ((c : Counts) (z₁ z₂ : List Step) (z₃ : List ℕ) → Told c z₁ z₂ z₃ → length z₃ ≡ length (now d)
-      → Is Ct.the-row c (v ∷ []) → Seq K W (‵ (flft (α ∷ []) fullShare) ∷ ‵ (finally S γ z₁) ∷ ‵ (flft (β ∷ []) fullShare) ∷ ‵
-      (finally S δ z₂) ∷ ‵ (flft κ q) ∷ ‵ (flft κ′ q′) ∷ ‵ (finally u32 (d .name) z₃) ∷ Γ) G)
+      → Is Ct.the-row c (v ∷ [])
+      → Seq K W (‵ (flft (α ∷ []) fullShare) ∷ ‵ (finally S γ z₁) ∷ ‵ (flft (β ∷ []) fullShare) ∷ ‵ (finally S δ z₂)
+      ∷ ‵ (flft κ q) ∷ ‵ (flft κ′ q′) ∷ ‵ (finally u32 (d .name) z₃) ∷ Γ) G)
       → Seq K W (raw (Read 𝓤 H A mem run .post (to α β l₇ l₈ γ δ) v) ∷ Γ) G
   told-read t z α β l₇ l₈ γ δ v k =
       told 𝓤 H A W read′.ended (read′.clauses 𝓤 H A mem run) (to α β l₇ l₈ γ δ) v t z

@@ -104,13 +104,8 @@ module _ {M : Type 1} (𝓤 : URA M) (H : Heap 𝓤) (A : Atoms 𝓤) (W : Given
       → ent 𝓤 (⋆ 𝓤 H A (‵ (fobs γ (codedHoleys S .code (heres S zs))) ∷ ‵ (flft κ q) ∷ [])) (Post vunit)
   exits zs e long =
       qed W (‵ (fobs γ (codedHoleys S .code (heres S zs))) ∷ ‵ (flft κ q) ∷ []) ∵
-      suffices ! _ (ends-with 𝓤 H A W fill′.ended (fill′.clauses 𝓤 H A at-mem run) bound vunit tt (
-        zs,
-        (
-          tt,
-          (tt, tt),
-        ),
-      )) $
+      suffices ! _ (ends-with 𝓤 H A W fill′.ended (fill′.clauses 𝓤 H A at-mem run) bound vunit tt
+      (zs, (tt, (tt, tt)))) $
       use1 W (‵ (fres γ (codedHoleys S .code (heres S zs)))) (W .names .obs-res γ (codedHoleys S .code (heres S zs))) $
       use1 W (‵ (finally S γ zs)) (res-finally 𝓤 H A W (named 0) κ S γ zs) $ feqI ! ℕ (length zs) (length ys) long $
       move ! (1 ∷ 0 ∷ []) $ fjoin ! $ nothing ! $ nothing ! $ fjoin ! $ nothing ! $ fjoin ! $ move ! (1 ∷ 0 ∷ []) $
@@ -226,13 +221,8 @@ module _ {M : Type 1} (𝓤 : URA M) (H : Heap 𝓤) (A : Atoms 𝓤) (W : Given
 
   -- the MIR, up to the loop: the list is opened, and the array taken apart
   walk : (𝓣 : Tables 𝓤 H) → Room S (length ys) → n < 2 ^ 64 → Is (Array S 64) xs (xv ∷ []) → (n ≤ 64) × (n ≤ length ys)
-      → ent 𝓤 (onEntry 𝓤 H A fill′.signature (κ, tt) (q, tt) (x, (n, (xs, tt))) (
-        sv ∷ [],
-        (
-          vint w64 n ∷ [],
-          (xv ∷ [], tt),
-        ),
-      )) (WpFn 𝓤 H (𝓣 .C) (𝓣 .Λ) function (sv ∷ vint w64 n ∷ xv ∷ []) Post)
+      → ent 𝓤 (onEntry 𝓤 H A fill′.signature (κ, tt) (q, tt) (x, (n, (xs, tt)))
+      (sv ∷ [], (vint w64 n ∷ [], (xv ∷ [], tt)))) (WpFn 𝓤 H (𝓣 .C) (𝓣 .Λ) function (sv ∷ vint w64 n ∷ xv ∷ []) Post)
   unfolding partOf copied
   walk 𝓣 g gn given few =
       qed W ((‵ (flft κ q) ⊛ ‵ ftrue) ∷ ‵ (owns (MutSlice (named 0) κ S ∷ usize ∷ Array S 64 ∷ []) (x, (n, (xs, tt)))

@@ -140,10 +140,7 @@ module _ {M : Type 1} (𝓤 : URA M) (H : Heap 𝓤) (A : Atoms 𝓤) (W : Given
       (q₀, (q₁, (q₂, (q₃, tt)))),
       tt,
       (x₀, (x₁, (x₂, (x₃, tt)))),
-      (
-        sv ∷ [],
-        (listVal St.the-row x₁ ∷ [], (listVal St.the-row x₂ ∷ [], (listVal u32 x₃ ∷ [], tt))),
-      ),
+      (sv ∷ [], (listVal St.the-row x₁ ∷ [], (listVal St.the-row x₂ ∷ [], (listVal u32 x₃ ∷ [], tt)))),
     ),
     tt,
   )
@@ -181,17 +178,7 @@ module _ {M : Type 1} (𝓤 : URA M) (H : Heap 𝓤) (A : Atoms 𝓤) (W : Given
       (s, (length (x₁ .now), (length (x₂ .now), (length (x₃ .now), tt)))),
       (
         Sh′.lowered s ∷ [],
-        (
-          vint w64 (length (x₁ .now)) ∷ [],
-          (
-            vint w64 (length (x₂ .now)) ∷ [],
-            (
-              vint w64 (length
-                  (x₃ .now)) ∷ [],
-              tt,
-            ),
-          ),
-        ),
+        (vint w64 (length (x₁ .now)) ∷ [], (vint w64 (length (x₂ .now)) ∷ [], (vint w64 (length (x₃ .now)) ∷ [], tt))),
       ),
     ),
     tt,
