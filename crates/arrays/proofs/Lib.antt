@@ -1,4 +1,3 @@
 -- Lending records that stand in an array.
-pub mod First
 pub mod Walks
 pub mod OverArrays

@@ -42,8 +42,8 @@ use Rattle.lent.proofs.Slices.{Slice, many, spells, tell, same, alone, behind, 
 use Rattle.lent.proofs.Slices.{alone-vals}
 use Rattle.lent.proofs.HandedOn.{lists, Says, Fact, facts, behind-both, passed, Last, returned, to, met, comes-back}
 use Rattle.lent.proofs.OverLists.{Lists, done, order, bytes, done-fact, order-fact, bytes-fact}
-use Rattle.arrays.proofs.First.{hundreds}
 use Rattle.arrays.proofs.Walks.{val, Walk, body-one, body-two, body-mut, calls-one, calls-two, calls-mut}
+use Rattle.arrays.proofs.Walks.{hundreds}
 
 module _ (R : RattleType) (l : List Slice) where
   abbrev places : Slot (many l)

@@ -1,5 +1,5 @@
-// The operations over lent lists of step records: each lays both lists into numbers and calls the operation over lists of numbers.
-// (The arrays are named differently in each, so that an edit of must-fail/ can name its line.)
+// The operations over lent lists of step records: each lays both lists into numbers, which it lends to the operation over
+// lists of numbers. (The arrays have other names in each, so that an edit of must-fail/ can name its line.)
 use answering::Judged;
 use records::lay;
 use route::Step;

@@ -60,8 +60,7 @@ use Rattle.arrays.proofs.together.Symbol as together-def
 use Rattle.arrays.proofs.together.Met as together-thm
 use Rattle.records.proofs.LentRow.{lentRow, mutRow}
 use Rattle.records.proofs.FirstOf.{first-long, lends-first-mut, takes-mut-back}
-use Rattle.arrays.proofs.First.{hundred, firstTy, fits, hundreds, typed-all}
-use Rattle.arrays.proofs.Walks.{val}
+use Rattle.arrays.proofs.Walks.{val, hundred, firstTy, fits, hundreds, typed-all}
 use Rattle.arrays.proofs.read.Key.{name as #read}
 use Rattle.arrays.proofs.read as first
 use Rattle.arrays.proofs.read.Statement as stated
