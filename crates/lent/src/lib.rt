@@ -1,5 +1,5 @@
-// The operations over lent lists of step records: each lays both lists into numbers, which it lends to the operation over
-// lists of numbers. (The arrays have other names in each, so that an edit of must-fail/ can name its line.)
+// The operations over lent lists of step records: each lays both lists into numbers, and lends those to the operation
+// over lists of numbers. (The arrays have other names in each, so that an edit of must-fail/ can name its line.)
 use answering::Judged;
 use records::lay;
 use route::Step;
@@ -18,7 +18,8 @@ ghost use Rattle.lent.specs.Lent.{lentJob};
 
 pub mod reading;
 
-// What reading gives besides the lists: a refusal and its second number, or 0 and 0 and both place counts and all three lengths.
+// What reading gives besides the lists: a refusal and its second number, or 0 and 0 and both place counts and all three
+// lengths.
 pub struct Counts {
     pub number: u32,
     pub second: u64,
