@@ -25,7 +25,7 @@ withSteps j old new =
     record { oldPlaces = j .oldPlaces; old = old; newPlaces = j .newPlaces; new = new; done = j .done }
 
 -- the job with both lists cut to 65
-abbrev pub short : Job → Job
+abbrev short : Job → Job
 short j = withSteps j (take 65 (j .old)) (take 65 (j .new))
 
 -- ---- a list over 64: the rows of its first 64 lines, and row 4 at the next
@@ -164,11 +164,11 @@ module _ (j : Job) where
   new-whole : length (j .new) ≤ 64 → j ≡ shortNew
   new-whole h = ap (λ (l : List Step). withSteps j (j .old) l) (sym (take-all 65 (j .new) (omega arith)))
 
-  pub short-whole : length (j .old) ≤ 64 → length (j .new) ≤ 64 → j ≡ short j
+  short-whole : length (j .old) ≤ 64 → length (j .new) ≤ 64 → j ≡ short j
   short-whole h k = new-whole k ∙ old-whole h
 
   -- the law: f of the job is f of the cut job
-  pub same-short : {X : Type 0} (f : Job → X) → ((j k : Job) → Refused j k → f j ≡ f k) → f j ≡ f (short j)
+  same-short : {X : Type 0} (f : Job → X) → ((j k : Job) → Refused j k → f j ≡ f k) → f j ≡ f (short j)
   same-short f by = go (ltb 64 (length (j .old))) refl (ltb 64 (length (j .new))) refl
     where
       go : (s : Bool) → ltb 64 (length (j .old)) ≡ s → (t : Bool) → ltb 64 (length (j .new)) ≡ t → f j ≡ f (short j)

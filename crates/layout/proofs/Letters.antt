@@ -2,7 +2,7 @@
 -- Assumes nothing.
 use mathlib.Core.Path.{_≡_, refl, ap, ap₂, _∙_}
 use mathlib.Core.List.{List}
-use Prim.Native.Nat.{ℕ, zero, suc, _+_, _*_, _≤_, _<_}
+use Prim.Native.Nat.{ℕ, _+_, _*_, _≤_, _<_}
 use native.Mathlib.Omega.{arith}
 use lib.Dec.{lit<, lit≤}
 use lib.ListN.{length, getD, take, drop}
@@ -34,36 +34,6 @@ row-below Out = lit< tt
 row-below Read = lit< tt
 row-below Write = lit< tt
 
-pub each-of-five : (P : ℕ → Type 0) → P 0 → P 1 → P 2 → P 3 → P 4 → (k : ℕ) → k < 5 → P k
-each-of-five P a b c d e zero h = a
-each-of-five P a b c d e (suc zero) h = b
-each-of-five P a b c d e (suc (suc zero)) h = c
-each-of-five P a b c d e (suc (suc (suc zero))) h = d
-each-of-five P a b c d e (suc (suc (suc (suc zero)))) h = e
-each-of-five P a b c d e (suc (suc (suc (suc (suc k))))) h = absurd (omega arith)
-
--- row by row: the table's bytes are the words' letters
-pub letter-at : (w : Word) (k : ℕ) → k < 5 → getD wordTable (numberOf w * 6 + 1 + k) 0 ≡ getD (spelling w) k 0
-unfolding spelling numberOf
-letter-at Old = each-of-five (λ k. getD wordTable (numberOf Old * 6 + 1 + k) 0 ≡ getD (spelling Old) k 0) refl refl refl
-    refl refl
-letter-at New = each-of-five (λ k. getD wordTable (numberOf New * 6 + 1 + k) 0 ≡ getD (spelling New) k 0) refl refl refl
-    refl refl
-letter-at Job = each-of-five (λ k. getD wordTable (numberOf Job * 6 + 1 + k) 0 ≡ getD (spelling Job) k 0) refl refl refl
-    refl refl
-letter-at Done = each-of-five (λ k. getD wordTable (numberOf Done * 6 + 1 + k) 0 ≡ getD (spelling Done) k 0) refl refl
-    refl refl refl
-letter-at Step = each-of-five (λ k. getD wordTable (numberOf Step * 6 + 1 + k) 0 ≡ getD (spelling Step) k 0) refl refl
-    refl refl refl
-letter-at In = each-of-five (λ k. getD wordTable (numberOf In * 6 + 1 + k) 0 ≡ getD (spelling In) k 0) refl refl refl
-    refl refl
-letter-at Out = each-of-five (λ k. getD wordTable (numberOf Out * 6 + 1 + k) 0 ≡ getD (spelling Out) k 0) refl refl refl
-    refl refl
-letter-at Read = each-of-five (λ k. getD wordTable (numberOf Read * 6 + 1 + k) 0 ≡ getD (spelling Read) k 0) refl refl
-    refl refl refl
-letter-at Write = each-of-five (λ k. getD wordTable (numberOf Write * 6 + 1 + k) 0 ≡ getD (spelling Write) k 0) refl
-    refl refl refl refl
-
 pub length-at : (w : Word) → getD wordTable (numberOf w * 6) 0 ≡ length (spelling w)
 unfolding spelling numberOf
 length-at Old = refl
@@ -80,9 +50,6 @@ length-at Write = refl
 module _ (t : List ℕ) (n : ℕ) (w : Word) (is : t ≡ wordTable) (row : n ≡ numberOf w) where
   pub table-length : getD t (n * 6) 0 ≡ length (spelling w)
   table-length = ap₂ (λ (l : List ℕ) (m : ℕ). getD l (m * 6) 0) is row ∙ length-at w
-
-  pub table-letter : (k : ℕ) → k < 5 → getD t (n * 6 + 1 + k) 0 ≡ getD (spelling w) k 0
-  table-letter k h = ap₂ (λ (l : List ℕ) (m : ℕ). getD l (m * 6 + 1 + k) 0) is row ∙ letter-at w k h
 
   pub table-room : (k : ℕ) → k < 6 → n * 6 + k < length t
   table-room k h = omega (arith, ap length is, row, row-below w)

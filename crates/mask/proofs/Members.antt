@@ -1,41 +1,11 @@
--- The members of a mask in turn: one after another as a loop meets them, that each is a member, and how many there can
--- be.
-use mathlib.Core.Path.{_≡_, refl, ap, _∙_}
+-- The members of a mask in turn: that each is a member, and how many there can be.
+use mathlib.Core.Path.{_≡_, refl}
 use mathlib.Core.Bool.{Bool, true, false, cond}
-use mathlib.Core.List.{List, [], _∷_}
+use mathlib.Core.List.{List, _∷_}
 use Prim.Native.Nat.{ℕ, zero, suc, _+_, _-_, _≤_, _<_}
 use native.Mathlib.Omega.{arith}
 use lib.ListN.{length, getD}
 use Rattle.mask.specs.Mask.{has, membersFrom, members, count}
-
-module _ (w m i : ℕ) (low : i < w) where
-  next-is : membersFrom i (w - i) m ≡ cond (has m i) (i ∷ membersFrom (i + 1) (w - (i + 1)) m)
-      (membersFrom (i + 1) (w - (i + 1)) m)
-  unfolding membersFrom
-  next-is =
-      ap (λ (c : ℕ). membersFrom i c m) one-more
-      ∙ ap (λ (v : ℕ). cond (has m i) (i ∷ membersFrom v (w - (i + 1)) m) (membersFrom v (w - (i + 1)) m)) one-on
-    where
-      one-more : w - i ≡ suc (w - (i + 1))
-      one-more = omega arith
-
-      one-on : suc i ≡ i + 1
-      one-on = omega arith
-
-  pub members-hit : has m i ≡ true → membersFrom i (w - i) m ≡ i ∷ membersFrom (i + 1) (w - (i + 1)) m
-  members-hit h = next-is ∙ ap (λ (t : Bool). cond t (i ∷ membersFrom (i + 1) (w - (i + 1)) m)
-      (membersFrom (i + 1) (w - (i + 1)) m)) h
-
-  pub members-miss : has m i ≡ false → membersFrom i (w - i) m ≡ membersFrom (i + 1) (w - (i + 1)) m
-  members-miss h = next-is ∙ ap (λ (t : Bool). cond t (i ∷ membersFrom (i + 1) (w - (i + 1)) m)
-      (membersFrom (i + 1) (w - (i + 1)) m)) h
-
-pub members-end : (w m i : ℕ) → w ≤ i → membersFrom i (w - i) m ≡ []
-unfolding membersFrom
-members-end w m i h = ap (λ (c : ℕ). membersFrom i c m) none-left
-  where
-    none-left : w - i ≡ 0
-    none-left = omega arith
 
 from-in : (c v m k : ℕ) → k < length (membersFrom v c m)
     → (has m (getD (membersFrom v c m) k 0) ≡ true) × (getD (membersFrom v c m) k 0 < v + c)

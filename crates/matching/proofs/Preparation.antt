@@ -21,7 +21,7 @@ use Rattle.running.specs.declared.Begun.{Begun}
 use Rattle.job.proofs.Rows.{pass-fits}
 use Rattle.running.proofs.RunLine.{ran-refused, checked-lines, ran-fits}
 use Rattle.running.proofs.Performed.{length-performed, holds-performed, length-holds}
-use Rattle.running.proofs.KnownNames.{performed-names}
+use Rattle.running.proofs.DoneNames.{performed-names}
 use Rattle.slice.specs.Slice.{variables}
 use Rattle.slice.proofs.Sweep.{kept-below}
 use Rattle.matching.specs.Fit.{keptOf}

@@ -138,3 +138,11 @@ append-number P (o ∷ a) b p q = go (eqb (o .number) 0) p (λ p. append-number 
         → P (cond t (first (a ++ b)) o .number)
     go true p ih = ih p
     go false p ih = p
+
+pub unless-no : (t : Bool) (n k : ℕ) → t ≡ false → unless t n k ≡ refuse n k
+unfolding unless
+unless-no t n k e = ap (λ (x : Bool). cond x pass (refuse n k)) e
+
+pub unless-yes : (t : Bool) (n k : ℕ) → t ≡ true → unless t n k ≡ pass
+unfolding unless
+unless-yes t n k e = ap (λ (x : Bool). cond x pass (refuse n k)) e

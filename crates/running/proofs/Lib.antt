@@ -4,5 +4,5 @@ pub mod RunLine
 pub mod NetsInTurn
 pub mod BegunCases
 pub mod FiredDone
-pub mod KnownNames
+pub mod DoneNames
 pub mod LongLists

@@ -14,7 +14,7 @@ use Rattle.route.proofs.StepList.{lookup-name, getD-names}
 use Rattle.job.specs.Job.{Job, jobLine, oldStart}
 use Rattle.running.specs.Run.{runFrom, ran, performed}
 use Rattle.running.specs.declared.Ran.{Ran}
-use Rattle.running.proofs.KnownNames.{first-fires, ran-is, performed-names}
+use Rattle.running.proofs.DoneNames.{first-fires, ran-is, performed-names}
 use Rattle.running.proofs.Performed.{length-performed, performed-at}
 use Rattle.running.proofs.RunLine.{ran-fits}
 use Rattle.precedence.specs.Order.{inTurn, times}

@@ -28,6 +28,3 @@ module _ (v : Version) (limits : Limits v) (n : ℕ) where
 
   pub name-stored : nameFits v n ≡ true → n < 2 ^ 32
   name-stored h = omega (arith, fits-greatest v n h, limits .stored)
-
-  pub short-small : n < 10 ^ v .digits → n < 10 ^ 10
-  short-small h = omega (arith, tens-mono (v .digits) 10 (limits .ten))

@@ -7,7 +7,7 @@ use borrow.Author.Tests.{eq-eqb, ne-eqb}
 use Rattle.refusal.specs.Rows.{pass, refuse}
 use Rattle.refusal.specs.declared.Outcome.{Outcome}
 use Rattle.lines.specs.inner.Rows.{jobRow}
-use Rattle.facts.proofs.Settle.{unless-no, unless-yes}
+use Rattle.refusal.proofs.Rows.{unless-no, unless-yes}
 use borrow.Author.Needs.{needs}
 use Rattle.lines.proofs.rows.job_row.Statement.{statement}
 use Rattle.lines.proofs.rows.job_row.Tie as tie

@@ -1,11 +1,9 @@
--- A done list that runs to its end on a route has each of its names there, and the steps done have these names.
+-- The steps of a done list that runs to its end have the names that are done.
 use mathlib.Core.Path.{_≡_, refl, ap, ap₂, _∙_}
 use mathlib.Core.List.{List, [], _∷_}
-use mathlib.Core.Option.{Option, some, Option·getD}
-use Prim.Native.Nat.{ℕ, zero, suc, _+_, _<_}
+use mathlib.Core.Option.{Option, Option·getD}
+use Prim.Native.Nat.{ℕ, _+_}
 use native.Mathlib.Omega.{arith}
-use native.Mathlib.Nat.{le-of-suc-le-suc, not-suc-le-zero}
-use lib.ListN.{length, getD}
 use Rattle.route.specs.Steps.{blank, names, lookup}
 use Rattle.route.specs.declared.Step.{Step}
 use Rattle.route.proofs.StepList.{lookup-name}
@@ -15,11 +13,6 @@ use Rattle.running.specs.Run.{runFrom, ran, performed}
 use Rattle.running.specs.declared.Ran.{Ran}
 use Rattle.running.proofs.RunLine.{ran-passed, ran-checked}
 
--- each name is in the route
-abbrev pub Known : List Step → List ℕ → Type 0
-Known steps done =
-    (i : ℕ) → i < length done → (s : Step) × (lookup (getD done i 0) steps ≡ some s) × (s .name ≡ getD done i 0)
-
 module _ (steps : List Step) where
   -- the first line's step is there and fires, and the rest runs
   module _ (m line n : ℕ) (d : List ℕ) where
@@ -28,14 +21,6 @@ module _ (steps : List Step) where
     unfolding runFrom
     first-fires = ifFires-elim (λ (r : Ran). r .number ≡ 0) m (lookup n steps) _ _ _ (λ e. omega arith)
         (λ e. omega arith)
-
-  pub run-known : (m line : ℕ) (done : List ℕ) → runFrom steps m line done .number ≡ 0 → Known steps done
-  run-known m line [] e i h = absurd (not-suc-le-zero h)
-  run-known m line (n ∷ d) e zero h =
-      let f = first-fires m line n d e in
-      (f .step, f .there, lookup-name n steps (f .step) (f .there))
-  run-known m line (n ∷ d) e (suc i) h =
-      run-known _ (line + 1) d (first-fires m line n d e .onward) i (le-of-suc-le-suc h)
 
   pub run-names : (m line : ℕ) (done : List ℕ) → runFrom steps m line done .number ≡ 0
       → names (performed steps done) ≡ done
@@ -55,9 +40,6 @@ module _ (j : Job) (ok : ran j .number ≡ 0) where
 
   runs : runFrom (j .old) (oldStart j) (jobLine j + 1) (j .done) .number ≡ 0
   runs = ap (λ (r : Ran). r .number) ran-is ∙ ok
-
-  pub done-known : Known (j .old) (j .done)
-  done-known = run-known (j .old) (oldStart j) (jobLine j + 1) (j .done) runs
 
   pub performed-names : names (performed (j .old) (j .done)) ≡ j .done
   performed-names = run-names (j .old) (oldStart j) (jobLine j + 1) (j .done) runs
