@@ -33,8 +33,8 @@ judge-checked-requires c κs = (search (needs, read-passes), search needs)
 
 returns-2 : tie.Need-returns-2
 returns-2 c =
-    let start = c .before .before .before .before .before .before .before .before .before .before .before .before
-    .before .before .before .before .before in (
+    let passed : tie.Else1 = search in
+    let start : tie.Start = search in (
       search (needs, answer-judged, start .pre, c .before .before .judge-checked .ensures .0),
       search (needs, work-judged),
     )
