@@ -7,7 +7,8 @@ use Rattle.engine.proofs.host.reroute_print.Tie as tie
 
 returns : tie.Need-returns
 returns c =
-    let is = c .before .before .before .before .print .ensures in (
+    let printed : tie.After-print = search in
+    let is = printed .print .ensures in (
       ap (λ (w : Written). w .number) (is .0),
       (
         ap (λ (w : Written). w .second) (is .0),
