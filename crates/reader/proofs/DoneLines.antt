@@ -157,9 +157,9 @@ module _ (v : Version) (s list₀ list : List ℕ) (from lines₀ : ℕ) (outcom
 
 module _ (v : Version) (s w : List ℕ) (at : ℕ) (n : Numeral) (hn : NumberedOn v s at w n)
     (good : not (n .ok) ≡ false) where
-  pub done-fits-line : (list₀ list : List ℕ) (from lines₀ : ℕ) (outcome₀ outcome : Outcome) (lines len : ℕ)
+  pub done-line-fits : (list₀ list : List ℕ) (from lines₀ : ℕ) (outcome₀ outcome : Outcome) (lines len : ℕ)
       → Named v s list₀ list from lines₀ outcome₀ outcome lines at len → length s < 2 ^ 64 → Fits w64 (lines + 1)
-  done-fits-line list₀ list from lines₀ outcome₀ outcome lines len h wide =
+  done-line-fits list₀ list from lines₀ outcome₀ outcome lines len h wide =
       omega (arith, hn .past (not-false (n .ok) good), hn .within, h .counted)
 
   pub done-later : length s - n .at < length s - at

@@ -3,7 +3,7 @@ use Prim.Native.Nat.{_-_}
 use native.Mathlib.Omega.{arith}
 use lib.ListN.{length}
 use Rattle.reader.proofs.DoneLines.{Named, named-init, named-past, named-row, named-name, done-room}
-use Rattle.reader.proofs.DoneLines.{done-fits-line, done-later, dones-passes, dones-break, dones-done}
+use Rattle.reader.proofs.DoneLines.{done-line-fits, done-later, dones-passes, dones-break, dones-done}
 use borrow.Author.Needs.{needs}
 use Rattle.reader.proofs.parts.dones.Statement.{statement}
 use Rattle.reader.proofs.parts.dones.Tie as tie
@@ -25,7 +25,7 @@ returns-2 : tie.Need-returns-2 Inv-loop μ-loop
 returns-2 c = search (needs, dones-break)
 
 add-lines : tie.Need-add-lines Inv-loop μ-loop
-add-lines c = search (needs, done-fits-line)
+add-lines c = search (needs, done-line-fits)
 
 loop-less : tie.Need-loop-less Inv-loop μ-loop
 loop-less c = search (needs, done-later)

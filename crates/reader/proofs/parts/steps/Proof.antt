@@ -1,4 +1,5 @@
--- `reader::parts::steps`: a step put away for each line that no row refuses.
+-- `reader::parts::steps`: a step put away for each line that no row refuses. A `let` of a place's type is found by
+-- `search`, and has what stands at that place in reach, however far back it lies.
 use mathlib.Core.Path.{sym}
 use Prim.Native.Nat.{_-_}
 use native.Mathlib.Omega.{arith}
@@ -24,13 +25,13 @@ loop-holds : tie.Need-loop-holds Inv-loop μ-loop
 loop-holds c = search (needs, stepped-init)
 
 same-length : tie.Need-same-length Inv-loop μ-loop
-same-length c = let row : tie.Start Inv-loop μ-loop = search in search (needs, same-room)
+same-length c = let start : tie.Start Inv-loop μ-loop = search in search (needs, same-room)
 
 returns-2 : tie.Need-returns-2 Inv-loop μ-loop
 returns-2 c = search (needs, steps-break)
 
 add-lines : tie.Need-add-lines Inv-loop μ-loop
-add-lines c = let row : tie.Start Inv-loop μ-loop = search in search (needs, line-fits)
+add-lines c = let start : tie.Start Inv-loop μ-loop = search in search (needs, line-fits)
 
 loop-less : tie.Need-loop-less Inv-loop μ-loop
 loop-less c = search (needs, line-later)
@@ -73,7 +74,7 @@ add-len : tie.Need-add-len Inv-loop μ-loop
 add-len c = let turn : tie.At-loop Inv-loop μ-loop = search in omega arith
 
 loop-less-3 : tie.Need-loop-less-3 Inv-loop μ-loop
-loop-less-3 c = let read : tie.Else3 Inv-loop μ-loop = search in search (needs, line-later)
+loop-less-3 c = let good : tie.Else3 Inv-loop μ-loop = search in search (needs, line-later)
 
 loop-again-3 : tie.Need-loop-again-3 Inv-loop μ-loop
 loop-again-3 c =
