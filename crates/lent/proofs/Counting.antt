@@ -1,17 +1,18 @@
--- What `count` answers on each of its ways, by the tests that it made; and that its lengths fit.
-use mathlib.Core.Path.{_≡_, refl}
-use mathlib.Core.Bool.{Bool, true, false, cond}
+-- What reading into lists answers on each of its ways, by the tests that it made; and what `read_counted` promises.
+use mathlib.Core.Path.{_≡_, refl, sym, ap, ap₂, subst, _∙_}
+use mathlib.Core.List.{List}
 use Prim.Native.Nat.{ℕ, _≤_, _<_}
 use native.Mathlib.Omega.{arith}
-use lib.Dec.{eqb, leb}
-use borrow.Author.Tests.{lt-leb, le-leb, eq-eqb, ne-eqb, leb-true}
+use lib.ListN.{take}
+use borrow.Author.Tests.{lt-leb, le-leb, eq-eqb, ne-eqb}
 use Rattle.refusal.specs.Rows.{unless, first}
-use Rattle.refusal.proofs.Rows.{head-passed, row-passed}
+use Rattle.facts.specs.Facts.{readOf}
 use Rattle.facts.specs.declared.Sheet.{Sheet}
-use Rattle.facts.proofs.Counts.{Few}
-use Rattle.facts.proofs.DoneNames.{Dones}
+use Rattle.reader.specs.inner.Read.{ReadTo}
+use Rattle.reader.specs.declared.Counts.{Counts as ReaderCounts}
 use Rattle.lent.specs.declared.Counts.{Counts}
 use Rattle.lent.specs.Reading.{readRow, noCounts, counts, counted}
+use Rattle.lent.specs.inner.Counted.{Counted}
 
 module _ (s : Sheet) (a b d : ℕ) where
   pub count-refused : (r : Counts) → r ≡ noCounts (s .number) (s .second) → (s .number ≡ 0 → ⊥) → r ≡ counted s a b d
@@ -56,38 +57,64 @@ module _ (s : Sheet) (a b d : ℕ) where
       le-leb (s .«done_len») d h″,
     )
 
--- what is counted fits the lists, and the arrays that it comes from
-pub record Fits (k : Counts) (a b d : ℕ) : Type 0 where
-  pub old : (k .«old_len» ≤ 64) × (k .«old_len» ≤ a)
-  pub new : (k .«new_len» ≤ 64) × (k .«new_len» ≤ b)
-  pub done : (k .«done_len» ≤ 64) × (k .«done_len» ≤ d)
+-- ---- what `read_counted` promises, on each of its ways: t is what it was told of the numbers
 
-pub counted-fits : (s : Sheet) (a b d : ℕ) → Few s → Dones s → Fits (counted s a b d) a b d
-unfolding counted counts readRow
-counted-fits s a b d few dones = go (eqb (readRow s a b d .number) 0) refl
-  where
-    go : (t : Bool) → eqb (readRow s a b d .number) 0 ≡ t
-        → Fits (cond t (record {
-          number = 0;
-          second = 0;
-          «old_places» = s .old .places;
-          «old_len» = s .old .len;
-          «new_places» = s .new .places;
-          «new_len» = s .new .len;
-          «done_len» = s .«done_len»;
-        })
-        (noCounts (readRow s a b d .number) (readRow s a b d .second))) a b d
-    go true e =
-        let at-old = row-passed (leb (s .old .len) a) 15 (s .old .len) _ refl (head-passed _ _ e .1) in
-        let at-new = row-passed (leb (s .new .len) b) 15 (s .new .len) _ refl (at-old .1) in
-        let at-done = row-passed (leb (s .«done_len») d) 15 (s .«done_len») _ refl (at-new .1) in
-        record {
-          old = (few .old, leb-true _ _ (at-old .0));
-          new = (few .new, leb-true _ _ (at-new .0));
-          done = (dones .few, leb-true _ _ (at-done .0));
-        }
-    go false e = record {
-      old = (omega arith, omega arith);
-      new = (omega arith, omega arith);
-      done = (omega arith, omega arith);
-    }
+module _ {s : List ℕ} {c : ReaderCounts} {a b d : List ℕ} (t : ReadTo s c a b d) (x y z : ℕ) (r : Counts) where
+  none : (n k : ℕ) → r ≡ noCounts n k → r ≡ counted (readOf s) x y z → Counted s x y z r a b d
+  none n k e is = subst (λ (w : Counts). Counted s x y z w a b d) (sym e) (record {
+    answer = sym e ∙ is;
+    old-fits = (omega arith, omega arith);
+    new-fits = (omega arith, omega arith);
+    done-fits = (omega arith, omega arith);
+    old-steps = refl;
+    new-steps = refl;
+    done-names = refl;
+  })
+
+  pub told-refused : r ≡ noCounts (c .number) (c .second) → (c .number ≡ 0 → ⊥) → Counted s x y z r a b d
+  told-refused e far = none _ _ e (count-refused (readOf s) x y z r
+      (e ∙ ap₂ noCounts (t .number) (t .second)) (λ h. far (t .number ∙ h)))
+
+  module _ (ok : c .number ≡ 0) where
+    pub told-old : r ≡ noCounts 15 (c .«old_len») → x < c .«old_len» → Counted s x y z r a b d
+    told-old e h = none _ _ e (count-old (readOf s) x y z (sym (t .number) ∙ ok) r
+        (e ∙ ap (noCounts 15) (t .old-len)) (omega (arith, t .old-len)))
+
+    pub told-new : r ≡ noCounts 15 (c .«new_len») → c .«old_len» ≤ x → y < c .«new_len» → Counted s x y z r a b d
+    told-new e h h′ = none _ _ e (count-new (readOf s) x y z (sym (t .number) ∙ ok) r
+        (e ∙ ap (noCounts 15) (t .new-len)) (omega (arith, t .old-len)) (omega (arith, t .new-len)))
+
+    pub told-done : r ≡ noCounts 15 (c .«done_len») → c .«old_len» ≤ x → c .«new_len» ≤ y → z < c .«done_len»
+        → Counted s x y z r a b d
+    told-done e h h′ h″ = none _ _ e (count-done (readOf s) x y z (sym (t .number) ∙ ok) r
+        (e ∙ ap (noCounts 15) (t .done-len)) (omega (arith, t .old-len)) (omega (arith, t .new-len))
+        (omega (arith, t .done-len)))
+
+pub told-all : {s : List ℕ} {c : ReaderCounts} {a b d : List ℕ} → ReadTo s c a b d → (x y z : ℕ) → c .number ≡ 0
+    → c .«old_len» ≤ x → c .«new_len» ≤ y → c .«done_len» ≤ z → Counted s x y z (record {
+      number = 0;
+      second = 0;
+      «old_places» = c .«old_places»;
+      «old_len» = c .«old_len»;
+      «new_places» = c .«new_places»;
+      «new_len» = c .«new_len»;
+      «done_len» = c .«done_len»;
+    }) a b d
+told-all {s = s} {c = c} t x y z ok h h′ h″ = record {
+  answer = (λ i. record {
+    number = 0;
+    second = 0;
+    «old_places» = t .old-places i;
+    «old_len» = t .old-len i;
+    «new_places» = t .new-places i;
+    «new_len» = t .new-len i;
+    «done_len» = t .done-len i;
+  }) ∙ count-all (readOf s) x y z (sym (t .number) ∙ ok) (omega (arith, t .old-len)) (omega (arith, t .new-len))
+      (omega (arith, t .done-len));
+  old-fits = (t .old-few, h);
+  new-fits = (t .new-few, h′);
+  done-fits = (t .done-few, h″);
+  old-steps = ap (take (c .«old_len»)) (t .old-steps ok);
+  new-steps = ap (take (c .«new_len»)) (t .new-steps ok);
+  done-names = ap (take (c .«done_len»)) (t .done-names ok);
+}

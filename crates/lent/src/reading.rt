@@ -1,14 +1,15 @@
 // Reading a sheet into lent lists.
 use crate::Counts;
-use facts::Sheet;
+use reader::lists::read_lists;
 use records::fill;
 use route::Step;
 ghost use mathlib.Core.Path.{_≡_};
 ghost use Prim.Native.Nat.{_≤_};
-ghost use lib.ListN.{length};
+ghost use lib.ListN.{length, replicate};
 ghost use Rattle.records.specs.Laid.{laid};
 ghost use Rattle.facts.specs.Facts.{readOf};
 ghost use Rattle.lent.specs.Reading.{counted, noCounts};
+ghost use Rattle.lent.specs.inner.Counted.{Counted};
 
 fn refuse(number: u32, second: u64) -> Counts
     ensures { λ r. ⌜ r ≡ noCounts number second ⌝ }
@@ -24,39 +25,47 @@ fn refuse(number: u32, second: u64) -> Counts
     }
 }
 
-// The rows of reading, then row 15 for each list in turn.
-fn count(s: Sheet, old: usize, new: usize, done: usize) -> Counts
-    ensures { λ r. ⌜ r ≡ counted s old new done ⌝ }
+// The sheet into lent numbers, which hold 0 throughout; then row 15 for each list in turn, by the lists' lengths.
+fn read_counted(
+    sheet: &[u8],
+    a: &mut [u64; 256],
+    b: &mut [u64; 256],
+    d: &mut [u32; 64],
+    old: usize,
+    new: usize,
+    done: usize,
+) -> Counts
+    requires { ⌜ (now a ≡ replicate 256 0) × ((now b ≡ replicate 256 0) × (now d ≡ replicate 64 0)) ⌝ }
+    ensures { λ r. ⌜ Counted (now (sheet .entry)) old new done r (now (a .exit)) (now (b .exit)) (now (d .exit)) ⌝ }
 {
-    if s.number != 0 {
-        return refuse(s.number, s.second);
+    let c = read_lists(sheet, a, b, d);
+    if c.number != 0 {
+        return refuse(c.number, c.second);
     }
-    let a = s.old;
-    if old < a.len {
-        return refuse(15, a.len as u64);
+    if old < c.old_len {
+        return refuse(15, c.old_len as u64);
     }
-    let b = s.new;
-    if new < b.len {
-        return refuse(15, b.len as u64);
+    if new < c.new_len {
+        return refuse(15, c.new_len as u64);
     }
-    if done < s.done_len {
-        return refuse(15, s.done_len as u64);
+    if done < c.done_len {
+        return refuse(15, c.done_len as u64);
     }
     Counts {
         number: 0,
         second: 0,
-        old_places: a.places,
-        old_len: a.len,
-        new_places: b.places,
-        new_len: b.len,
-        done_len: s.done_len,
+        old_places: c.old_places,
+        old_len: c.old_len,
+        new_places: c.new_places,
+        new_len: c.new_len,
+        done_len: c.done_len,
     }
 }
 
 // The first n names into a lent list.
-fn put(out: &mut [u32], n: usize, names: [u32; 64])
-    requires { ⌜ (n ≤ 64) × (n ≤ length (now out)) ⌝ }
-    ensures { λ _. ⌜ now (out .exit) ≡ laid n names (now (out .entry)) ⌝ }
+fn put(out: &mut [u32], n: usize, names: &[u32])
+    requires { ⌜ (n ≤ length (now names)) × (n ≤ length (now out)) ⌝ }
+    ensures { λ _. ⌜ now (out .exit) ≡ laid n (now (names .entry)) (now (out .entry)) ⌝ }
 {
     let mut i = 0;
     while i < n {
@@ -71,10 +80,20 @@ pub fn read(sheet: &[u8], old: &mut [Step], new: &mut [Step], done: &mut [u32]) 
         × ((now (new .exit) ≡ laid (r .«new_len») (readOf (now (sheet .entry)) .new .steps) (now (new .entry)))
         × (now (done .exit) ≡ laid (r .«done_len») (readOf (now (sheet .entry)) .done) (now (done .entry))))) ⌝ }
 {
-    let s = reader::reads::read(sheet);
-    let c = count(s, old.len(), new.len(), done.len());
-    fill(old, c.old_len, s.old.steps);
-    fill(new, c.new_len, s.new.steps);
-    put(done, c.done_len, s.done);
+    let mut a = [0u64; 256];
+    let mut b = [0u64; 256];
+    let mut d = [0u32; 64];
+    let c = read_counted(
+        sheet,
+        &mut a,
+        &mut b,
+        &mut d,
+        old.len(),
+        new.len(),
+        done.len(),
+    );
+    fill(old, c.old_len, &a);
+    fill(new, c.new_len, &b);
+    put(done, c.done_len, &d);
     c
 }

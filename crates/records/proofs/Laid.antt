@@ -1,10 +1,10 @@
 -- Entries laid over a list one by one.
 use mathlib.Core.Path.{_≡_, refl, sym, ap, _∙_}
 use mathlib.Core.List.{List, _++_}
-use Prim.Native.Nat.{ℕ, suc, _+_, _≤_, _<_}
+use Prim.Native.Nat.{ℕ, suc, _+_, _<_}
 use native.Mathlib.Omega.{arith}
 use native.Mathlib.Numerals.{add-one}
-use lib.ListN.{length, take, drop, getD, set, length-append, length-drop}
+use lib.ListN.{length, take, drop, getD, set}
 use lib.Seq.{take-suc, length-take-le, set-at, append-snoc, drop-cons}
 use Rattle.records.specs.Laid.{laid}
 
@@ -22,6 +22,7 @@ laid-more {X} d l a i h k =
     ∙ ap (λ (x : List X). x ++ drop (suc i) a) (sym (take-suc l i d h))
     ∙ ap (λ (n : ℕ). take n l ++ drop n a) (sym (add-one i))
 
-pub length-laid : {X : Type 0} (l a : List X) (i : ℕ) → i ≤ length l → i ≤ length a → length (laid i l a) ≡ length a
+-- only the entries laid count
+pub laid-same : {X : Type 0} (l k a : List X) (n : ℕ) → take n l ≡ take n k → laid n l a ≡ laid n k a
 unfolding laid
-length-laid l a i h k = length-append (take i l) (drop i a) ∙ omega (arith, length-take-le i l h, length-drop i a)
+laid-same {X} l k a n e = ap (λ (x : List X). x ++ drop n a) e

@@ -1,11 +1,12 @@
 // Lent lists of step records.
 use route::Step;
 use route::flat::put;
+use route::flat::step_at;
 ghost use mathlib.Core.Path.{_≡_};
 ghost use Prim.Native.Nat.{_≤_};
 ghost use lib.ListN.{length, getD};
 ghost use Rattle.route.specs.Steps.{blank};
-ghost use Rattle.route.specs.Flat.{Laid};
+ghost use Rattle.route.specs.Flat.{stepsIn, Laid};
 ghost use Rattle.records.specs.Laid.{laid};
 
 // Lays a lent list's records as numbers, at most 65 of them, since row 4 refuses the 65th; how many numbers there are.
@@ -25,14 +26,14 @@ pub fn lay(steps: &[Step], into: &mut [u64]) -> usize
     4 * n
 }
 
-// The first n records into a lent list.
-pub fn fill(out: &mut [Step], n: usize, steps: [Step; 64])
-    requires { ⌜ (n ≤ 64) × (n ≤ length (now out)) ⌝ }
-    ensures { λ _. ⌜ now (out .exit) ≡ laid n steps (now (out .entry)) ⌝ }
+// The first n steps of the numbers into a lent list.
+pub fn fill(out: &mut [Step], n: usize, steps: &[u64])
+    requires { ⌜ (n ≤ length (stepsIn (now steps))) × (n ≤ length (now out)) ⌝ }
+    ensures { λ _. ⌜ now (out .exit) ≡ laid n (stepsIn (now (steps .entry))) (now (out .entry)) ⌝ }
 {
     let mut k = 0;
     while k < n {
-        out[k] = steps[k];
+        out[k] = step_at(steps, k);
         k += 1;
     }
 }

@@ -1,0 +1,2 @@
+-- What the walk of `read` uses of a private function.
+mod CountedCall
