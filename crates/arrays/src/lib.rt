@@ -1,7 +1,7 @@
 // The operations over lent lists, lent the first records of two arrays: the first n of `a` and the first m of `b`. (A
 // local that is a lent list of records takes a walk by hand, so a program calls these.)
 use answering::Judged;
-use lent::Counts;
+use reader::Counts;
 use route::Step;
 use running::Ran;
 use slice::Sliced;

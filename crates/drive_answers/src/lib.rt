@@ -1,8 +1,8 @@
 // What an operation answers, as numbers. They are gathered in a buffer, and n of its bytes are in use.
 use answering::Judged;
 use facts::Sheet;
-use lent::Counts;
 use listing::Written;
+use reader::Counts;
 use route::Marking;
 use route::Route;
 use route::Step;

@@ -9,9 +9,9 @@ use Rattle.refusal.specs.Rows.{unless, first}
 use Rattle.facts.specs.Facts.{readOf}
 use Rattle.facts.specs.declared.Sheet.{Sheet}
 use Rattle.reader.specs.inner.Read.{ReadTo}
-use Rattle.reader.specs.declared.Counts.{Counts as ReaderCounts}
-use Rattle.lent.specs.declared.Counts.{Counts}
-use Rattle.lent.specs.Reading.{readRow, noCounts, counts, counted}
+use Rattle.reader.specs.declared.Counts.{Counts}
+use Rattle.lent.specs.Reading.{readRow, counts, counted}
+use Rattle.reader.specs.Refused.{noCounts}
 use Rattle.lent.specs.inner.Counted.{Counted}
 
 module _ (s : Sheet) (a b d : ℕ) where
@@ -59,7 +59,7 @@ module _ (s : Sheet) (a b d : ℕ) where
 
 -- ---- what `read_counted` promises, on each of its ways: t is what it was told of the numbers
 
-module _ {s : List ℕ} {c : ReaderCounts} {a b d : List ℕ} (t : ReadTo s c a b d) (x y z : ℕ) (r : Counts) where
+module _ {s : List ℕ} {c : Counts} {a b d : List ℕ} (t : ReadTo s c a b d) (x y z : ℕ) (r : Counts) where
   none : (n k : ℕ) → r ≡ noCounts n k → r ≡ counted (readOf s) x y z → Counted s x y z r a b d
   none n k e is = subst (λ (w : Counts). Counted s x y z w a b d) (sym e) (record {
     answer = sym e ∙ is;
@@ -90,20 +90,12 @@ module _ {s : List ℕ} {c : ReaderCounts} {a b d : List ℕ} (t : ReadTo s c a 
         (e ∙ ap (noCounts 15) (t .done-len)) (omega (arith, t .old-len)) (omega (arith, t .new-len))
         (omega (arith, t .done-len)))
 
-pub told-all : {s : List ℕ} {c : ReaderCounts} {a b d : List ℕ} → ReadTo s c a b d → (x y z : ℕ) → c .number ≡ 0
-    → c .«old_len» ≤ x → c .«new_len» ≤ y → c .«done_len» ≤ z → Counted s x y z (record {
-      number = 0;
-      second = 0;
-      «old_places» = c .«old_places»;
-      «old_len» = c .«old_len»;
-      «new_places» = c .«new_places»;
-      «new_len» = c .«new_len»;
-      «done_len» = c .«done_len»;
-    }) a b d
+pub told-all : {s : List ℕ} {c : Counts} {a b d : List ℕ} → ReadTo s c a b d → (x y z : ℕ) → c .number ≡ 0
+    → c .«old_len» ≤ x → c .«new_len» ≤ y → c .«done_len» ≤ z → Counted s x y z c a b d
 told-all {s = s} {c = c} t x y z ok h h′ h″ = record {
   answer = (λ i. record {
-    number = 0;
-    second = 0;
+    number = ok i;
+    second = t .none ok i;
     «old_places» = t .old-places i;
     «old_len» = t .old-len i;
     «new_places» = t .new-places i;

@@ -6,7 +6,8 @@ use lib.Dec.{eqb, leb}
 use Rattle.refusal.specs.Rows.{refuse, unless, first}
 use Rattle.refusal.specs.declared.Outcome.{Outcome}
 use Rattle.facts.specs.declared.Sheet.{Sheet}
-use Rattle.lent.specs.declared.Counts.{Counts}
+use Rattle.reader.specs.Refused.{noCounts}
+use Rattle.reader.specs.declared.Counts.{Counts}
 
 -- "15: a lent list too short; old, new, done in turn", with the length needed, after the rows of reading. The numbers
 -- are the lists' lengths
@@ -18,18 +19,6 @@ readRow s old new done =
     ∷ unless (leb (s .new .len) new) 15 (s .new .len)
     ∷ unless (leb (s .«done_len») done) 15 (s .«done_len»)
     ∷ [])
-
--- a refusal: its number and second number, all else 0
-abbrev pub noCounts : ℕ → ℕ → Counts
-noCounts n k = record {
-  number = n;
-  second = k;
-  «old_places» = 0;
-  «old_len» = 0;
-  «new_places» = 0;
-  «new_len» = 0;
-  «done_len» = 0;
-}
 
 unfoldable pub counts : Sheet → Outcome → Counts
 counts s o =

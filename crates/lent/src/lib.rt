@@ -18,18 +18,6 @@ ghost use Rattle.lent.specs.Lent.{lentJob};
 
 pub mod reading;
 
-// What reading gives besides the lists: a refusal and its second number, or 0 and 0 and both place counts and all three
-// lengths.
-pub struct Counts {
-    pub number: u32,
-    pub second: u64,
-    pub old_places: u64,
-    pub old_len: usize,
-    pub new_places: u64,
-    pub new_len: usize,
-    pub done_len: usize,
-}
-
 pub fn run(old_places: u64, old: &[Step], new_places: u64, new: &[Step], done: &[u32]) -> Ran
     ensures { λ r. ⌜ r ≡ ran (lentJob «old_places» (now (old .entry)) «new_places» (now (new .entry)) (now (done .entry))) ⌝ }
 {

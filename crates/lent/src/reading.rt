@@ -1,5 +1,5 @@
 // Reading a sheet into lent lists.
-use crate::Counts;
+use reader::Counts;
 use reader::lists::read_lists;
 use records::fill;
 use route::Step;
@@ -8,22 +8,8 @@ ghost use Prim.Native.Nat.{_≤_};
 ghost use lib.ListN.{length, replicate};
 ghost use Rattle.records.specs.Laid.{laid};
 ghost use Rattle.facts.specs.Facts.{readOf};
-ghost use Rattle.lent.specs.Reading.{counted, noCounts};
+ghost use Rattle.lent.specs.Reading.{counted};
 ghost use Rattle.lent.specs.inner.Counted.{Counted};
-
-fn refuse(number: u32, second: u64) -> Counts
-    ensures { λ r. ⌜ r ≡ noCounts number second ⌝ }
-{
-    Counts {
-        number,
-        second,
-        old_places: 0,
-        old_len: 0,
-        new_places: 0,
-        new_len: 0,
-        done_len: 0,
-    }
-}
 
 // The sheet into lent numbers, which hold 0 throughout; then row 15 for each list in turn, by the lists' lengths.
 fn read_counted(
@@ -40,26 +26,18 @@ fn read_counted(
 {
     let c = read_lists(sheet, a, b, d);
     if c.number != 0 {
-        return refuse(c.number, c.second);
+        return Counts::refuse(c.number, c.second);
     }
     if old < c.old_len {
-        return refuse(15, c.old_len as u64);
+        return Counts::refuse(15, c.old_len as u64);
     }
     if new < c.new_len {
-        return refuse(15, c.new_len as u64);
+        return Counts::refuse(15, c.new_len as u64);
     }
     if done < c.done_len {
-        return refuse(15, c.done_len as u64);
+        return Counts::refuse(15, c.done_len as u64);
     }
-    Counts {
-        number: 0,
-        second: 0,
-        old_places: c.old_places,
-        old_len: c.old_len,
-        new_places: c.new_places,
-        new_len: c.new_len,
-        done_len: c.done_len,
-    }
+    c
 }
 
 // The first n names into a lent list.

@@ -25,10 +25,11 @@ use Rattle.lines.specs.inner.Lines.{hasSteps}
 use Rattle.reader.specs.inner.Prefix.{stateOf, Prefix, Upto, passed, withRoute, withDones, OldOn, NewOn, JobOn}
 use Rattle.reader.specs.inner.Prefix.{StepsOn}
 use Rattle.reader.specs.inner.Prefix.{DonesOn}
-use Rattle.reader.specs.inner.Read.{noCounts, ReadInto, ReadTo, routeIn}
+use Rattle.reader.specs.inner.Read.{ReadInto, ReadTo, routeIn}
 use Rattle.reader.specs.declared.Pass.{Pass}
 use Rattle.reader.specs.declared.Head.{Head}
 use Rattle.reader.specs.declared.Filled.{Filled}
+use Rattle.reader.specs.Refused.{noCounts}
 use Rattle.reader.specs.declared.Counts.{Counts}
 use Rattle.reader.proofs.PrefixStep.{settled-yes, settled-no, whole-state}
 

@@ -1,5 +1,7 @@
 // Reading a sheet: layout and facts in one pass, into lent lists.
 use refusal::Outcome;
+ghost use mathlib.Core.Path.{_≡_};
+ghost use Rattle.reader.specs.Refused.{noCounts};
 
 pub mod lists;
 pub mod part;
@@ -37,4 +39,21 @@ pub struct Counts {
     pub new_places: u64,
     pub new_len: usize,
     pub done_len: usize,
+}
+
+impl Counts {
+    // A refusal: all else 0.
+    pub fn refuse(number: u32, second: u64) -> Counts
+        ensures { λ r. ⌜ r ≡ noCounts number second ⌝ }
+    {
+        Counts {
+            number,
+            second,
+            old_places: 0,
+            old_len: 0,
+            new_places: 0,
+            new_len: 0,
+            done_len: 0,
+        }
+    }
 }

@@ -5,21 +5,7 @@ use version::Version;
 ghost use mathlib.Core.Path.{_≡_};
 ghost use lib.ListN.{replicate};
 ghost use Rattle.version.specs.Limits.{Limits};
-ghost use Rattle.reader.specs.inner.Read.{noCounts, ReadInto, ReadTo};
-
-fn refused(number: u32, second: u64) -> Counts
-    ensures { λ r. ⌜ r ≡ noCounts number second ⌝ }
-{
-    Counts {
-        number,
-        second,
-        old_places: 0,
-        old_len: 0,
-        new_places: 0,
-        new_len: 0,
-        done_len: 0,
-    }
-}
+ghost use Rattle.reader.specs.inner.Read.{ReadInto, ReadTo};
 
 // Reading by a version. The lists hold 0 throughout.
 fn read_by(
@@ -43,10 +29,10 @@ fn read_by(
     let f = parts::dones(v, sheet, e, done);
     let end = f.pass;
     if !end.ok {
-        return refused(1, end.at as u64);
+        return Counts::refuse(1, end.at as u64);
     }
     if end.outcome.number != 0 {
-        return refused(end.outcome.number, end.outcome.second);
+        return Counts::refuse(end.outcome.number, end.outcome.second);
     }
     Counts {
         number: 0,

@@ -10,7 +10,7 @@ use Rattle.facts.specs.Facts.{readOf}
 use Rattle.writer.specs.Writes.{wrote, outAfter}
 use Rattle.lent.specs.Lent.{lentJob}
 use Rattle.lent.specs.Reading.{counted}
-use Rattle.lent.specs.declared.Counts.{Counts}
+use Rattle.reader.specs.declared.Counts.{Counts}
 
 -- the bytes that write leaves in a slice
 abbrev pub bytesWritten : Job → List ℕ → List ℕ

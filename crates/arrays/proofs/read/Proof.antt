@@ -45,10 +45,10 @@ use Rattle.records.specs.Laid.{laid}
 use Rattle.records.proofs.Record.{S, word, vals, tells as tells-S, makes}
 use Rattle.records.proofs.Called.{Known, told, tells, meets}
 use Rattle.records.proofs.Locals.{value, all-locals, all-freed, held, sets, sized, slice-sized, points-to}
-use Rattle.lent.specs.declared.Counts.{Counts}
+use Rattle.reader.specs.declared.Counts.{Counts}
 use Rattle.lent.specs.Reading.{counted}
-use Rattle.lent.proofs.Counts as Ct
-use Rattle.lent.proofs.Counts.Laws as Ct′
+use Rattle.reader.proofs.Counts as Ct
+use Rattle.reader.proofs.Counts.Laws as Ct′
 use Rattle.lent.proofs.reading.read as read′
 use Rattle.lent.proofs.reading.read.Symbol as read-def
 use Rattle.lent.proofs.reading.read.Met as read-thm

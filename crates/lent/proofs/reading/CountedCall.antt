@@ -35,9 +35,9 @@ use Rattle.records.proofs.Called.{Known, told}
 use Rattle.records.proofs.InArray.{Elements, array, arrayTy}
 use Rattle.records.proofs.LentArray.{lentArray, mutArray, lends-array, array-back}
 use Rattle.records.proofs.Zeros.{zeros, zeroVal, is-zeros, numbers-of}
-use Rattle.lent.specs.declared.Counts.{Counts}
+use Rattle.reader.specs.declared.Counts.{Counts}
 use Rattle.lent.specs.inner.Counted.{Counted}
-use Rattle.lent.proofs.Counts as Ct
+use Rattle.reader.proofs.Counts as Ct
 use Rattle.lent.proofs.reading.read_counted as counted
 use Rattle.lent.proofs.reading.read_counted.Symbol.{name as #counted}
 

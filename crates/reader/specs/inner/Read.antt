@@ -10,18 +10,6 @@ use Rattle.version.specs.declared.Version.{Version}
 use Rattle.facts.specs.Facts.{failed, readBy}
 use Rattle.reader.specs.declared.Counts.{Counts}
 
--- "A refusal gives its number and a second number, all else 0"
-abbrev pub noCounts : ℕ → ℕ → Counts
-noCounts n k = record {
-  number = n;
-  second = k;
-  «old_places» = 0;
-  «old_len» = 0;
-  «new_places» = 0;
-  «new_len» = 0;
-  «done_len» = 0;
-}
-
 -- the counts are those of the sheet's facts, and where it reads, the lists hold its steps and its done names, 64
 -- entries each
 pub record ReadInto (v : Version) (s : List ℕ) (r : Counts) (old new done : List ℕ) : Type 0 where

@@ -53,11 +53,11 @@ use Rattle.records.proofs.Zeros.{zeros-typed}
 use Rattle.records.proofs.fill.Symbol as fill-def
 use Rattle.records.proofs.fill.Symbol.{name as #fill}
 use Rattle.records.proofs.fill.Met as fill-thm
-use Rattle.lent.specs.declared.Counts.{Counts}
+use Rattle.reader.specs.declared.Counts.{Counts}
 use Rattle.lent.specs.Reading.{counted}
 use Rattle.lent.specs.inner.Counted.{Counted}
-use Rattle.lent.proofs.Counts as Ct
-use Rattle.lent.proofs.Counts.Laws as Ct′
+use Rattle.reader.proofs.Counts as Ct
+use Rattle.reader.proofs.Counts.Laws as Ct′
 use Rattle.lent.proofs.Lays.{Lay, Laid, listVal, ownList, lays}
 use Rattle.lent.proofs.Laying.{word}
 use Rattle.lent.proofs.reading.CountedCall.{ReadCounted, words, names, counts}

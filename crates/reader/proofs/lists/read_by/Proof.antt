@@ -18,7 +18,7 @@ returns c =
     let start : tie.Start = search in
     read-broken _ _ _ _ _ _ _ _ _ _ _ _ (old-head .old-head .ensures) (old-steps .steps .ensures)
     (new-head .new-head .ensures) (new-steps .steps2 .ensures) (job .job-head .ensures) (done .dones .ensures)
-    (start .pre .1 .1 .1) _ (c .refused .ensures) (search)
+    (start .pre .1 .1 .1) _ (c .refuse .ensures) (search)
 
 returns-2 : tie.Need-returns-2
 returns-2 c =
@@ -32,7 +32,7 @@ returns-2 c =
     let start : tie.Start = search in
     read-refused _ _ _ _ _ _ _ _ _ _ _ _ (old-head .old-head .ensures) (old-steps .steps .ensures)
     (new-head .new-head .ensures) (new-steps .steps2 .ensures) (job .job-head .ensures) (done .dones .ensures)
-    (start .pre .1 .1 .1) _ (c .refused2 .ensures) (held .if1 .left) (search)
+    (start .pre .1 .1 .1) _ (c .refuse2 .ensures) (held .if1 .left) (search)
 
 returns-3 : tie.Need-returns-3
 returns-3 c =
