@@ -1,4 +1,4 @@
--- The done names that reading gives lie in 64 entries, and no more than these are counted.
+-- The done names that reading gives lie in 64 entries.
 -- Assumes nothing.
 use mathlib.Core.Path.{_≡_, sym, subst, _∙_}
 use mathlib.Core.List.{List}
@@ -14,12 +14,11 @@ use Rattle.facts.specs.declared.Sheet.{Sheet}
 use Rattle.facts.proofs.RowsFold.{Stand, stands, fails, facts-stand}
 
 pub record Dones (s : Sheet) : Type 0 where
-  pub few : s .«done_len» ≤ 64
   pub room : length (s .done) ≡ 64
 
 no-dones : (n k : ℕ) → Dones (failed n k)
 unfolding failed
-no-dones n k = record { few = omega arith; room = length-replicate {A = ℕ} 64 0 }
+no-dones n k = record { room = length-replicate {A = ℕ} 64 0 }
 
 facts-dones : (v : Version) (x : Lines) → Dones (factsOf v x)
 unfolding factsRecord
@@ -27,7 +26,6 @@ facts-dones v x = go (facts-stand v x)
   where
     go : Stand (factsOf v x) (sheetRows v x) (factsRecord x) (length (x .done) ≤ 64) → Dones (factsOf v x)
     go (stands e q h) = subst Dones (sym q) (record {
-      few = h;
       room = length-append (x .done) (replicate (64 - length (x .done)) 0)
           ∙ omega (arith, length-replicate {A = ℕ} (64 - length (x .done)) 0, h);
     })

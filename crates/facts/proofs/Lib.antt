@@ -1,5 +1,4 @@
 -- Laws on a sheet's rows and facts.
-pub mod Counts
 pub mod LineEnds
 pub mod Members
 pub mod Masks
