@@ -1,8 +1,10 @@
 -- What reading into lists answers on each of its ways, by the tests that it made; and what `read_counted` promises.
 use mathlib.Core.Path.{_≡_, refl, sym, ap, ap₂, subst, _∙_}
+use mathlib.Core.Bool.{true}
 use mathlib.Core.List.{List}
 use Prim.Native.Nat.{ℕ, _≤_, _<_}
 use native.Mathlib.Omega.{arith}
+use lib.Dec.{eqb, leb}
 use lib.ListN.{take}
 use borrow.Author.Tests.{lt-leb, le-leb, eq-eqb, ne-eqb}
 use Rattle.refusal.specs.Rows.{unless, first}
@@ -14,48 +16,24 @@ use Rattle.lent.specs.Reading.{readRow, counts, counted}
 use Rattle.reader.specs.Refused.{noCounts}
 use Rattle.lent.specs.inner.Counted.{Counted}
 
-module _ (s : Sheet) (a b d : ℕ) where
-  pub count-refused : (r : Counts) → r ≡ noCounts (s .number) (s .second) → (s .number ≡ 0 → ⊥) → r ≡ counted s a b d
-  unfolding counted counts readRow first
-  count-refused r e t = rw (ne-eqb (s .number) 0 t, ne-eqb (s .number) 0 t) e
-
-  module _ (t : s .number ≡ 0) where
-    pub count-old : (r : Counts) → r ≡ noCounts 15 (s .old .len) → a < s .old .len → r ≡ counted s a b d
-    unfolding counted counts readRow first unless
-    count-old r e h = rw (eq-eqb (s .number) 0 t, lt-leb (s .old .len) a h) e
-
-    pub count-new : (r : Counts) → r ≡ noCounts 15 (s .new .len) → s .old .len ≤ a → b < s .new .len
-        → r ≡ counted s a b d
-    unfolding counted counts readRow first unless
-    count-new r e h h′ = rw (eq-eqb (s .number) 0 t, le-leb (s .old .len) a h, lt-leb (s .new .len) b h′) e
-
-    pub count-done : (r : Counts) → r ≡ noCounts 15 (s .«done_len») → s .old .len ≤ a → s .new .len ≤ b
-        → d < s .«done_len» → r ≡ counted s a b d
-    unfolding counted counts readRow first unless
-    count-done r e h h′ h″ = rw (
-      eq-eqb (s .number) 0 t,
-      le-leb (s .old .len) a h,
-      le-leb (s .new .len) b h′,
-      lt-leb (s .«done_len») d h″,
-    ) e
-
-    pub count-all : s .old .len ≤ a → s .new .len ≤ b → s .«done_len» ≤ d
-        → record {
-          number = 0;
-          second = 0;
-          «old_places» = s .old .places;
-          «old_len» = s .old .len;
-          «new_places» = s .new .places;
-          «new_len» = s .new .len;
-          «done_len» = s .«done_len»;
-        } ≡ counted s a b d
-    unfolding counted counts readRow first unless
-    count-all h h′ h″ = rw (
-      eq-eqb (s .number) 0 t,
-      le-leb (s .old .len) a h,
-      le-leb (s .new .len) b h′,
-      le-leb (s .«done_len») d h″,
-    )
+-- where it reads, and the lists are long enough
+pub count-all : (s : Sheet) (a b d : ℕ) → s .number ≡ 0 → s .old .len ≤ a → s .new .len ≤ b → s .«done_len» ≤ d
+    → record {
+      number = 0;
+      second = 0;
+      «old_places» = s .old .places;
+      «old_len» = s .old .len;
+      «new_places» = s .new .places;
+      «new_len» = s .new .len;
+      «done_len» = s .«done_len»;
+    } ≡ counted s a b d
+unfolding counted counts readRow first unless
+count-all s a b d t h h′ h″ = rw (
+  eq-eqb (s .number) 0 t,
+  le-leb (s .old .len) a h,
+  le-leb (s .new .len) b h′,
+  le-leb (s .«done_len») d h″,
+)
 
 -- ---- what `read_counted` promises, on each of its ways: t is what it was told of the numbers
 
@@ -72,23 +50,38 @@ module _ {s : List ℕ} {c : Counts} {a b d : List ℕ} (t : ReadTo s c a b d) (
   })
 
   pub told-refused : r ≡ noCounts (c .number) (c .second) → (c .number ≡ 0 → ⊥) → Counted s x y z r a b d
-  told-refused e far = none _ _ e (count-refused (readOf s) x y z r
-      (e ∙ ap₂ noCounts (t .number) (t .second)) (λ h. far (t .number ∙ h)))
+  unfolding counted counts readRow first
+  told-refused e far =
+      let test = ne-eqb (readOf s .number) 0 (λ h. far (t .number ∙ h)) in
+      none _ _ e (rw (test, test) (e ∙ ap₂ noCounts (t .number) (t .second)))
 
   module _ (ok : c .number ≡ 0) where
+    reads : eqb (readOf s .number) 0 ≡ true
+    reads = eq-eqb _ 0 (sym (t .number) ∙ ok)
+
     pub told-old : r ≡ noCounts 15 (c .«old_len») → x < c .«old_len» → Counted s x y z r a b d
-    told-old e h = none _ _ e (count-old (readOf s) x y z (sym (t .number) ∙ ok) r
-        (e ∙ ap (noCounts 15) (t .old-len)) (omega (arith, t .old-len)))
+    unfolding counted counts readRow first unless
+    told-old e h = none _ _ e (rw (reads, lt-leb (readOf s .old .len) x (omega (arith, t .old-len)))
+        (e ∙ ap (noCounts 15) (t .old-len)))
 
-    pub told-new : r ≡ noCounts 15 (c .«new_len») → c .«old_len» ≤ x → y < c .«new_len» → Counted s x y z r a b d
-    told-new e h h′ = none _ _ e (count-new (readOf s) x y z (sym (t .number) ∙ ok) r
-        (e ∙ ap (noCounts 15) (t .new-len)) (omega (arith, t .old-len)) (omega (arith, t .new-len)))
+    module _ (fits : c .«old_len» ≤ x) where
+      old-row : leb (readOf s .old .len) x ≡ true
+      old-row = le-leb _ x (omega (arith, t .old-len))
 
-    pub told-done : r ≡ noCounts 15 (c .«done_len») → c .«old_len» ≤ x → c .«new_len» ≤ y → z < c .«done_len»
-        → Counted s x y z r a b d
-    told-done e h h′ h″ = none _ _ e (count-done (readOf s) x y z (sym (t .number) ∙ ok) r
-        (e ∙ ap (noCounts 15) (t .done-len)) (omega (arith, t .old-len)) (omega (arith, t .new-len))
-        (omega (arith, t .done-len)))
+      pub told-new : r ≡ noCounts 15 (c .«new_len») → y < c .«new_len» → Counted s x y z r a b d
+      unfolding counted counts readRow first unless
+      told-new e h = none _ _ e (rw (reads, old-row, lt-leb (readOf s .new .len) y (omega (arith, t .new-len)))
+          (e ∙ ap (noCounts 15) (t .new-len)))
+
+      pub told-done : r ≡ noCounts 15 (c .«done_len») → c .«new_len» ≤ y → z < c .«done_len»
+          → Counted s x y z r a b d
+      unfolding counted counts readRow first unless
+      told-done e h h′ = none _ _ e (rw (
+        reads,
+        old-row,
+        le-leb (readOf s .new .len) y (omega (arith, t .new-len)),
+        lt-leb (readOf s .«done_len») z (omega (arith, t .done-len)),
+      ) (e ∙ ap (noCounts 15) (t .done-len)))
 
 pub told-all : {s : List ℕ} {c : Counts} {a b d : List ℕ} → ReadTo s c a b d → (x y z : ℕ) → c .number ≡ 0
     → c .«old_len» ≤ x → c .«new_len» ≤ y → c .«done_len» ≤ z → Counted s x y z c a b d
