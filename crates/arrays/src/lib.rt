@@ -19,7 +19,7 @@ ghost use Rattle.writer.specs.Writes.{wrote, outAfter};
 ghost use Rattle.records.specs.Laid.{laid};
 ghost use Rattle.facts.specs.Facts.{readOf};
 ghost use Rattle.lent.specs.Lent.{lentJob};
-ghost use Rattle.lent.specs.Reading.{counted};
+ghost use Rattle.lent_reading.specs.Reading.{counted};
 
 // What reading gives, and both arrays after it.
 pub struct Filled {
@@ -124,6 +124,6 @@ pub fn read(
 {
     let mut old = a;
     let mut new = b;
-    let c = lent::reading::read(sheet, &mut old[..n], &mut new[..m], done);
+    let c = lent_reading::read(sheet, &mut old[..n], &mut new[..m], done);
     together(c, old, new)
 }

@@ -43,6 +43,7 @@ use Rattle.route.specs.Flat.{Laid}
 use Rattle.route.proofs.Step as St
 use Rattle.records.proofs.Called.{told}
 use Rattle.records.proofs.Locals.{value, sized, slice-sized, all-locals, all-freed, held, sets, points-to}
+use Rattle.records.proofs.Record.{word}
 use Rattle.records.proofs.InArray.{Elements, array-out, array-in}
 use Rattle.records.proofs.Zeros.{zeros as all-zeros, zeroVal as all-zeroVal, zeros-long as all-long, is-zeros as all-is}
 use Rattle.records.proofs.Zeros.{zeros-typed as all-typed, numbers-of}
@@ -50,9 +51,6 @@ use Rattle.records.proofs.LentRow.{lentRow, mutRow, lends-mut, mut-back}
 use Rattle.records.proofs.LentBoth.{Lending, Passed, Returned, lends-both}
 use Rattle.records.proofs.lay as lay′
 use Rattle.records.proofs.lay.Symbol.{name as #lay}
-
-abbrev pub word : Ty
-word = tyInt w64
 
 -- a lent list of records as the MIR holds it, and its machine value
 abbrev listTy : ℕ → Ty

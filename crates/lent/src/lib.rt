@@ -16,8 +16,6 @@ ghost use Rattle.judging.specs.Judge.{judged, workAfter};
 ghost use Rattle.writer.specs.Writes.{wrote, outAfter};
 ghost use Rattle.lent.specs.Lent.{lentJob};
 
-pub mod reading;
-
 pub fn run(old_places: u64, old: &[Step], new_places: u64, new: &[Step], done: &[u32]) -> Ran
     ensures { λ r. ⌜ r ≡ ran (lentJob «old_places» (now (old .entry)) «new_places» (now (new .entry)) (now (done .entry))) ⌝ }
 {

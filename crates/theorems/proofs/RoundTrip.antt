@@ -20,10 +20,10 @@ use Rattle.facts.specs.declared.Sheet.{Sheet}
 use Rattle.writer.specs.Writes.{wrote}
 use Rattle.writer.proofs.Round.{read-sheetOf}
 use Rattle.writer.proofs.Trips.{write-reads, read-writes}
-use Rattle.lent.specs.Reading.{readRow, counts, counted}
+use Rattle.lent_reading.specs.Reading.{readRow, counts, counted}
 use Rattle.reader.specs.Refused.{noCounts}
 use Rattle.reader.specs.declared.Counts.{Counts}
-use Rattle.lent.proofs.Counting.{count-all}
+use Rattle.lent_reading.proofs.Counting.{count-all}
 use Rattle.theorems.specs.RoundTrip.{bytesWritten, WritesBytes, countsRead, jobInto, ReadsInto}
 
 -- an array that a list fills from the front, laid into another list

@@ -9,7 +9,7 @@ use Rattle.records.specs.Laid.{laid}
 use Rattle.facts.specs.Facts.{readOf}
 use Rattle.writer.specs.Writes.{wrote, outAfter}
 use Rattle.lent.specs.Lent.{lentJob}
-use Rattle.lent.specs.Reading.{counted}
+use Rattle.lent_reading.specs.Reading.{counted}
 use Rattle.reader.specs.declared.Counts.{Counts}
 
 -- the bytes that write leaves in a slice

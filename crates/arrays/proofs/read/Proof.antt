@@ -46,12 +46,12 @@ use Rattle.records.proofs.Record.{S, word, vals, tells as tells-S, makes}
 use Rattle.records.proofs.Called.{Known, told, tells, meets}
 use Rattle.records.proofs.Locals.{value, all-locals, all-freed, held, sets, sized, slice-sized, points-to}
 use Rattle.reader.specs.declared.Counts.{Counts}
-use Rattle.lent.specs.Reading.{counted}
+use Rattle.lent_reading.specs.Reading.{counted}
 use Rattle.reader.proofs.Counts as Ct
 use Rattle.reader.proofs.Counts.Laws as Ct′
-use Rattle.lent.proofs.reading.read as read′
-use Rattle.lent.proofs.reading.read.Symbol as read-def
-use Rattle.lent.proofs.reading.read.Met as read-thm
+use Rattle.lent_reading.proofs.read as read′
+use Rattle.lent_reading.proofs.read.Symbol as read-def
+use Rattle.lent_reading.proofs.read.Met as read-thm
 use Rattle.arrays.specs.declared.Filled.{Filled}
 use Rattle.arrays.proofs.Filled as F
 use Rattle.arrays.proofs.Filled.Laws as F′
@@ -324,6 +324,6 @@ read-spec 𝓤 H 𝓜 𝓖 𝓡 =
     entered 𝓤 H (tripleOf 𝓤 H (𝓖 .A) first.signature (first.spec 𝓤 H (𝓖 .A) (𝓜 .mem) (𝓡 .run)))
     (tables 𝓤 H 𝓜 𝓡 code.env .C) (tables 𝓤 H 𝓜 𝓡 code.env .Λ) #read code.function (code.unfolded 𝓤 H 𝓜 𝓡)
     (first-meets 𝓤 H (𝓖 .A) (givenOf 𝓤 H 𝓜 𝓖) (𝓜 .mem) (𝓡 .run) (tablesOf 𝓤 H 𝓜 (tables 𝓤 H 𝓜 𝓡 code.env))
-    (cited 𝓤 H _ 𝓜 𝓡 code.env read-def.name read-def.routine code.calls-lent·reading·read (read-thm.met 𝓤 H 𝓜 𝓖 𝓡))
+    (cited 𝓤 H _ 𝓜 𝓡 code.env read-def.name read-def.routine code.calls-lent-reading·read (read-thm.met 𝓤 H 𝓜 𝓖 𝓡))
     (cited 𝓤 H _ 𝓜 𝓡 code.env together-def.name together-def.routine code.calls-arrays·together
     (together-thm.met 𝓤 H 𝓜 𝓖 𝓡)))

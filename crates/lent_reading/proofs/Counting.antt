@@ -12,9 +12,9 @@ use Rattle.facts.specs.Facts.{readOf}
 use Rattle.facts.specs.declared.Sheet.{Sheet}
 use Rattle.reader.specs.inner.Read.{ReadTo}
 use Rattle.reader.specs.declared.Counts.{Counts}
-use Rattle.lent.specs.Reading.{readRow, counts, counted}
+use Rattle.lent_reading.specs.Reading.{readRow, counts, counted}
 use Rattle.reader.specs.Refused.{noCounts}
-use Rattle.lent.specs.inner.Counted.{Counted}
+use Rattle.lent_reading.specs.inner.Counted.{Counted}
 
 -- where it reads, and the lists are long enough
 pub count-all : (s : Sheet) (a b d : ℕ) → s .number ≡ 0 → s .old .len ≤ a → s .new .len ≤ b → s .«done_len» ≤ d

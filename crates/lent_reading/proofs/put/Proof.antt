@@ -7,8 +7,8 @@ use lib.ListN.{length, getD, set}
 use borrow.Author.Needs.{needs}
 use Rattle.records.specs.Laid.{laid}
 use Rattle.records.proofs.Laid.{laid-none, laid-more}
-use Rattle.lent.proofs.reading.put.Statement.{statement}
-use Rattle.lent.proofs.reading.put.Tie as tie
+use Rattle.lent_reading.proofs.put.Statement.{statement}
+use Rattle.lent_reading.proofs.put.Tie as tie
 
 abbrev Inv-loop : tie.InvT-loop
 Inv-loop out₀ n names i₀ out i = (i ≤ n) × ((length out ≡ length out₀) × (out ≡ laid i names out₀))

@@ -6,7 +6,7 @@ use lib.ListN.{take}
 use Rattle.route.specs.Flat.{stepsIn}
 use Rattle.facts.specs.Facts.{readOf}
 use Rattle.reader.specs.declared.Counts.{Counts}
-use Rattle.lent.specs.Reading.{counted}
+use Rattle.lent_reading.specs.Reading.{counted}
 
 -- the answer; its lengths fit the numbers and the lists; and the numbers begin with as many steps and names of the
 -- sheet

@@ -54,24 +54,24 @@ use Rattle.records.proofs.fill.Symbol as fill-def
 use Rattle.records.proofs.fill.Symbol.{name as #fill}
 use Rattle.records.proofs.fill.Met as fill-thm
 use Rattle.reader.specs.declared.Counts.{Counts}
-use Rattle.lent.specs.Reading.{counted}
-use Rattle.lent.specs.inner.Counted.{Counted}
+use Rattle.lent_reading.specs.Reading.{counted}
+use Rattle.lent_reading.specs.inner.Counted.{Counted}
 use Rattle.reader.proofs.Counts as Ct
 use Rattle.reader.proofs.Counts.Laws as Ct′
-use Rattle.lent.proofs.Lays.{Lay, Laid, listVal, ownList, lays}
-use Rattle.lent.proofs.Laying.{word}
-use Rattle.lent.proofs.reading.CountedCall.{ReadCounted, words, names, counts}
-use Rattle.lent.proofs.reading.read_counted.Symbol as counted-def
-use Rattle.lent.proofs.reading.read_counted.Symbol.{name as #counted}
-use Rattle.lent.proofs.reading.read_counted.Met as counted-thm
-use Rattle.lent.proofs.reading.put.Symbol as put-def
-use Rattle.lent.proofs.reading.put.Symbol.{name as #put}
-use Rattle.lent.proofs.reading.put.Met as put-thm
-use Rattle.lent.proofs.reading.read.Key.{name as #lent·read}
-use Rattle.lent.proofs.reading.read as read
-use Rattle.lent.proofs.reading.read.Statement as stated
-use Rattle.lent.proofs.reading.read.Code as code
-use Rattle.lent.proofs.reading.read.Code.Mir as body
+use Rattle.lent_reading.proofs.Lays.{Lay, Laid, listVal, ownList, lays}
+use Rattle.records.proofs.Record.{word}
+use Rattle.lent_reading.proofs.CountedCall.{ReadCounted, words, names, counts}
+use Rattle.lent_reading.proofs.read_counted.Symbol as counted-def
+use Rattle.lent_reading.proofs.read_counted.Symbol.{name as #counted}
+use Rattle.lent_reading.proofs.read_counted.Met as counted-thm
+use Rattle.lent_reading.proofs.put.Symbol as put-def
+use Rattle.lent_reading.proofs.put.Symbol.{name as #put}
+use Rattle.lent_reading.proofs.put.Met as put-thm
+use Rattle.lent_reading.proofs.read.Key.{name as #lent·read}
+use Rattle.lent_reading.proofs.read as read
+use Rattle.lent_reading.proofs.read.Statement as stated
+use Rattle.lent_reading.proofs.read.Code as code
+use Rattle.lent_reading.proofs.read.Code.Mir as body
 
 -- the slices and the arrays as the MIR holds them
 abbrev sheetTy : Ty
@@ -304,7 +304,7 @@ read-spec 𝓤 H 𝓜 𝓖 𝓡 =
     entered 𝓤 H (tripleOf 𝓤 H (𝓖 .A) read.signature (read.spec 𝓤 H (𝓖 .A) (𝓜 .mem) (𝓡 .run)))
     (tables 𝓤 H 𝓜 𝓡 code.env .C) (tables 𝓤 H 𝓜 𝓡 code.env .Λ) #lent·read code.function (code.unfolded 𝓤 H 𝓜 𝓡)
     (read-meets 𝓤 H (𝓖 .A) (givenOf 𝓤 H 𝓜 𝓖) (𝓜 .mem) (𝓡 .run) (tablesOf 𝓤 H 𝓜 (tables 𝓤 H 𝓜 𝓡 code.env))
-    (cited 𝓤 H _ 𝓜 𝓡 code.env #counted counted-def.routine code.calls-lent·reading·read-counted
+    (cited 𝓤 H _ 𝓜 𝓡 code.env #counted counted-def.routine code.calls-lent-reading·read-counted
     (counted-thm.met 𝓤 H 𝓜 𝓖 𝓡))
     (cited 𝓤 H _ 𝓜 𝓡 code.env #fill fill-def.routine code.calls-records·fill (fill-thm.met 𝓤 H 𝓜 𝓖 𝓡))
-    (cited 𝓤 H _ 𝓜 𝓡 code.env #put put-def.routine code.calls-lent·reading·put (put-thm.met 𝓤 H 𝓜 𝓖 𝓡)))
+    (cited 𝓤 H _ 𝓜 𝓡 code.env #put put-def.routine code.calls-lent-reading·put (put-thm.met 𝓤 H 𝓜 𝓖 𝓡)))

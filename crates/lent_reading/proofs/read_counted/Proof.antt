@@ -1,8 +1,8 @@
 -- `read_counted`: each way through its tests has its law (Counting).
 use borrow.Author.Needs.{needs}
-use Rattle.lent.proofs.Counting.{told-refused, told-old, told-new, told-done, told-all}
-use Rattle.lent.proofs.reading.read_counted.Statement.{statement}
-use Rattle.lent.proofs.reading.read_counted.Tie as tie
+use Rattle.lent_reading.proofs.Counting.{told-refused, told-old, told-new, told-done, told-all}
+use Rattle.lent_reading.proofs.read_counted.Statement.{statement}
+use Rattle.lent_reading.proofs.read_counted.Tie as tie
 
 returns : tie.Need-returns
 returns c = search (needs, told-refused)

@@ -8,8 +8,8 @@ ghost use Prim.Native.Nat.{_≤_};
 ghost use lib.ListN.{length, replicate};
 ghost use Rattle.records.specs.Laid.{laid};
 ghost use Rattle.facts.specs.Facts.{readOf};
-ghost use Rattle.lent.specs.Reading.{counted};
-ghost use Rattle.lent.specs.inner.Counted.{Counted};
+ghost use Rattle.lent_reading.specs.Reading.{counted};
+ghost use Rattle.lent_reading.specs.inner.Counted.{Counted};
 
 // The sheet into lent numbers, which hold 0 throughout; then row 15 for each list in turn, by the lists' lengths.
 fn read_counted(

@@ -36,10 +36,10 @@ use Rattle.records.proofs.InArray.{Elements, array, arrayTy}
 use Rattle.records.proofs.LentArray.{lentArray, mutArray, lends-array, array-back}
 use Rattle.records.proofs.Zeros.{zeros, zeroVal, is-zeros, numbers-of}
 use Rattle.reader.specs.declared.Counts.{Counts}
-use Rattle.lent.specs.inner.Counted.{Counted}
+use Rattle.lent_reading.specs.inner.Counted.{Counted}
 use Rattle.reader.proofs.Counts as Ct
-use Rattle.lent.proofs.reading.read_counted as counted
-use Rattle.lent.proofs.reading.read_counted.Symbol.{name as #counted}
+use Rattle.lent_reading.proofs.read_counted as counted
+use Rattle.lent_reading.proofs.read_counted.Symbol.{name as #counted}
 
 module _ {M : Type 1} (𝓤 : URA M) (H : Heap 𝓤) (A : Atoms 𝓤) (mem : Memory → SProp 𝓤) (run : Routine → Fun 𝓤) where
   abbrev pub ReadCounted : Contract 𝓤

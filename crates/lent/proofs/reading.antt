@@ -1,2 +1,0 @@
--- What the walk of `read` uses of a private function.
-mod CountedCall

@@ -1,0 +1,3 @@
+-- Reading into lent lists of step records.
+pub mod Reading
+pub mod inner
