@@ -29,8 +29,7 @@ use Rattle.facts.specs.Facts.{failed, settled, headed, stepped, oldHead, newHea
 use Rattle.facts.specs.Facts.{moreSteps, moreDones, factsOf, answered, readBy}
 use Rattle.emit.specs.Numbers.{digits, decimal, entry, over}
 use Rattle.listing_lines.specs.Lines.{line, movedLine, afterLine, afterLines, orderLine, markingLine, valueLine}
-use Rattle.listing_lines.specs.Lines.{valueLines}
-use Rattle.listing_lines.specs.Lines.{refusedLine}
+use Rattle.listing_lines.specs.Lines.{valueLines, refusedLine}
 use Rattle.listing.specs.Listing.{movedText, listing}
 use Rattle.ops.specs.Print.{sheetAnswer, listingOf}
 use Rattle.examples.specs.Table.{codes, bytes, AllPrint, table}

@@ -9,7 +9,7 @@ use lib.ListN.{length}
 use borrow.Author.Tests.{not-true, not-false, lt-ltb}
 use Rattle.refusal.specs.Rows.{pass, refuse, unless, first}
 use Rattle.route.specs.Steps.{names}
-use Rattle.lookup.specs.Position.{position}
+use Rattle.lookup.specs.inner.Position.{position}
 use Rattle.route.specs.declared.Step.{Step}
 use Rattle.refusal.specs.declared.Outcome.{Outcome}
 use Rattle.lookup.specs.declared.Found.{Found}

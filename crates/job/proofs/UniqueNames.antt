@@ -1,4 +1,4 @@
--- Row 5: in a route whose rows pass no name stands twice, so a step is the one that its own name finds.
+-- Row 5: in a route whose rows pass no name stands twice.
 use mathlib.Core.Path.{_≡_, refl, sym, ap, _∙_}
 use mathlib.Core.Bool.{Bool, true, false, not, _||_}
 use mathlib.Core.List.{List, [], _∷_, _++_, append-nil}

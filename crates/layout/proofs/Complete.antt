@@ -9,7 +9,8 @@ use Rattle.layout.specs.Words.{spelling}
 use Rattle.layout.specs.Text.{Form, Lines, number, entries, listed, stepLine, wordLine, jobLine, stepLines}
 use Rattle.layout.specs.Text.{doneLines, jobText, text, Short, Shorts, ShortForm, ShortForms, ShortLines}
 use Rattle.layout.specs.Points.{digit, alive, expect, chosen, spelt, inList, pastWord, ended, more, closed, next}
-use Rattle.layout.specs.Parse.{Line, Parsed, noLine, noLines, withNum, stored, withEntries, took, putStep}
+use Rattle.layout.specs.Parse.{Line, Parsed, noLine, noLines, withNum, stored, took, putStep}
+use Rattle.layout.specs.inner.Entries.{withEntries}
 use Rattle.layout.specs.Parse.{putLine, keep, atEnd, run, parse}
 use Rattle.layout.specs.declared.Word.{Word}
 use Rattle.layout.specs.declared.Word.the-variants.{Old, New, Done, Step, In, Out, Read, Write}

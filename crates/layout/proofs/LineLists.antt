@@ -3,7 +3,8 @@ use mathlib.Core.Path.{_≡_, refl, ap, _∙_}
 use mathlib.Core.List.{List, [], _∷_, reverseAux, reverse-reverse}
 use Prim.Native.Nat.{ℕ}
 use Rattle.layout.specs.Text.{Form}
-use Rattle.layout.specs.Parse.{Line, noLine, withNum, withForm, stored, withEntries, formOf}
+use Rattle.layout.specs.Parse.{Line, noLine, withNum, withForm, stored, formOf}
+use Rattle.layout.specs.inner.Entries.{withEntries}
 use Rattle.layout.specs.declared.Word.the-variants.{Step, In, Out, Read, Write}
 
 -- the number in hand after a list

@@ -4,3 +4,4 @@ pub mod Text
 pub mod Points
 pub mod Parse
 pub mod Begins
+pub mod inner

@@ -48,11 +48,6 @@ stored Out c = withForm c (c .head) (c .ins) (c .num ∷ c .outs) (c .reads) (c 
 stored Read c = withForm c (c .head) (c .ins) (c .outs) (c .num ∷ c .reads) (c .writes)
 stored Write c = withForm c (c .head) (c .ins) (c .outs) (c .reads) (c .num ∷ c .writes)
 
--- the line with these entries of a word's list
-unfoldable pub withEntries : Word → List ℕ → Line → Line
-withEntries w [] c = c
-withEntries w (n ∷ l) c = withEntries w l (stored w (withNum n c))
-
 -- what a byte does to the line in hand
 unfoldable pub took : Point → ℕ → Line → Line
 took Start b c = c

@@ -10,7 +10,7 @@ use borrow.Author.Tests.{lt-ltb, le-ltb, not-true, not-false}
 use Rattle.refusal.specs.Rows.{pass, refuse, unless, first}
 use Rattle.refusal.specs.declared.Outcome.{Outcome}
 use Rattle.refusal.proofs.Rows.{row-passes, row-refuses, rows-end}
-use Rattle.lookup.specs.Position.{position}
+use Rattle.lookup.specs.inner.Position.{position}
 use Rattle.lookup.specs.declared.Found.{Found}
 use Rattle.lookup.specs.declared.Found.the-variants.{At, Nothing}
 use Rattle.job.specs.Lines.{among}

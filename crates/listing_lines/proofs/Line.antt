@@ -16,9 +16,8 @@ use Rattle.emit.proofs.Chains.{parts, First, Second, Third, Three, first-room, 
 use Rattle.emit.proofs.Chains.{emits-none}
 use Rattle.emit.proofs.Over.{from-zero, from-one}
 use Rattle.listing_lines.specs.Lines.{close, line, movedWord, droppedWord, movedEnd, movedLine, afterWord}
-use Rattle.listing_lines.specs.Lines.{afterLine}
-use Rattle.listing_lines.specs.Lines.{orderWord, orderLine, markingWord, markingLine, valueWord, valueLine}
-use Rattle.listing_lines.specs.Lines.{refusedWord, refusedLine}
+use Rattle.listing_lines.specs.Lines.{afterLine, orderWord, orderLine, markingWord, markingLine, valueWord}
+use Rattle.listing_lines.specs.Lines.{valueLine, refusedWord, refusedLine}
 
 module _ (w : List ℕ) where
   line-parts : (l : List ℕ) → line w l ≡ parts (w ∷ over entry l ∷ close ∷ [])

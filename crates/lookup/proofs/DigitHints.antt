@@ -11,7 +11,7 @@ use lib.ListN.{length, take, drop, getD, set, replicate, length-set, length-appe
 use lib.Seq.{length-take-le, take-all, take-suc, getD-at, getD-set-same, getD-set-other}
 use borrow.Author.Tests.{eqb-true, eqb-false}
 use Rattle.route.specs.Steps.{blank, names}
-use Rattle.lookup.specs.Position.{position}
+use Rattle.lookup.specs.inner.Position.{position}
 use Rattle.lookup.specs.inner.Hints.{Hinted}
 use Rattle.route.specs.Flat.{stepsIn}
 use Rattle.route.specs.declared.Step.{Step}

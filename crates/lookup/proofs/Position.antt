@@ -14,7 +14,7 @@ use borrow.Author.Tests.{eq-eqb, ne-eqb}
 use Rattle.route.specs.Steps.{blank, names, lookup}
 use Rattle.route.specs.declared.Step.{Step}
 use Rattle.route.proofs.StepList.{length-names, getD-names}
-use Rattle.lookup.specs.Position.{position, further}
+use Rattle.lookup.specs.inner.Position.{position, further}
 use Rattle.lookup.specs.declared.Found.{Found}
 use Rattle.lookup.specs.declared.Found.the-variants.{At, Nothing}
 

@@ -1,3 +1,2 @@
 -- Look-up by name.
-pub mod Position
 pub mod inner

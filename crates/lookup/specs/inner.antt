@@ -1,2 +1,3 @@
 -- Promises between inner functions. No contract of an open operation and no theorem rests on what they mean.
+pub mod Position
 pub mod Hints

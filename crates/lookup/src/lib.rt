@@ -5,7 +5,7 @@ ghost use mathlib.Core.List.{List, [], _∷_, _++_};
 ghost use Prim.Native.Nat.{ℕ, _≤_, _<_};
 ghost use lib.ListN.{length};
 ghost use Rattle.route.specs.Steps.{names};
-ghost use Rattle.lookup.specs.Position.{position};
+ghost use Rattle.lookup.specs.inner.Position.{position};
 ghost use Rattle.lookup.specs.inner.Hints.{Hinted};
 ghost use Rattle.route.specs.Flat.{stepsIn};
 

@@ -1,5 +1,4 @@
 // The precedence table, by variable: the earlier writers and the earlier readers of each.
-use route::Step;
 use route::flat;
 ghost use mathlib.Core.Path.{_≡_};
 ghost use Prim.Native.Nat.{ℕ, _≤_};

@@ -27,8 +27,7 @@ use Rattle.refusal.proofs.Rows.{head-passed, unless-elim}
 use Rattle.tokens.specs.declared.Numeral.{Numeral}
 use Rattle.lines.specs.inner.Lines.{headWord, NumberedOn}
 use Rattle.reader.specs.inner.Prefix.{backDones, oldState, newState, jobState, stateOf, Prefix, Upto, passed}
-use Rattle.reader.specs.inner.Prefix.{brokenAt}
-use Rattle.reader.specs.inner.Prefix.{Placed, withDones, DonesOn}
+use Rattle.reader.specs.inner.Prefix.{brokenAt, Placed, withDones, DonesOn}
 use Rattle.reader.specs.declared.Pass.{Pass}
 use Rattle.tokens.proofs.Bytes.{apart}
 use Rattle.lines.proofs.LineTexts.{done-spells}

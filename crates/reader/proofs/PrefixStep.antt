@@ -19,8 +19,7 @@ use Rattle.facts.specs.declared.Sheet.{Sheet}
 use Rattle.tokens.specs.inner.Tokens.{Reached}
 use Rattle.tokens.proofs.Bytes.{apart}
 use Rattle.reader.specs.inner.Prefix.{backSteps, backDones, oldState, newState, jobState, stateOf, Prefix, Upto}
-use Rattle.reader.specs.inner.Prefix.{passed}
-use Rattle.reader.specs.inner.Prefix.{brokenAt}
+use Rattle.reader.specs.inner.Prefix.{passed, brokenAt}
 
 -- ---- an outcome over the facts
 

@@ -35,8 +35,7 @@ use Rattle.refusal.proofs.Rows.{head-passed, unless-elim}
 use Rattle.tokens.proofs.Bytes.{apart}
 use Rattle.lines.specs.inner.Lines.{hasSteps, IsForm, StepOn}
 use Rattle.reader.specs.inner.Prefix.{backSteps, oldState, newState, stateOf, Prefix, Upto, passed, brokenAt}
-use Rattle.reader.specs.inner.Prefix.{Placed}
-use Rattle.reader.specs.inner.Prefix.{bare, withRoute, StepsOn}
+use Rattle.reader.specs.inner.Prefix.{Placed, bare, withRoute, StepsOn}
 use Rattle.lines.specs.declared.StepLine.{StepLine}
 use Rattle.reader.specs.declared.Pass.{Pass}
 use Rattle.reader.proofs.PrefixStep.{settled-no, more-on, more-refused, prefix-of, upto-held, upto-broken}

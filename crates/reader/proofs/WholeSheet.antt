@@ -23,8 +23,7 @@ use Rattle.facts.specs.declared.Sheet.{Sheet}
 use Rattle.tokens.specs.inner.Tokens.{Broken}
 use Rattle.lines.specs.inner.Lines.{hasSteps}
 use Rattle.reader.specs.inner.Prefix.{stateOf, Prefix, Upto, passed, withRoute, withDones, OldOn, NewOn, JobOn}
-use Rattle.reader.specs.inner.Prefix.{StepsOn}
-use Rattle.reader.specs.inner.Prefix.{DonesOn}
+use Rattle.reader.specs.inner.Prefix.{StepsOn, DonesOn}
 use Rattle.reader.specs.inner.Read.{ReadInto, ReadTo, routeIn}
 use Rattle.reader.specs.declared.Pass.{Pass}
 use Rattle.reader.specs.declared.Head.{Head}

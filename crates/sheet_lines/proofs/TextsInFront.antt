@@ -15,7 +15,7 @@ use Rattle.layout.specs.declared.Word.{Word}
 use Rattle.layout.specs.declared.Word.the-variants.{In, Out, Read, Write}
 use Rattle.layout.specs.declared.Word.the-variants as W
 use Rattle.facts.specs.Back.{formOf}
-use Rattle.sheet_lines.specs.Parts.{lists, routeText}
+use Rattle.sheet_lines.specs.inner.Parts.{lists, routeText}
 
 -- the digits of a sheet's number and those of an emitter's are the same
 digits-are : (k n : ℕ) (s : List ℕ) → digits k n s ≡ N.digits k n ++ s

@@ -1,2 +1,2 @@
 -- What an emitter of a sheet's lines writes.
-pub mod Parts
+pub mod inner

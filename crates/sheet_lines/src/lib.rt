@@ -12,7 +12,7 @@ ghost use Rattle.route.specs.Flat.{stepsIn};
 ghost use Rattle.layout.specs.Words.{spelling};
 ghost use Rattle.layout.specs.Text.{listed, stepLine, stepLines, wordLine, doneLines, jobText};
 ghost use Rattle.facts.specs.Back.{formOf};
-ghost use Rattle.sheet_lines.specs.Parts.{opening, closing, lists, routeText};
+ghost use Rattle.sheet_lines.specs.inner.Parts.{opening, closing, lists, routeText};
 
 // The letters of a word, from the table.
 fn word(out: &mut [u8], at: usize, w: Word) -> usize

@@ -1,4 +1,4 @@
-// The slice and the precedence table.
+// The slice: what is kept of the steps done.
 ghost use mathlib.Core.Path.{_≡_};
 ghost use Rattle.slice.specs.Slicing.{slicedStopped};
 

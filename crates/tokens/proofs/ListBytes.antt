@@ -12,14 +12,14 @@ use Rattle.mask.specs.Mask.{bit}
 use Rattle.version.specs.declared.Version.{Version}
 use Rattle.layout.specs.Text.{Lines}
 use Rattle.layout.specs.Points.{digit, alive, next, expect, inList, pastWord, more, ended}
-use Rattle.layout.specs.Parse.{Line, Parsed, withNum, grown, stored, withEntries, took, keep, atEnd, run}
+use Rattle.layout.specs.Parse.{Line, Parsed, withNum, grown, stored, took, keep, atEnd, run}
+use Rattle.layout.specs.inner.Entries.{withEntries}
 use Rattle.layout.specs.declared.Word.{Word}
 use Rattle.layout.specs.declared.Word.the-variants.{Old, New, Job, Done, Step, In, Out, Read, Write}
 use Rattle.layout.specs.declared.Part.{Part}
 use Rattle.layout.specs.declared.Point.{Point}
 use Rattle.layout.specs.declared.Point.the-variants.{Digit, Digits, Past, Closed, Stuck}
-use Rattle.tokens.specs.inner.Tokens.{Reading, Reached, NumberOn, listWord, noEntries, added, along}
-use Rattle.tokens.specs.inner.Tokens.{ListOn}
+use Rattle.tokens.specs.inner.Tokens.{Reading, Reached, NumberOn, listWord, noEntries, added, along, ListOn}
 use Rattle.tokens.specs.declared.Numeral.{Numeral}
 use Rattle.tokens.specs.declared.Entries.{Entries}
 use Rattle.tokens.specs.declared.Listed.{Listed}

@@ -8,7 +8,7 @@ use Rattle.job.specs.Job.{Job}
 use Rattle.layout.specs.Text.{jobText, text}
 use Rattle.layout.specs.declared.Word.the-variants as W
 use Rattle.facts.specs.Back.{linesOf}
-use Rattle.sheet_lines.specs.Parts.{routeText}
+use Rattle.sheet_lines.specs.inner.Parts.{routeText}
 use Rattle.sheet_lines.proofs.TextsInFront.{route-front}
 use Rattle.writer.specs.Written.{written}
 

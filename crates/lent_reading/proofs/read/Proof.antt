@@ -67,7 +67,7 @@ use Rattle.lent_reading.proofs.read_counted.Met as counted-thm
 use Rattle.lent_reading.proofs.put.Symbol as put-def
 use Rattle.lent_reading.proofs.put.Symbol.{name as #put}
 use Rattle.lent_reading.proofs.put.Met as put-thm
-use Rattle.lent_reading.proofs.read.Key.{name as #lent·read}
+use Rattle.lent_reading.proofs.read.Key.{name as #read}
 use Rattle.lent_reading.proofs.read as read
 use Rattle.lent_reading.proofs.read.Statement as stated
 use Rattle.lent_reading.proofs.read.Code as code
@@ -302,7 +302,7 @@ pub read-spec : {M : Type 1} → stated.statement M
 unfolding code.routine tablesOf
 read-spec 𝓤 H 𝓜 𝓖 𝓡 =
     entered 𝓤 H (tripleOf 𝓤 H (𝓖 .A) read.signature (read.spec 𝓤 H (𝓖 .A) (𝓜 .mem) (𝓡 .run)))
-    (tables 𝓤 H 𝓜 𝓡 code.env .C) (tables 𝓤 H 𝓜 𝓡 code.env .Λ) #lent·read code.function (code.unfolded 𝓤 H 𝓜 𝓡)
+    (tables 𝓤 H 𝓜 𝓡 code.env .C) (tables 𝓤 H 𝓜 𝓡 code.env .Λ) #read code.function (code.unfolded 𝓤 H 𝓜 𝓡)
     (read-meets 𝓤 H (𝓖 .A) (givenOf 𝓤 H 𝓜 𝓖) (𝓜 .mem) (𝓡 .run) (tablesOf 𝓤 H 𝓜 (tables 𝓤 H 𝓜 𝓡 code.env))
     (cited 𝓤 H _ 𝓜 𝓡 code.env #counted counted-def.routine code.calls-lent-reading·read-counted
     (counted-thm.met 𝓤 H 𝓜 𝓖 𝓡))

@@ -10,7 +10,8 @@ use Rattle.mask.specs.Mask.{bit}
 use Rattle.version.specs.declared.Version.{Version}
 use Rattle.layout.specs.Text.{Lines}
 use Rattle.layout.specs.Points.{alive, next}
-use Rattle.layout.specs.Parse.{Line, Parsed, withNum, withEntries, took, keep, atEnd, run, parse}
+use Rattle.layout.specs.Parse.{Line, Parsed, withNum, took, keep, atEnd, run, parse}
+use Rattle.layout.specs.inner.Entries.{withEntries}
 use Rattle.layout.specs.declared.Word.{Word}
 use Rattle.layout.specs.declared.Word.the-variants.{Old, New, Job, Done, Step, In, Out, Read, Write}
 use Rattle.layout.specs.declared.Part.{Part}
