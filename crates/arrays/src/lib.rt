@@ -1,11 +1,11 @@
 // The operations over lent lists, lent the first records of two arrays: the first n of `a` and the first m of `b`. (A
 // local that is a lent list of records takes a walk by hand, so a program calls these.)
 use answering::Judged;
+use order_entries::Tried;
 use reader::Counts;
 use route::Step;
 use running::Ran;
 use slice::Sliced;
-use trying::Tried;
 use writer::Wrote;
 ghost use mathlib.Core.Path.{_≡_};
 ghost use Prim.Native.Nat.{_≤_};

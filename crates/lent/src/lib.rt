@@ -1,11 +1,11 @@
 // The operations over lent lists of step records: each lays both lists into numbers, and lends those to the operation
 // over lists of numbers. (The arrays have other names in each, so that an edit of must-fail/ can name its line.)
 use answering::Judged;
+use order_entries::Tried;
 use records::lay;
 use route::Step;
 use running::Ran;
 use slice::Sliced;
-use trying::Tried;
 use writer::Wrote;
 ghost use mathlib.Core.Path.{_≡_};
 ghost use lib.ListN.{length};

@@ -7,8 +7,9 @@ use borrow.Author.Tests.{eq-eqb, ne-eqb}
 use Rattle.facts.specs.Facts.{readOf}
 use Rattle.job.specs.Job.{Job, flatJob}
 use Rattle.matching.proofs.Choice.{cond-yes, cond-no}
-use Rattle.trying.specs.Try.{tried, tryStopped}
-use Rattle.trying.specs.declared.Tried.{Tried}
+use Rattle.order_entries.specs.Entries.{tryStopped}
+use Rattle.trying.specs.Try.{tried}
+use Rattle.order_entries.specs.declared.Tried.{Tried}
 use Rattle.reader.specs.inner.Read.{ReadTo}
 use Rattle.reader.specs.declared.Counts.{Counts}
 use Rattle.ops.specs.SheetTry.{triedFacts, triedSheet}

@@ -5,8 +5,9 @@ use Prim.Native.Nat.{ℕ}
 use lib.Dec.{eqb}
 use Rattle.facts.specs.Facts.{readOf, jobRead}
 use Rattle.facts.specs.declared.Sheet.{Sheet}
-use Rattle.trying.specs.Try.{tried, tryStopped}
-use Rattle.trying.specs.declared.Tried.{Tried}
+use Rattle.order_entries.specs.Entries.{tryStopped}
+use Rattle.trying.specs.Try.{tried}
+use Rattle.order_entries.specs.declared.Tried.{Tried}
 
 -- what try answers of a sheet's records; a sheet that doesn't read is refused as reading refuses it
 unfoldable pub triedFacts : Sheet → List ℕ → Tried

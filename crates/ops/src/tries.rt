@@ -1,6 +1,6 @@
 // Try on a sheet's bytes.
+use order_entries::Tried;
 use reader::lists::read_lists;
-use trying::Tried;
 use trying::trying::try_checked;
 ghost use mathlib.Core.Path.{_≡_};
 ghost use Rattle.ops.specs.SheetTry.{triedSheet};

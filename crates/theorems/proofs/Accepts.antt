@@ -19,8 +19,9 @@ use Rattle.search.specs.Search.{isSome}
 use Rattle.matching.specs.Straight.{sameStep, fireAll, stepsOn, runsStraight}
 use Rattle.matching.specs.Fit.{keptOf, KeptFit, FitAt, Fit}
 use Rattle.matching.specs.KeptRows.{keptRows}
-use Rattle.trying.specs.Try.{tryStopped, tryAccepted, sameList, listRow, tryFrom, tryList, tryRows, tried}
-use Rattle.trying.specs.declared.Tried.{Tried}
+use Rattle.order_entries.specs.Entries.{tryStopped, tryAccepted, listRow, tryFrom}
+use Rattle.trying.specs.Try.{sameList, tryList, tryRows, tried}
+use Rattle.order_entries.specs.declared.Tried.{Tried}
 use Rattle.theorems.specs.Demand3.{Runs, stepsDone, positions, FitFor}
 use Rattle.refusal.proofs.Rows.{cond-zero, cond-zero-elim}
 use Rattle.theorems.proofs.Runs.{steps-short}

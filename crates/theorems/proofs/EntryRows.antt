@@ -13,8 +13,8 @@ use Rattle.route.proofs.IfFires.{ifFires-can, ifFires-elim}
 use Rattle.precedence.specs.Precedence.{comesAfter}
 use Rattle.precedence.specs.Order.{noneOf, inOrder}
 use Rattle.matching.specs.Straight.{fireAll, stepsOn}
-use Rattle.trying.specs.Try.{tryStopped, tryAccepted, tryFrom}
-use Rattle.trying.specs.declared.Tried.{Tried}
+use Rattle.order_entries.specs.Entries.{tryStopped, tryAccepted, tryFrom}
+use Rattle.order_entries.specs.declared.Tried.{Tried}
 use Rattle.theorems.proofs.Fires.{fireAll-cons}
 use Rattle.theorems.proofs.Entries.{inOrder-cons}
 

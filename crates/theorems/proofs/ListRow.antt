@@ -12,7 +12,7 @@ use Rattle.mask.specs.Mask.{has, bit}
 use Rattle.mask.proofs.Truth.{both}
 use Rattle.refusal.specs.Rows.{pass, refuse}
 use Rattle.precedence.specs.Order.{EachOnce}
-use Rattle.trying.specs.Try.{isKept, listRow}
+use Rattle.order_entries.specs.Entries.{isKept, listRow}
 use Rattle.theorems.specs.Demand3.{positions}
 use Rattle.theorems.proofs.EachOnce.{marks, fresh, marks-old, eachOnce-elim, eachOnce-intro}
 use Rattle.mask.proofs.Count.{has-new}

@@ -14,8 +14,9 @@ use Rattle.refusal.proofs.Rows.{cond-zero, cond-zero-elim}
 use Rattle.job.specs.Job.{Job}
 use Rattle.running.specs.Run.{ran}
 use Rattle.facts.specs.Facts.{readOf}
-use Rattle.trying.specs.Try.{tried, tryStopped}
-use Rattle.trying.specs.declared.Tried.{Tried}
+use Rattle.order_entries.specs.Entries.{tryStopped}
+use Rattle.trying.specs.Try.{tried}
+use Rattle.order_entries.specs.declared.Tried.{Tried}
 use Rattle.judging.specs.Judge.{judged}
 use Rattle.answering.specs.Answer.{judgeStopped}
 use Rattle.answering.specs.declared.Judged.{Judged}

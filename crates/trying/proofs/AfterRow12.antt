@@ -15,8 +15,8 @@ use Rattle.matching.proofs.Preparation.{doneSteps, prepared-ready, prepared-row
 use Rattle.matching.proofs.Preparation.{numbers-done, numbers-matched}
 use Rattle.matching.proofs.KeptRows.{kept-same}
 use Rattle.trying.specs.Try.{tryList, tried}
-use Rattle.trying.specs.inner.Replayable.{TryReady}
-use Rattle.trying.specs.declared.Tried.{Tried}
+use Rattle.trying.specs.inner.Ready.{TryReady}
+use Rattle.order_entries.specs.declared.Tried.{Tried}
 use Rattle.trying.proofs.TryRows.{tried-list}
 
 module _ (j : Job) (p : Prepared) (occurrences matches : List ℕ) (is : PreparedOf j p occurrences matches) (t : Bool)

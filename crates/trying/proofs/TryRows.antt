@@ -6,7 +6,7 @@ use mathlib.Core.Option.{Option·getD}
 use Prim.Native.Nat.{ℕ, suc}
 use lib.Dec.{eqb}
 use lib.ListN.{length}
-use borrow.Author.Tests.{eqb-true, not-true, not-false}
+use borrow.Author.Tests.{not-true, not-false}
 use Rattle.refusal.specs.Rows.{refuse, first}
 use Rattle.route.specs.Flat.{Laid}
 use Rattle.route.specs.declared.Step.{Step}
@@ -20,44 +20,17 @@ use Rattle.job.proofs.LongLists.{Refused, laidJob, same-laid}
 use Rattle.running.proofs.LongLists.{ran-alike, ran-off}
 use Rattle.running.proofs.RunLine.{ran-line}
 use Rattle.precedence.specs.Order.{inTurn}
-use Rattle.precedence.specs.Table.{table}
 use Rattle.matching.specs.Straight.{fireAll, runsStraight}
-use Rattle.matching.specs.Fit.{keptOf}
 use Rattle.matching.specs.KeptRows.{keptRows, rowsTo12}
 use Rattle.matching.specs.inner.Matched.{straightEnd}
 use Rattle.matching.specs.declared.Prepared.{Prepared}
 use Rattle.matching.specs.declared.End.{End}
 use Rattle.matching.specs.declared.End.the-variants.{At, Stuck}
-use Rattle.trying.specs.Try.{tryStopped, sameList, listRow, tryFrom, tryList, tryRows, tried}
-use Rattle.trying.specs.inner.Replayable.{Replayable, TryReady, byRows}
-use Rattle.trying.specs.declared.Tried.{Tried}
-use Rattle.trying.proofs.Row17.{positions}
-use Rattle.trying.proofs.Entry.{Answers}
-
--- ---- rows 16 to 18
-
-module _ (kept : ℕ) (o : List ℕ) (w : Outcome) (is : w ≡ listRow kept 0 1 o) (t : Bool)
-    (test : t ≡ eqb (w .number) 0) where
-  pub list-passes : not t ≡ false → listRow kept 0 1 o .number ≡ 0
-  list-passes on = ap (λ (x : Outcome). x .number) (sym is) ∙ eqb-true (w .number) 0 (sym test ∙ not-false t on)
-
-  module _ (l matches : List Step) (m : ℕ) (r : Tried) where
-    picked : (new : List Step) → kept ≡ keptOf new l → (b : Bool) → t ≡ b
-        → cond b (tryFrom new l m 1 (positions o)) (tryStopped (w .number) (w .second)) ≡ byRows new l m o
-    unfolding byRows
-    picked new kept-is b e =
-        ap (λ (x : Bool). cond x (tryFrom new l m 1 (positions o)) (tryStopped (w .number) (w .second))) (sym e ∙ test)
-        ∙ ap (λ (x : Outcome). cond (eqb (x .number) 0) (tryFrom new l m 1 (positions o))
-        (tryStopped (x .number) (x .second))) (is ∙ ap (λ (n : ℕ). listRow n 0 1 o) kept-is)
-
-    pub rows-refused : not t ≡ true → r ≡ tryStopped (w .number) (w .second) → (new : List Step)
-        → Replayable new l kept matches → r ≡ byRows new l m o
-    rows-refused off e new ready = e ∙ picked new (ready .kept-is) false (not-true t off)
-
-    pub rows-tried : (rows : List ℕ) → not t ≡ false → rows ≡ table l → Answers o kept rows matches m r
-        → (new : List Step) → Replayable new l kept matches → r ≡ byRows new l m o
-    rows-tried rows on rows-are answers new ready =
-        answers new l ready rows-are ∙ picked new (ready .kept-is) true (not-false t on)
+use Rattle.order_entries.specs.Entries.{tryStopped}
+use Rattle.trying.specs.Try.{sameList, tryList, tryRows, tried}
+use Rattle.order_entries.specs.inner.Replayable.{Replayable, byRows}
+use Rattle.trying.specs.inner.Ready.{TryReady}
+use Rattle.order_entries.specs.declared.Tried.{Tried}
 
 -- ---- the straight list first
 

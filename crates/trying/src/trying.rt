@@ -1,10 +1,10 @@
 // The operation try: an order that somebody hands in.
-use crate::Tried;
-use crate::entries::by_rows;
 use job::checks::check_lines;
 use matching::End;
 use matching::Prepared;
 use matching::matches::prepare;
+use order_entries::Tried;
+use order_entries::by_rows;
 use route::Route;
 use route::flat;
 use route::laying::lay;
@@ -21,7 +21,7 @@ ghost use Rattle.job.specs.Lines.{LinesPass};
 ghost use Rattle.precedence.specs.Order.{inTurn};
 ghost use Rattle.matching.specs.declared.End.the-variants as ends;
 ghost use Rattle.trying.specs.Try.{sameList, tryList, tried};
-ghost use Rattle.trying.specs.inner.Replayable.{TryReady};
+ghost use Rattle.trying.specs.inner.Ready.{TryReady};
 
 // The order is 1, 2, .., len.
 fn in_turn(order: &[u8], len: usize) -> bool

@@ -4,8 +4,8 @@ use denote.Struct.Laws as LL
 use denote.Triple.Spec.{tripleOf}
 use denote.Triple.Table.{entered, cited}
 use Rattle.trying.specs.Try.{tried}
-use Rattle.trying.proofs.Tried as R
-use Rattle.trying.proofs.Tried.Laws as R′
+use Rattle.order_entries.proofs.Tried as R
+use Rattle.order_entries.proofs.Tried.Laws as R′
 use Rattle.lent.specs.Lent.{lentJob}
 use Rattle.lent.proofs.try_order.Symbol as over-lists
 use Rattle.lent.proofs.try_order.Met as over-lists-thm

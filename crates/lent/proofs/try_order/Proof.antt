@@ -7,8 +7,8 @@ use denote.Triple.Table.{entered, cited}
 use Rattle.job.specs.Job.{flatJob}
 use Rattle.trying.specs.Try.{tried}
 use Rattle.trying.proofs.TryRows.{tried-laid}
-use Rattle.trying.proofs.Tried as R
-use Rattle.trying.proofs.Tried.Laws as R′
+use Rattle.order_entries.proofs.Tried as R
+use Rattle.order_entries.proofs.Tried.Laws as R′
 use Rattle.trying.proofs.trying.try_lists.Symbol as core
 use Rattle.trying.proofs.trying.try_lists.Met as core-thm
 use Rattle.records.proofs.lay.Symbol as lay

@@ -1,7 +1,7 @@
 -- `engine::host::reroute_try`: try's answer, number by number.
 use mathlib.Core.Path.{ap}
 use borrow.Author.Needs.{needs}
-use Rattle.trying.specs.declared.Tried.{Tried}
+use Rattle.order_entries.specs.declared.Tried.{Tried}
 use Rattle.engine.proofs.host.reroute_try.Statement.{statement}
 use Rattle.engine.proofs.host.reroute_try.Tie as tie
 

@@ -1,8 +1,8 @@
--- `trying::entries::by_rows`: row 16, and else the entries.
+-- `order_entries::by_rows`: row 16, and else the entries.
 use borrow.Author.Needs.{needs}
-use Rattle.trying.proofs.TryRows.{list-passes, rows-refused, rows-tried}
-use Rattle.trying.proofs.entries.by_rows.Statement.{statement}
-use Rattle.trying.proofs.entries.by_rows.Tie as tie
+use Rattle.order_entries.proofs.ByRows.{list-passes, rows-refused, rows-tried}
+use Rattle.order_entries.proofs.by_rows.Statement.{statement}
+use Rattle.order_entries.proofs.by_rows.Tie as tie
 
 returns : tie.Need-returns
 returns c = search (needs, rows-refused)

@@ -1,13 +1,13 @@
--- `trying::entries::fresh`: 0 and numbers over 64 are never kept; else one look into the mask.
+-- `order_entries::fresh`: 0 and numbers over 64 are never kept; else one look into the mask.
 use mathlib.Core.Path.{ap, _∙_}
 use Prim.Native.Nat.{ℕ, _-_}
 use native.Mathlib.Omega.{arith}
 use borrow.Author.Needs.{needs}
 use borrow.Author.Tests.{le-leb, lt-leb}
 use Rattle.mask.specs.Mask.{has}
-use Rattle.trying.proofs.Row16.{fresh-low, fresh-high, fresh-is}
-use Rattle.trying.proofs.entries.fresh.Statement.{statement}
-use Rattle.trying.proofs.entries.fresh.Tie as tie
+use Rattle.order_entries.proofs.Row16.{fresh-low, fresh-high, fresh-is}
+use Rattle.order_entries.proofs.fresh.Statement.{statement}
+use Rattle.order_entries.proofs.fresh.Tie as tie
 
 returns : tie.Need-returns
 returns c = fresh-low _ _ (c .before .args .b) (lt-leb 1 (c .before .args .b) (omega arith))

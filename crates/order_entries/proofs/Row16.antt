@@ -17,7 +17,7 @@ use Rattle.mask.proofs.Cut.{has-high}
 use Rattle.mask.proofs.Truth.{both}
 use Rattle.refusal.specs.Rows.{pass, refuse}
 use Rattle.refusal.specs.declared.Outcome.{Outcome}
-use Rattle.trying.specs.Try.{isKept, listRow}
+use Rattle.order_entries.specs.Entries.{isKept, listRow}
 
 -- ---- one entry
 

@@ -18,9 +18,9 @@ use Rattle.route.specs.declared.Step.{Step}
 use Rattle.precedence.specs.Precedence.{clash, comesAfter, row}
 use Rattle.precedence.specs.Order.{noneOf}
 use Rattle.precedence.proofs.Rows.{row-exact}
-use Rattle.trying.specs.Try.{isKept, listRow}
+use Rattle.order_entries.specs.Entries.{isKept, listRow}
 use Rattle.matching.proofs.Either.{either}
-use Rattle.trying.proofs.Row16.{passed-entry}
+use Rattle.order_entries.proofs.Row16.{passed-entry}
 
 -- the positions of occurrence numbers
 abbrev pub positions : List ℕ → List ℕ

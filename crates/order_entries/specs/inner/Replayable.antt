@@ -10,10 +10,9 @@ use Rattle.route.specs.Steps.{blank}
 use Rattle.route.specs.declared.Step.{Step}
 use Rattle.matching.specs.Straight.{sameStep}
 use Rattle.matching.specs.Fit.{keptOf}
-use Rattle.matching.specs.inner.Matched.{matched, straightEnd}
-use Rattle.matching.specs.declared.Prepared.{Prepared}
-use Rattle.trying.specs.Try.{tryStopped, listRow, tryFrom}
-use Rattle.trying.specs.declared.Tried.{Tried}
+use Rattle.matching.specs.inner.Matched.{matched}
+use Rattle.order_entries.specs.Entries.{tryStopped, listRow, tryFrom}
+use Rattle.order_entries.specs.declared.Tried.{Tried}
 
 -- the kept of the occurrences l and the new route's steps for l, where the new route has each kept one with the same
 -- data
@@ -21,12 +20,6 @@ pub record Replayable (new l : List Step) (kept : ℕ) (matches : List Step) : T
   pub kept-is : kept ≡ keptOf new l
   pub matches-are : matches ≡ matched new l
   pub all-same : (i : ℕ) → has kept i ≡ true → sameStep new (getD l i blank) ≡ true
-
--- what stands of a job that no row to 12 refuses: l are the steps done, from the new start
-pub record TryReady (from : ℕ) (new l : List Step) (p : Prepared) (matches : List Step) : Type 0 where
-  pub start-is : p .start .tokens ≡ from
-  pub straight-is : p .straight ≡ straightEnd from new l
-  pub kept-are : Replayable new l (p .kept) matches
 
 -- rows 16, 17 and 18 from a marking
 unfoldable pub byRows : List Step → List Step → ℕ → List ℕ → Tried

@@ -1,5 +1,4 @@
 // Rows 16, 17 and 18: the entries of an order.
-use crate::Tried;
 use precedence::table_of;
 use refusal::Outcome;
 use route::Marking;
@@ -13,8 +12,28 @@ ghost use Rattle.mask.specs.Mask.{has};
 ghost use Rattle.route.specs.Flat.{stepsIn};
 ghost use Rattle.route.specs.declared.Step.{Step};
 ghost use Rattle.precedence.specs.Table.{table};
-ghost use Rattle.trying.specs.Try.{isKept, listRow, tryFrom};
-ghost use Rattle.trying.specs.inner.Replayable.{Replayable, byRows};
+ghost use Rattle.order_entries.specs.Entries.{tryStopped, isKept, listRow, tryFrom};
+ghost use Rattle.order_entries.specs.inner.Replayable.{Replayable, byRows};
+
+// The marking at the end of the order, where it is accepted.
+pub struct Tried {
+    pub number: u32,
+    pub second: u64,
+    pub marking: Marking,
+}
+
+impl Tried {
+    // A refusal: no marking.
+    pub fn stop(number: u32, second: u64) -> Tried
+        ensures { λ r. ⌜ r ≡ tryStopped number second ⌝ }
+    {
+        Tried {
+            number,
+            second,
+            marking: Marking { tokens: 0 },
+        }
+    }
+}
 
 // Occurrence number b is kept, and is not seen yet.
 fn fresh(kept: u64, seen: u64, b: usize) -> bool

@@ -28,13 +28,13 @@ use Rattle.precedence.proofs.InTurn.{getD-map-inTurn}
 use Rattle.matching.specs.Fit.{keptOf}
 use Rattle.matching.specs.Straight.{sameData, sameStep}
 use Rattle.matching.proofs.Matched.{stepFor, matched-at}
-use Rattle.trying.specs.Try.{tryStopped, isKept, listRow, tryFrom}
-use Rattle.trying.specs.inner.Replayable.{Replayable}
-use Rattle.trying.specs.declared.Tried.{Tried}
+use Rattle.order_entries.specs.Entries.{tryStopped, isKept, listRow, tryFrom}
+use Rattle.order_entries.specs.inner.Replayable.{Replayable}
+use Rattle.order_entries.specs.declared.Tried.{Tried}
 use mir.Syntax.{w64}
 use mir.Val.{Fits}
-use Rattle.trying.proofs.Row16.{Passed, passed-at, kept-range}
-use Rattle.trying.proofs.Row17.{positions, order-test}
+use Rattle.order_entries.proofs.Row16.{Passed, passed-at, kept-range}
+use Rattle.order_entries.proofs.Row17.{positions, order-test}
 
 -- a kept occurrence's step on the new route
 matched-step : (new l : List Step) (i : ℕ) (s : Step) → i < length l → sameStep new (getD l i blank) ≡ true

@@ -1,13 +1,13 @@
--- `trying::entries::fire_list`: the entries so far are placed, and the rows of those that are left answer for all.
+-- `order_entries::fire_list`: the entries so far are placed, and the rows of those that are left answer for all.
 use Prim.Native.Nat.{_-_, _≤_}
 use native.Mathlib.Omega.{arith}
 use borrow.Author.Needs.{needs}
 use lib.ListN.{length}
 use Rattle.route.specs.Flat.{stepsIn}
-use Rattle.trying.proofs.Entry.{Placed, placed-init, placed-done, entry-first, entry-below}
-use Rattle.trying.proofs.Entry.{entry-offset, entry-step, placed-early, placed-stuck, placed-step}
-use Rattle.trying.proofs.entries.fire_list.Statement.{statement}
-use Rattle.trying.proofs.entries.fire_list.Tie as tie
+use Rattle.order_entries.proofs.Entry.{Placed, placed-init, placed-done, entry-first, entry-below}
+use Rattle.order_entries.proofs.Entry.{entry-offset, entry-step, placed-early, placed-stuck, placed-step}
+use Rattle.order_entries.proofs.fire_list.Statement.{statement}
+use Rattle.order_entries.proofs.fire_list.Tie as tie
 
 abbrev Inv-loop : tie.InvT-loop
 Inv-loop order kept matches rows placed₀ m₀ i₀ placed m i =

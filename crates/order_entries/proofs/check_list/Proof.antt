@@ -1,14 +1,14 @@
--- `trying::entries::check_list`: the row of the entries that are left answers for all.
+-- `order_entries::check_list`: the row of the entries that are left answers for all.
 use mathlib.Core.Path.{_≡_, refl, _∙_}
 use Prim.Native.Nat.{_+_, _-_, _≤_}
 use native.Mathlib.Omega.{arith}
 use borrow.Author.Needs.{needs}
 use borrow.Author.Tests.{not-true, not-false}
 use lib.ListN.{length, drop}
-use Rattle.trying.specs.Try.{listRow}
-use Rattle.trying.proofs.Row16.{fresh-first, fresh-below, list-missing, list-whole, list-refused, list-on}
-use Rattle.trying.proofs.entries.check_list.Statement.{statement}
-use Rattle.trying.proofs.entries.check_list.Tie as tie
+use Rattle.order_entries.specs.Entries.{listRow}
+use Rattle.order_entries.proofs.Row16.{fresh-first, fresh-below, list-missing, list-whole, list-refused, list-on}
+use Rattle.order_entries.proofs.check_list.Statement.{statement}
+use Rattle.order_entries.proofs.check_list.Tie as tie
 
 abbrev Inv-loop : tie.InvT-loop
 Inv-loop order kept seen₀ i₀ seen i = (i ≤ length order)

@@ -1,0 +1,3 @@
+-- The entries of an order.
+pub mod Entries
+pub mod inner
