@@ -1,12 +1,12 @@
 // The whole listing, and writing it into a lent slice that has room for it.
 use crate::Written;
 use answering::Judged;
-use listing_lines::after_lines;
 use listing_lines::marking_line;
 use listing_lines::moved_line;
 use listing_lines::order_line;
 use listing_lines::refused_line;
-use listing_lines::value_lines;
+use listing_tables::after_lines;
+use listing_tables::value_lines;
 ghost use mathlib.Core.Path.{_≡_};
 ghost use mathlib.Core.List.{_++_};
 ghost use lib.ListN.{length};

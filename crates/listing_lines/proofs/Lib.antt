@@ -1,3 +1,2 @@
--- Laws on the lines of the listing, in the parts that are written and in their loops.
+-- Laws on the lines of the listing, in the parts that are written.
 pub mod Line
-pub mod EachLine

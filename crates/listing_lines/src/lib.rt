@@ -1,4 +1,4 @@
-// The lines of the listing.
+// The lines that a listing has once, and what the lines of its tables begin with.
 use emit::entries;
 use emit::entry;
 use emit::text;
@@ -7,11 +7,10 @@ ghost use mathlib.Core.List.{_++_};
 ghost use Prim.Native.Nat.{_<_, min};
 ghost use Rattle.emit.specs.Emit.{Room, Emits};
 ghost use Rattle.emit.specs.Numbers.{over, entry as entryText};
-ghost use Rattle.listing_lines.specs.Lines.{refusedLine, movedLine, afterLine, afterLines, orderLine};
-ghost use Rattle.listing_lines.specs.Lines.{markingLine, valueLine, valueLines};
+ghost use Rattle.listing_lines.specs.Lines.{refusedLine, movedLine, orderLine, markingLine};
 
 // A word and an entry.
-fn figure(out: &mut [u8], at: usize, w: &[u8], n: u64) -> usize
+pub fn figure(out: &mut [u8], at: usize, w: &[u8], n: u64) -> usize
     requires { ⌜ Room (now w ++ entryText n) (now out) at ⌝ }
     ensures { λ r. ⌜ Emits (now (w .entry) ++ entryText n) (now (out .entry)) at (now (out .exit)) r ⌝ }
 {
@@ -36,35 +35,6 @@ pub fn moved_line(out: &mut [u8], at: usize, kept: u64, dropped: u32) -> usize
     let middle = figure(out, at, b"(moved (kept", n as u64);
     let last = figure(out, middle, b") (dropped", dropped as u64);
     text(out, last, b"))\n")
-}
-
-// The line of the occurrence at bit i, where its row has a bit.
-fn after_line(out: &mut [u8], at: usize, i: u64, row: u64) -> usize
-    requires { ⌜ i < 64 ⌝ }
-    requires { ⌜ Room (afterLine i row) (now out) at ⌝ }
-    ensures { λ r. ⌜ Emits (afterLine i row) (now (out .entry)) at (now (out .exit)) r ⌝ }
-{
-    if row == 0 {
-        return at;
-    }
-    let first = figure(out, at, b"(after", i + 1);
-    let last = entries(out, first, row, 1);
-    text(out, last, b")\n")
-}
-
-// From one kept occurrence to the next.
-pub fn after_lines(out: &mut [u8], at: usize, kept: u64, rows: &[u64; 64]) -> usize
-    requires { ⌜ Room (afterLines kept (now rows)) (now out) at ⌝ }
-    ensures { λ r. ⌜ Emits (afterLines kept (now (rows .entry))) (now (out .entry)) at (now (out .exit)) r ⌝ }
-{
-    let mut end = at;
-    let mut left = kept;
-    while left != 0 {
-        let z = u64::trailing_zeros(left);
-        left = left & (left - 1);
-        end = after_line(out, end, z as u64, rows[z as usize]);
-    }
-    end
 }
 
 // The entries of a list.
@@ -108,30 +78,4 @@ pub fn marking_line(out: &mut [u8], at: usize, m: u64) -> usize
     let first = text(out, at, b"(marking");
     let last = entries(out, first, m, 0);
     text(out, last, b")\n")
-}
-
-// The line of a variable that has a writer.
-fn value_line(out: &mut [u8], at: usize, v: u64, writer: u8) -> usize
-    requires { ⌜ Room (valueLine v writer) (now out) at ⌝ }
-    ensures { λ r. ⌜ Emits (valueLine v writer) (now (out .entry)) at (now (out .exit)) r ⌝ }
-{
-    if writer == 0 {
-        return at;
-    }
-    let first = figure(out, at, b"(value", v);
-    let last = entry(out, first, writer as u64);
-    text(out, last, b")\n")
-}
-
-pub fn value_lines(out: &mut [u8], at: usize, writers: &[u8; 32]) -> usize
-    requires { ⌜ Room (valueLines (now writers)) (now out) at ⌝ }
-    ensures { λ r. ⌜ Emits (valueLines (now (writers .entry))) (now (out .entry)) at (now (out .exit)) r ⌝ }
-{
-    let mut end = at;
-    let mut v = 0;
-    while v < 32 {
-        end = value_line(out, end, v as u64, writers[v]);
-        v += 1;
-    }
-    end
 }

@@ -1,13 +1,13 @@
--- `listing_lines::value_lines`: the variables in turn.
+-- `listing_tables::value_lines`: the variables in turn.
 use mathlib.Core.Path.{_≡_}
 use Prim.Native.Nat.{_-_, _≤_}
 use lib.ListN.{length}
 use borrow.Author.Needs.{needs}
 use Rattle.emit.proofs.Loops.{Left}
 use Rattle.listing_lines.specs.Lines.{valueLines}
-use Rattle.listing_lines.proofs.EachLine.{valuesFrom, values-start, values-room, values-turn, values-end}
-use Rattle.listing_lines.proofs.value_lines.Statement.{statement}
-use Rattle.listing_lines.proofs.value_lines.Tie as tie
+use Rattle.listing_tables.proofs.EachLine.{valuesFrom, values-start, values-room, values-turn, values-end}
+use Rattle.listing_tables.proofs.value_lines.Statement.{statement}
+use Rattle.listing_tables.proofs.value_lines.Tie as tie
 
 abbrev Inv-loop : tie.InvT-loop
 Inv-loop out₀ at writers end₀ v₀ out end v = (v ≤ 32)

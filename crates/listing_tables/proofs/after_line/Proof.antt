@@ -1,8 +1,8 @@
--- `listing_lines::after_line`: the word with the occurrence, its row, the end; an empty row has no line.
+-- `listing_tables::after_line`: the word with the occurrence, its row, the end; an empty row has no line.
 use borrow.Author.Needs.{needs}
-use Rattle.listing_lines.proofs.Line.{after-first, after-second, after-third, after-whole, after-none}
-use Rattle.listing_lines.proofs.after_line.Statement.{statement}
-use Rattle.listing_lines.proofs.after_line.Tie as tie
+use Rattle.listing_tables.proofs.TableLine.{after-first, after-second, after-third, after-whole, after-none}
+use Rattle.listing_tables.proofs.after_line.Statement.{statement}
+use Rattle.listing_tables.proofs.after_line.Tie as tie
 
 returns : tie.Need-returns
 returns c = search (needs, after-none)

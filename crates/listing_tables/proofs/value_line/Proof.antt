@@ -1,8 +1,8 @@
--- `listing_lines::value_line`: a blank variable has no line.
+-- `listing_tables::value_line`: a blank variable has no line.
 use borrow.Author.Needs.{needs}
-use Rattle.listing_lines.proofs.Line.{value-none, value-first, value-second, value-third, value-whole}
-use Rattle.listing_lines.proofs.value_line.Statement.{statement}
-use Rattle.listing_lines.proofs.value_line.Tie as tie
+use Rattle.listing_tables.proofs.TableLine.{value-none, value-first, value-second, value-third, value-whole}
+use Rattle.listing_tables.proofs.value_line.Statement.{statement}
+use Rattle.listing_tables.proofs.value_line.Tie as tie
 
 returns : tie.Need-returns
 returns c = search (needs, value-none)

@@ -1,4 +1,4 @@
--- `listing_lines::after_lines`: from one kept occurrence to the next.
+-- `listing_tables::after_lines`: from one kept occurrence to the next.
 use mathlib.Core.Path.{_≡_}
 use Prim.Native.Nat.{_^_, _<_}
 use native.Mathlib.Omega.{arith}
@@ -9,10 +9,10 @@ use Rattle.mask.specs.Mask.{members}
 use Rattle.mask.proofs.FromLowest.{lowest-lt, rest-less, rest-fits}
 use Rattle.emit.specs.Numbers.{over}
 use Rattle.emit.proofs.Loops.{Left, mask-end}
 use Rattle.listing_lines.specs.Lines.{afterLines}
-use Rattle.listing_lines.proofs.EachLine.{lineOf, after-start, row-room, row-turn}
-use Rattle.listing_lines.proofs.after_lines.Statement.{statement}
-use Rattle.listing_lines.proofs.after_lines.Tie as tie
+use Rattle.listing_tables.proofs.EachLine.{lineOf, after-start, row-room, row-turn}
+use Rattle.listing_tables.proofs.after_lines.Statement.{statement}
+use Rattle.listing_tables.proofs.after_lines.Tie as tie
 
 abbrev Inv-loop : tie.InvT-loop
 Inv-loop out₀ at kept rows end₀ left₀ out end left =
