@@ -16,7 +16,7 @@ ghost use Rattle.slice.specs.Slicing.{sliced};
 ghost use Rattle.trying.specs.Try.{tried};
 ghost use Rattle.judging.specs.Judge.{judged, workAfter};
 ghost use Rattle.writer.specs.Writes.{wrote, outAfter};
-ghost use Rattle.records.specs.Laid.{laid};
+ghost use Rattle.records.specs.Overlaid.{overlaid};
 ghost use Rattle.facts.specs.Facts.{readOf};
 ghost use Rattle.lent.specs.Lent.{lentJob};
 ghost use Rattle.lent_reading.specs.Reading.{counted};
@@ -117,9 +117,9 @@ pub fn read(
 ) -> Filled
     requires { ⌜ (n ≤ 100) × (m ≤ 100) ⌝ }
     ensures { λ r. ⌜ (r .counts ≡ counted (readOf (now (sheet .entry))) n m (length (now (done .entry))))
-        × ((r .old ≡ laid (r .counts .«old_len») (readOf (now (sheet .entry)) .old .steps) (take n a) ++ drop n a)
-        × ((r .new ≡ laid (r .counts .«new_len») (readOf (now (sheet .entry)) .new .steps) (take m b) ++ drop m b)
-        × (now (done .exit) ≡ laid (r .counts .«done_len») (readOf (now (sheet .entry)) .done)
+        × ((r .old ≡ overlaid (r .counts .«old_len») (readOf (now (sheet .entry)) .old .steps) (take n a) ++ drop n a)
+        × ((r .new ≡ overlaid (r .counts .«new_len») (readOf (now (sheet .entry)) .new .steps) (take m b) ++ drop m b)
+        × (now (done .exit) ≡ overlaid (r .counts .«done_len») (readOf (now (sheet .entry)) .done)
         (now (done .entry))))) ⌝ }
 {
     let mut old = a;

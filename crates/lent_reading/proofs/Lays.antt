@@ -33,7 +33,7 @@ use denote.Triple.Statement.{Contract, Triple}
 use denote.Triple.Call.{calls-at}
 use denote.Triple.Clauses.{Clauses, Ended}
 use denote.Triple.Walked.{says}
-use Rattle.records.specs.Laid.{laid}
+use Rattle.records.specs.Overlaid.{overlaid}
 use Rattle.records.proofs.Called.{Known, told}
 use Rattle.records.proofs.InArray.{Elements, array, arrayTy, array-out, array-in}
 use Rattle.records.proofs.LentRow.{lentRow, shrRow, lends-shr, shr-back}
@@ -56,7 +56,7 @@ module _ (X Y : RattleType) (f : List (Y .Denot) → List (X .Denot)) where
   lay-says 𝓤 κs a = record {
     ghost = Unit {0};
     requires = λ _. fact 𝓤 ((a .1 .0 ≤ length (f (now (a .1 .1 .0)))) × (a .1 .0 ≤ length (now (a .0))));
-    ensures = λ _ r e. fact 𝓤 (now (e .0) ≡ laid (a .1 .0) (f (now (a .1 .1 .0))) (now (a .0)));
+    ensures = λ _ r e. fact 𝓤 (now (e .0) ≡ overlaid (a .1 .0) (f (now (a .1 .1 .0))) (now (a .0)));
   }
 
   abbrev pub Lay : {M : Type 1} (𝓤 : URA M) → Heap 𝓤 → Atoms 𝓤 → Contract 𝓤
@@ -109,7 +109,7 @@ module _ (X : RattleType) where
     pub lays : {K : Type 0} → K → {Γ : List (Item 𝓤)} {En : Env 𝓤 H} {ops : List Operand} {d : Place} {rest : Body}
         {end : Post 𝓤 H} → ((i j : Item 𝓤) → Opds K W (i ∷ j ∷ Γ) En ops
         (listVal o ∷ vint w64 n ∷ sliceVal (l, 0) (E .count) ∷ []))
-        → ((v : Val) → T (hasTy tyUnit v) × WT v → (zs : List (X .Denot)) → zs ≡ laid n (f xs) (now o) → (u : Val)
+        → ((v : Val) → T (hasTy tyUnit v) × WT v → (zs : List (X .Denot)) → zs ≡ overlaid n (f xs) (now o) → (u : Val)
         → Seq K W (‵ (Laid o zs) ∷ ‵ (flft κ q) ∷ ‵ (fat fullShare (arrayTy E) l 0 u) ∷ Γ) (lands C Λ En d v rest end))
         → Seq K W (‵ (flft κ q) ∷ ‵ (ownList κ o) ∷ ‵ (fat fullShare (arrayTy E) l 0 xv) ∷ Γ)
         (runs C Λ En (seq (call k ops d) rest) end)
@@ -120,7 +120,7 @@ module _ (X : RattleType) where
         move t (3 ∷ 2 ∷ 4 ∷ 0 ∷ []) $ group t 4 $ use1 W (raw (Lay X (E .type) f 𝓤 H A .pre (to α γ))) (asks α γ) $
         calls-at t fm (Lay X (E .type) f 𝓤 H A) known (to α γ) (os _ _) (λ v.
         told 𝓤 H A W (laying X (E .type) f) (lay-says X (E .type) f 𝓤) (to α γ) v t tt
-        (λ r ws. ws .0 ≡ laid n (f xs) (now o)) (λ r ws. id⊢ 𝓤 _) (λ r ws e unit.
+        (λ r ws. ws .0 ≡ overlaid n (f xs) (now o)) (λ r ws. id⊢ 𝓤 _) (λ r ws e unit.
         -- [the result; the tokens; what is said of the list; what comes back; …]
         drop t $ use1 W (‵ (flft κ q) ⊛ (‵ (flft (α ∷ []) fullShare) ⊛ ‵ ftrue)) (id⊢ 𝓤 _) $ split t $
         move t (1 ∷ []) $ split t $ move t (0 ∷ 4 ∷ []) $ shr-back (E .type) 𝓤 H A W t tt xs l 0

@@ -6,7 +6,7 @@ use route::Step;
 ghost use mathlib.Core.Path.{_≡_};
 ghost use Prim.Native.Nat.{_≤_};
 ghost use lib.ListN.{length, replicate};
-ghost use Rattle.records.specs.Laid.{laid};
+ghost use Rattle.records.specs.Overlaid.{overlaid};
 ghost use Rattle.facts.specs.Facts.{readOf};
 ghost use Rattle.lent_reading.specs.Reading.{counted};
 ghost use Rattle.lent_reading.specs.inner.Counted.{Counted};
@@ -43,7 +43,7 @@ fn read_counted(
 // The first n names into a lent list.
 fn put(out: &mut [u32], n: usize, names: &[u32])
     requires { ⌜ (n ≤ length (now names)) × (n ≤ length (now out)) ⌝ }
-    ensures { λ _. ⌜ now (out .exit) ≡ laid n (now (names .entry)) (now (out .entry)) ⌝ }
+    ensures { λ _. ⌜ now (out .exit) ≡ overlaid n (now (names .entry)) (now (out .entry)) ⌝ }
 {
     let mut i = 0;
     while i < n {
@@ -54,9 +54,9 @@ fn put(out: &mut [u32], n: usize, names: &[u32])
 
 pub fn read(sheet: &[u8], old: &mut [Step], new: &mut [Step], done: &mut [u32]) -> Counts
     ensures { λ r. ⌜ (r ≡ counted (readOf (now (sheet .entry))) (length (now (old .entry))) (length (now (new .entry))) (length (now (done .entry))))
-        × ((now (old .exit) ≡ laid (r .«old_len») (readOf (now (sheet .entry)) .old .steps) (now (old .entry)))
-        × ((now (new .exit) ≡ laid (r .«new_len») (readOf (now (sheet .entry)) .new .steps) (now (new .entry)))
-        × (now (done .exit) ≡ laid (r .«done_len») (readOf (now (sheet .entry)) .done) (now (done .entry))))) ⌝ }
+        × ((now (old .exit) ≡ overlaid (r .«old_len») (readOf (now (sheet .entry)) .old .steps) (now (old .entry)))
+        × ((now (new .exit) ≡ overlaid (r .«new_len») (readOf (now (sheet .entry)) .new .steps) (now (new .entry)))
+        × (now (done .exit) ≡ overlaid (r .«done_len») (readOf (now (sheet .entry)) .done) (now (done .entry))))) ⌝ }
 {
     let mut a = [0u64; 256];
     let mut b = [0u64; 256];

@@ -1,5 +1,5 @@
-// The tables of the listing: a line for each kept occurrence that comes after another, a line for each variable that has
-// a writer.
+// The tables of the listing: a line for each kept occurrence that comes after another, and for each variable that has a
+// writer.
 use emit::entries;
 use emit::entry;
 use emit::text;

@@ -25,12 +25,12 @@ use Rattle.facts.specs.Facts.{State, settled, doneIn, more}
 use Rattle.facts.specs.declared.Sheet.{Sheet}
 use Rattle.refusal.proofs.Rows.{head-passed, unless-elim}
 use Rattle.tokens.specs.declared.Numeral.{Numeral}
-use Rattle.lines.specs.inner.Lines.{headWord, NumberedOn}
+use Rattle.line_reader.specs.inner.Lines.{headWord, NumberedOn}
 use Rattle.reader.specs.inner.Prefix.{backDones, oldState, newState, jobState, stateOf, Prefix, Upto, passed}
 use Rattle.reader.specs.inner.Prefix.{brokenAt, Placed, withDones, DonesOn}
 use Rattle.reader.specs.declared.Pass.{Pass}
 use Rattle.tokens.proofs.Bytes.{apart}
-use Rattle.lines.proofs.LineTexts.{done-spells}
+use Rattle.line_reader.proofs.LineTexts.{done-spells}
 use Rattle.reader.proofs.PrefixStep.{settled-no, more-on, more-refused, prefix-of, upto-held, upto-broken}
 
 done-state : (v : Version) (t : Lines) (value : ℕ)

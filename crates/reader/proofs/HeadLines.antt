@@ -26,13 +26,13 @@ use Rattle.refusal.proofs.Rows.{head-passed, unless-elim}
 use Rattle.tokens.specs.inner.Tokens.{Reading, Reached, TextOn}
 use Rattle.tokens.specs.declared.Cursor.{Cursor}
 use Rattle.tokens.specs.declared.Numeral.{Numeral}
-use Rattle.lines.specs.inner.Rows.{headRow, newRow, jobRow}
-use Rattle.lines.specs.inner.Lines.{headWord, NumberedOn}
+use Rattle.line_reader.specs.inner.Rows.{headRow, newRow, jobRow}
+use Rattle.line_reader.specs.inner.Lines.{headWord, NumberedOn}
 use Rattle.reader.specs.inner.Prefix.{backSteps, backDones, oldState, newState, jobState, stateOf, Upto, passed}
 use Rattle.reader.specs.inner.Prefix.{brokenAt, Placed, NoStep, bare, OldOn, NewOn, JobOn}
 use Rattle.reader.specs.declared.Pass.{Pass}
 use Rattle.reader.specs.declared.Head.{Head}
-use Rattle.lines.proofs.LineTexts.{old-spells, new-spells, job-spells}
+use Rattle.line_reader.proofs.LineTexts.{old-spells, new-spells, job-spells}
 use Rattle.reader.proofs.PrefixStep.{more-on, more-refused, prefix-of, upto-held, upto-on, upto-broken}
 
 pub broken-placed : (s : List ℕ) (i : ℕ) → i ≤ length s → Placed s (brokenAt i)

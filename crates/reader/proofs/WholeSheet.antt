@@ -21,7 +21,7 @@ use Rattle.facts.specs.Facts.{State, failed, settled, headed, answered, readBy,
 use Rattle.facts.specs.JobPart.{afterLines, jobPart, PastLines}
 use Rattle.facts.specs.declared.Sheet.{Sheet}
 use Rattle.tokens.specs.inner.Tokens.{Broken}
-use Rattle.lines.specs.inner.Lines.{hasSteps}
+use Rattle.line_reader.specs.inner.Lines.{hasSteps}
 use Rattle.reader.specs.inner.Prefix.{stateOf, Prefix, Upto, passed, withRoute, withDones, OldOn, NewOn, JobOn}
 use Rattle.reader.specs.inner.Prefix.{StepsOn, DonesOn}
 use Rattle.reader.specs.inner.Read.{ReadInto, ReadTo, routeIn}

@@ -7,8 +7,8 @@ use native.Mathlib.Omega.{arith}
 use lib.ListN.{length, getD, set, length-set}
 use Rattle.route.specs.Steps.{blank}
 use Rattle.route.specs.declared.Step.{Step}
-use Rattle.records.specs.Laid.{laid}
-use Rattle.records.proofs.Laid.{laid-none, laid-more}
+use Rattle.records.specs.Overlaid.{overlaid}
+use Rattle.records.proofs.Overlaid.{overlaid-none, overlaid-more}
 
 -- i records of l over the first i of a
 unfoldable pub copied : List Step → List Step → ℕ → List Step
@@ -20,9 +20,9 @@ unfolding copied
 length-copied a l zero = refl
 length-copied a l (suc i) = length-set (copied a l i) i (getD l i blank) ∙ length-copied a l i
 
-pub copied-is : (a l : List Step) (i : ℕ) → i ≤ length l → i ≤ length a → copied a l i ≡ laid i l a
+pub copied-is : (a l : List Step) (i : ℕ) → i ≤ length l → i ≤ length a → copied a l i ≡ overlaid i l a
 unfolding copied
-copied-is a l zero h k = sym (laid-none l a)
+copied-is a l zero h k = sym (overlaid-none l a)
 copied-is a l (suc i) h k =
     ap (λ (x : List Step). set x i (getD l i blank)) (copied-is a l i (omega arith) (omega arith))
-    ∙ laid-more blank l a i h k ∙ ap (λ (n : ℕ). laid n l a) (add-one i)
+    ∙ overlaid-more blank l a i h k ∙ ap (λ (n : ℕ). overlaid n l a) (add-one i)

@@ -1,2 +1,2 @@
 -- Records in lent lists.
-pub mod Laid
+pub mod Overlaid

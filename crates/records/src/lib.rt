@@ -7,7 +7,7 @@ ghost use Prim.Native.Nat.{_≤_};
 ghost use lib.ListN.{length, getD};
 ghost use Rattle.route.specs.Steps.{blank};
 ghost use Rattle.route.specs.Flat.{stepsIn, Laid};
-ghost use Rattle.records.specs.Laid.{laid};
+ghost use Rattle.records.specs.Overlaid.{overlaid};
 
 // Lays a lent list's records as numbers, at most 65 of them, since row 4 refuses the 65th; how many numbers there are.
 pub fn lay(steps: &[Step], into: &mut [u64]) -> usize
@@ -29,7 +29,7 @@ pub fn lay(steps: &[Step], into: &mut [u64]) -> usize
 // The first n steps of the numbers into a lent list.
 pub fn fill(out: &mut [Step], n: usize, steps: &[u64])
     requires { ⌜ (n ≤ length (stepsIn (now steps))) × (n ≤ length (now out)) ⌝ }
-    ensures { λ _. ⌜ now (out .exit) ≡ laid n (stepsIn (now (steps .entry))) (now (out .entry)) ⌝ }
+    ensures { λ _. ⌜ now (out .exit) ≡ overlaid n (stepsIn (now (steps .entry))) (now (out .entry)) ⌝ }
 {
     let mut k = 0;
     while k < n {

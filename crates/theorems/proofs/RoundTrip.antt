@@ -11,7 +11,7 @@ use borrow.Author.Tests.{leb-true, eqb-true, eq-eqb}
 use Rattle.refusal.proofs.Rows.{head-passed, row-passed, cond-zero-elim}
 use Rattle.route.specs.declared.Step.{Step}
 use Rattle.job.specs.Job.{Job}
-use Rattle.records.specs.Laid.{laid}
+use Rattle.records.specs.Overlaid.{overlaid}
 use Rattle.version.specs.Limits.{scope}
 use Rattle.facts.specs.Facts.{readOf, jobRead}
 use Rattle.facts.specs.SheetRows.{filled, sheetOf}
@@ -27,9 +27,9 @@ use Rattle.lent_reading.proofs.Counting.{count-all}
 use Rattle.theorems.specs.RoundTrip.{bytesWritten, WritesBytes, countsRead, jobInto, ReadsInto}
 
 -- an array that a list fills from the front, laid into another list
-laid-front : {X : Type 0} (l r out : List X) → laid (length l) (l ++ r) out ≡ l ++ drop (length l) out
-unfolding laid
-laid-front l r out = ap (λ (k : List _). k ++ drop (length l) out) (take-append-seam l r)
+overlaid-front : {X : Type 0} (l r out : List X) → overlaid (length l) (l ++ r) out ≡ l ++ drop (length l) out
+unfolding overlaid
+overlaid-front l r out = ap (λ (k : List _). k ++ drop (length l) out) (take-append-seam l r)
 
 -- ---- a sheet that is read as the job k
 
@@ -42,9 +42,9 @@ module _ (s : List ℕ) (k : Job) (is : readOf s ≡ sheetOf k) (old new : List 
       ∙ sym (count-all (sheetOf k) (length old) (length new) (length done) refl a b c) in
       record {
         counts = n;
-        oldList = (λ i. laid (n i .«old_len») (is i .old .steps) old) ∙ laid-front (k .old) _ old;
-        newList = (λ i. laid (n i .«new_len») (is i .new .steps) new) ∙ laid-front (k .new) _ new;
-        doneList = (λ i. laid (n i .«done_len») (is i .done) done) ∙ laid-front (k .done) _ done;
+        oldList = (λ i. overlaid (n i .«old_len») (is i .old .steps) old) ∙ overlaid-front (k .old) _ old;
+        newList = (λ i. overlaid (n i .«new_len») (is i .new .steps) new) ∙ overlaid-front (k .new) _ new;
+        doneList = (λ i. overlaid (n i .«done_len») (is i .done) done) ∙ overlaid-front (k .done) _ done;
       }
 
   filled-job : ReadsInto s k old new done → jobInto s old new done ≡ k

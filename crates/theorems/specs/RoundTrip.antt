@@ -5,7 +5,7 @@ use Prim.Native.Nat.{ℕ}
 use lib.ListN.{length, take, drop}
 use Rattle.route.specs.declared.Step.{Step}
 use Rattle.job.specs.Job.{Job}
-use Rattle.records.specs.Laid.{laid}
+use Rattle.records.specs.Overlaid.{overlaid}
 use Rattle.facts.specs.Facts.{readOf}
 use Rattle.writer.specs.Writes.{wrote, outAfter}
 use Rattle.lent.specs.Lent.{lentJob}
@@ -27,13 +27,13 @@ abbrev pub countsRead : List ℕ → List Step → List Step → List ℕ → Co
 countsRead s old new done = counted (readOf s) (length old) (length new) (length done)
 
 abbrev pub oldAfter : List ℕ → List Step → List Step → List ℕ → List Step
-oldAfter s old new done = laid (countsRead s old new done .«old_len») (readOf s .old .steps) old
+oldAfter s old new done = overlaid (countsRead s old new done .«old_len») (readOf s .old .steps) old
 
 abbrev pub newAfter : List ℕ → List Step → List Step → List ℕ → List Step
-newAfter s old new done = laid (countsRead s old new done .«new_len») (readOf s .new .steps) new
+newAfter s old new done = overlaid (countsRead s old new done .«new_len») (readOf s .new .steps) new
 
 abbrev pub doneAfter : List ℕ → List Step → List Step → List ℕ → List ℕ
-doneAfter s old new done = laid (countsRead s old new done .«done_len») (readOf s .done) done
+doneAfter s old new done = overlaid (countsRead s old new done .«done_len») (readOf s .done) done
 
 -- the job of the entries that were filled
 abbrev pub jobInto : List ℕ → List Step → List Step → List ℕ → Job

@@ -41,7 +41,7 @@ use denote.Triple.Table.{entered, cited}
 use denote.Triple.Walked.{says, needs}
 use Rattle.route.specs.declared.Step.{Step}
 use Rattle.facts.specs.Facts.{readOf}
-use Rattle.records.specs.Laid.{laid}
+use Rattle.records.specs.Overlaid.{overlaid}
 use Rattle.records.proofs.Record.{S, word, vals, tells as tells-S, makes}
 use Rattle.records.proofs.Called.{Known, told, tells, meets}
 use Rattle.records.proofs.Locals.{value, all-locals, all-freed, held, sets, sized, slice-sized, points-to}
@@ -124,16 +124,16 @@ module _ {M : Type 1} (𝓤 : URA M) (H : Heap 𝓤) (A : Atoms 𝓤) (W : Given
 
   abbrev Answer : Filled → List ℕ → Type 0
   Answer r z = (r .counts ≡ counted (readOf (now x)) n m (length (now d))) ×
-      ((r .old ≡ laid (r .counts .«old_len») (readOf (now x) .old .steps) (take n a) ++ rest n a) ×
-      ((r .new ≡ laid (r .counts .«new_len») (readOf (now x) .new .steps) (take m b) ++ rest m b) ×
-      (z ≡ laid (r .counts .«done_len») (readOf (now x) .done) (now d))))
+      ((r .old ≡ overlaid (r .counts .«old_len») (readOf (now x) .old .steps) (take n a) ++ rest n a) ×
+      ((r .new ≡ overlaid (r .counts .«new_len») (readOf (now x) .new .steps) (take m b) ++ rest m b) ×
+      (z ≡ overlaid (r .counts .«done_len») (readOf (now x) .done) (now d))))
 
   -- what the callee says
   abbrev Told : Counts → List Step → List Step → List ℕ → Type 0
   Told c z₁ z₂ z₃ = (c ≡ counted (readOf (now x)) (length (take n a)) (length (take m b)) (length (now d))) ×
-      ((z₁ ≡ laid (c .«old_len») (readOf (now x) .old .steps) (take n a)) ×
-      ((z₂ ≡ laid (c .«new_len») (readOf (now x) .new .steps) (take m b)) ×
-      (z₃ ≡ laid (c .«done_len») (readOf (now x) .done) (now d))))
+      ((z₁ ≡ overlaid (c .«old_len») (readOf (now x) .old .steps) (take n a)) ×
+      ((z₂ ≡ overlaid (c .«new_len») (readOf (now x) .new .steps) (take m b)) ×
+      (z₃ ≡ overlaid (c .«done_len») (readOf (now x) .done) (now d))))
 
   abbrev both : Counts → List Step → List Step → Filled
   both c z₁ z₂ = record { counts = c; old = z₁ ++ rest n a; new = z₂ ++ rest m b }

@@ -45,8 +45,8 @@ use Rattle.route.proofs.FlatSteps.{length-flat}
 use Rattle.route.proofs.Step as St
 use Rattle.facts.specs.Facts.{readOf}
 use Rattle.facts.specs.declared.Sheet.{Sheet}
-use Rattle.records.specs.Laid.{laid}
-use Rattle.records.proofs.Laid.{laid-same}
+use Rattle.records.specs.Overlaid.{overlaid}
+use Rattle.records.proofs.Overlaid.{overlaid-same}
 use Rattle.records.proofs.Called.{Known, tells, meets}
 use Rattle.records.proofs.Locals.{value, all-locals, all-freed, held, sets, points-to, sized, slice-sized}
 use Rattle.records.proofs.Zeros.{zeros-typed}
@@ -154,8 +154,8 @@ module _ {M : Type 1} (𝓤 : URA M) (H : Heap 𝓤) (A : Atoms 𝓤) (W : Given
       (Laid St.the-row x₂ z₂) ∷ ‵ (Laid u32 x₃ z₃) ∷ []
 
   exits : (c : Counts) (z₁ z₂ : List Step) (z₃ : List ℕ) → (c ≡ counted s (length (x₁ .now)) (length (x₂ .now))
-      (length (x₃ .now))) × ((z₁ ≡ laid (c .«old_len») (s .old .steps) (now x₁)) ×
-      ((z₂ ≡ laid (c .«new_len») (s .new .steps) (now x₂)) × (z₃ ≡ laid (c .«done_len») (s .done) (now x₃))))
+      (length (x₃ .now))) × ((z₁ ≡ overlaid (c .«old_len») (s .old .steps) (now x₁)) ×
+      ((z₂ ≡ overlaid (c .«new_len») (s .new .steps) (now x₂)) × (z₃ ≡ overlaid (c .«done_len») (s .done) (now x₃))))
       → Is Ct.the-row c (Ct′.lowered c ∷ []) → ent 𝓤 (⋆ 𝓤 H A (Exit z₁ z₂ z₃)) (End (Ct′.lowered c))
   exits c z₁ z₂ z₃ e is =
       qed W (Exit z₁ z₂ z₃) ∵ suffices ! _ (tells 𝓤 H A W read.ended (read.clauses 𝓤 H A mem run) bound
@@ -167,16 +167,16 @@ module _ {M : Type 1} (𝓤 : URA M) (H : Heap 𝓤) (A : Atoms 𝓤) (W : Given
 
   -- what the arrays hold of the sheet is what is said
   ended : {c : Counts} {y z n : List ℕ} → Counted (now x₀) (length (x₁ .now)) (length (x₂ .now)) (length (x₃ .now)) c
-      y z n → {z₁ z₂ : List Step} {z₃ : List ℕ} → z₁ ≡ laid (c .«old_len») (stepsIn y) (now x₁)
-      → z₂ ≡ laid (c .«new_len») (stepsIn z) (now x₂) → z₃ ≡ laid (c .«done_len») n (now x₃)
+      y z n → {z₁ z₂ : List Step} {z₃ : List ℕ} → z₁ ≡ overlaid (c .«old_len») (stepsIn y) (now x₁)
+      → z₂ ≡ overlaid (c .«new_len») (stepsIn z) (now x₂) → z₃ ≡ overlaid (c .«done_len») n (now x₃)
       → Is Ct.the-row c (Ct′.lowered c ∷ []) → ent 𝓤 (⋆ 𝓤 H A (Exit z₁ z₂ z₃)) (End (Ct′.lowered c))
   ended {c = c} h e₁ e₂ e₃ is = exits c _ _ _ (
     h .answer,
     (
-      e₁ ∙ laid-same _ _ (now x₁) (c .«old_len») (h .old-steps),
+      e₁ ∙ overlaid-same _ _ (now x₁) (c .«old_len») (h .old-steps),
       (
-        e₂ ∙ laid-same _ _ (now x₂) (c .«new_len») (h .new-steps),
-        e₃ ∙ laid-same _ _ (now x₃) (c .«done_len») (h .done-names),
+        e₂ ∙ overlaid-same _ _ (now x₂) (c .«new_len») (h .new-steps),
+        e₃ ∙ overlaid-same _ _ (now x₃) (c .«done_len») (h .done-names),
       ),
     ),
   ) is

@@ -19,7 +19,7 @@ use Rattle.facts.specs.Facts.{State, failed, settled, headed, withOld, withNew,
 use Rattle.facts.specs.Facts.{stepIn, more, nothing}
 use Rattle.facts.specs.declared.Sheet.{Sheet}
 use Rattle.tokens.specs.inner.Tokens.{Reading, Broken}
-use Rattle.lines.specs.inner.Lines.{hasSteps}
+use Rattle.line_reader.specs.inner.Lines.{hasSteps}
 use Rattle.reader.specs.declared.Pass.{Pass}
 use Rattle.reader.specs.declared.Head.{Head}
 use Rattle.reader.specs.declared.Filled.{Filled}

@@ -52,7 +52,7 @@ use Rattle.route.proofs.flat.step_at as step-at′
 use Rattle.route.proofs.flat.step_at.Symbol as step-at-def
 use Rattle.route.proofs.flat.step_at.Symbol.{name as #step-at}
 use Rattle.route.proofs.flat.step_at.Met as step-at-thm
-use Rattle.records.specs.Laid.{laid}
+use Rattle.records.specs.Overlaid.{overlaid}
 use Rattle.records.proofs.Copied.{copied, length-copied, copied-is}
 use Rattle.records.proofs.Record.{S, word, vals, tells, offset-fits as lies, holds, fails, typed, makes}
 use Rattle.records.proofs.Called.{Known, tells as ends-with, meets}
@@ -118,7 +118,7 @@ module _ {M : Type 1} (𝓤 : URA M) (H : Heap 𝓤) (A : Atoms 𝓤) (W : Given
   said zs = fobs γ (codedHoleys S .code (heres S zs))
 
   -- at exit: the list's records are told
-  exits : (zs : List Step) → zs ≡ laid n xs ys → length zs ≡ length ys
+  exits : (zs : List Step) → zs ≡ overlaid n xs ys → length zs ≡ length ys
       → ent 𝓤 (⋆ 𝓤 H A (‵ (said zs) ∷ ‵ (flft κ₀ q₀) ∷ ‵ (flft κ₁ q₁) ∷ [])) (Post vunit)
   exits zs e long =
       qed W (‵ (said zs) ∷ ‵ (flft κ₀ q₀) ∷ ‵ (flft κ₁ q₁) ∷ []) ∵

@@ -1,8 +1,0 @@
--- Entries in a lent list.
-use mathlib.Core.List.{List, _++_}
-use Prim.Native.Nat.{ℕ}
-use lib.ListN.{take, drop}
-
--- the first n entries of l, and then what stood there: "Entries of a lent slice past those filled keep their contents"
-unfoldable pub laid : {X : Type 0} → ℕ → List X → List X → List X
-laid n l out = take n l ++ drop n out
