@@ -1,0 +1,146 @@
+//! Operations that random scripts seldom hold: each tells at least one wrong
+//! program from the right one.
+
+use reference::judge::WORK;
+use reference::random::records::Facts;
+use reference::script::writing::{bytes, fill, operation};
+use reference::sheet::{self, Route, Sheet, Step};
+
+const SLICE: u64 = 3;
+const TRY: u64 = 4;
+const JUDGE: u64 = 5;
+const READ: u64 = 6;
+const PRINT: u64 = 9;
+const READ_INTO: u64 = 16;
+const LENT: u64 = 10;
+
+/// A step between two sets of places.
+fn step(name: u32, places: [&[u32]; 2], variables: [&[u32]; 2]) -> Step {
+    let [ins, outs] = places.map(<[u32]>::to_vec);
+    let [reads, writes] = variables.map(<[u32]>::to_vec);
+    Step {
+        name,
+        ins,
+        outs,
+        reads,
+        writes,
+    }
+}
+
+fn route(places: u32, steps: &[Step]) -> Route {
+    Route {
+        places,
+        steps: steps.to_vec(),
+    }
+}
+
+fn job(old: &Route, new: &Route, done: &[u32]) -> Sheet {
+    Sheet {
+        old: old.clone(),
+        new: new.clone(),
+        done: done.to_vec(),
+    }
+}
+
+fn on_records(number: u64, job: &Sheet, last: &[String]) -> String {
+    let facts = Facts::of(job).text(number > LENT);
+    operation(number, &[&[facts], last].concat())
+}
+
+fn read(text: &str) -> String {
+    operation(READ, &[bytes(text.as_bytes())])
+}
+
+fn print(job: &Sheet, out: usize) -> String {
+    let sheet = bytes(sheet::text(job).as_bytes());
+    operation(PRINT, &[sheet, fill(WORK, 7), fill(out, 9)])
+}
+
+fn judge(job: &Sheet) -> String {
+    on_records(JUDGE, job, &[fill(WORK, 7)])
+}
+
+/// Every operation of this file, as one script.
+pub fn script() -> String {
+    [long_jobs(), jobs(), searches(), sheets()].concat()
+}
+
+/// Jobs of 64 done steps or more, on a route that goes round.
+fn long_jobs() -> String {
+    let begin = step(10, [&[0], &[1]], [&[], &[0]]);
+    let on = step(20, [&[1], &[1]], [&[0], &[0]]);
+    let round = route(2, &[begin, on]);
+    let long = |done: usize| job(&round, &round, &[&[10][..], &vec![20; done - 1]].concat());
+    let many: Vec<Step> = (1..=65)
+        .map(|name| step(name, [&[0], &[1]], [&[], &[]]))
+        .collect();
+    [
+        judge(&long(64)),
+        print(&long(64), 705),
+        on_records(SLICE, &long(65), &[]),
+        read(&sheet::text(&long(65))),
+        read(&sheet::text(&job(&route(2, &many), &round, &[]))),
+    ]
+    .concat()
+}
+
+/// Short jobs: other writes, other variables, longer routes, other place counts.
+fn jobs() -> String {
+    let ten = |writes: &[u32]| step(10, [&[0], &[1]], [&[], writes]);
+    let twenty = step(20, [&[1], &[2]], [&[0], &[1]]);
+    let old = route(2, &[ten(&[0])]);
+    let other_writes = job(&old, &route(3, &[ten(&[1]), twenty.clone()]), &[10]);
+    let other_variables = job(
+        &old,
+        &route(2, &[step(30, [&[0], &[1]], [&[], &[1]])]),
+        &[10],
+    );
+    let late = [step(30, [&[2], &[2]], [&[], &[]]), twenty, ten(&[0])];
+    let longer = job(&old, &route(3, &late), &[10]);
+    let fewer_places = job(&route(3, &late), &old, &[10]);
+    let plain = route(2, &[ten(&[])]);
+    let last_variable = route(2, &[ten(&[31])]);
+    [
+        judge(&other_writes),
+        on_records(SLICE, &other_variables, &[]),
+        print(&longer, 7_100),
+        on_records(SLICE + LENT, &fewer_places, &[]),
+        on_records(TRY, &longer, &[bytes(&[1, 1])]),
+        on_records(TRY, &job(&plain, &plain, &[10]), &[bytes(&[1])]),
+        print(&job(&last_variable, &last_variable, &[10]), 100),
+        operation(
+            READ_INTO,
+            &[bytes(sheet::text(&fewer_places).as_bytes()), "3 0 1".into()],
+        ),
+    ]
+    .concat()
+}
+
+/// Two steps that put a token on one place: neither can follow the other, unless
+/// a third takes it away.
+fn searches() -> String {
+    let one = |places: [&[u32]; 2]| step(10, places, [&[], &[0]]);
+    let two = |places: [&[u32]; 2]| step(20, places, [&[], &[1]]);
+    let three = step(30, [&[2], &[3]], [&[1], &[2]]);
+    let old = [one([&[0], &[1]]), two([&[1], &[2]]), three.clone()];
+    let new = [one([&[0], &[2]]), two([&[1], &[2]]), three];
+    [
+        judge(&job(&route(4, &old), &route(4, &new), &[10, 20, 30])),
+        judge(&job(&route(3, &old[..2]), &route(3, &new[..2]), &[10, 20])),
+    ]
+    .concat()
+}
+
+/// Sheets that aren't whole, or have one entry, or one letter, too many.
+fn sheets() -> String {
+    let nine = step(10, [&[0], &[1]], [&[0, 1, 2, 3, 4, 5, 6, 7, 8], &[]]);
+    let plain = route(2, &[step(10, [&[0], &[1]], [&[], &[]])]);
+    let text = sheet::text(&job(&plain, &plain, &[10]));
+    [
+        read(&sheet::text(&job(&route(2, &[nine]), &plain, &[10]))),
+        read(&text[..text.len() - 2]),
+        read(&text.replace("(old ", "(oldx")),
+        read(&sheet::text(&job(&plain, &route(2, &[]), &[10]))),
+    ]
+    .concat()
+}

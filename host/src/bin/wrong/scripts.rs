@@ -1,0 +1,73 @@
+//! Scripts and the second program's answers to them.
+
+use crate::chosen;
+use crate::edit::root;
+use reference::random::dice::{mix, Dice};
+use reference::random::script;
+use reference::script::numbers::MOST_BYTES;
+use reference::script::{answers, line};
+use std::{fs, iter};
+
+/// So many scripts, each as long as drive takes.
+const SCRIPTS: u64 = 5;
+
+/// A script, and each operation's number with the line of its answer.
+pub struct Script {
+    pub text: String,
+    pub answers: Vec<(u64, String)>,
+}
+
+impl Script {
+    fn of(text: String) -> Script {
+        let lines = answers(&text).into_iter();
+        let answers = lines.map(|(operation, numbers)| (operation, line(&numbers)));
+        Script {
+            answers: answers.collect(),
+            text,
+        }
+    }
+
+    /// What drive must write.
+    pub fn answer(&self) -> String {
+        self.answers.iter().map(|(_, line)| line.as_str()).collect()
+    }
+
+    /// The operation in whose answer this byte of the output stands: its place
+    /// in the script, from 1, and its number.
+    pub fn operation_at(&self, byte: usize) -> (usize, u64) {
+        let mut end = 0;
+        let mut places = self.answers.iter().enumerate();
+        let found = places.find(|(_, (_, line))| {
+            end += line.len();
+            byte < end
+        });
+        found.map_or((0, 0), |(place, (operation, _))| (place + 1, *operation))
+    }
+}
+
+/// The first has drive's own script and the chosen operations before its random ones.
+pub fn all() -> Vec<Script> {
+    let own = fs::read_to_string(root().join("crates/drive/stdin")).expect("no script of drive's");
+    let begins = [own + &chosen::script()].into_iter();
+    let begins = begins.chain(iter::repeat(String::new()));
+    begins
+        .zip(0..SCRIPTS)
+        .map(|(begin, number)| Script::of(long(begin, &mut Dice::new(mix(number)))))
+        .collect()
+}
+
+/// An operation, to see whether the script before it ends with a whole one.
+const FIRE: &str = "1 1 10 1 2 0 1\n";
+
+/// Random scripts after this one, none of which ends in the middle of an operation.
+fn long(mut text: String, dice: &mut Dice) -> String {
+    loop {
+        let next = script(dice) + "\n";
+        if text.len() + next.len() > MOST_BYTES {
+            return text;
+        }
+        if answers(&(next.clone() + FIRE)).len() > answers(&next).len() {
+            text += &next;
+        }
+    }
+}
