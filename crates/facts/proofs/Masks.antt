@@ -11,10 +11,11 @@ use lib.Pow.{pow-lt, pow-pos}
 use borrow.Author.Tests.{eq-eqb, ne-eqb, eqb-true, eqb-false, ltb-true, leb-true, le-leb}
 use Rattle.mask.specs.Mask.{has, bit, membersFrom, members}
 use Rattle.mask.proofs.Laws.{has-ext, has-zero, has-or, has-bit}
-use Rattle.mask.proofs.Truth.{both}
+use Rattle.mask.proofs.Truth.{both, bool-ext}
+use Rattle.mask.proofs.Sets.{has-width}
 use Rattle.job.specs.Lines.{among}
 use Rattle.facts.specs.Forms.{allBelow, rising, masked}
-use Rattle.facts.proofs.Members.{bool-ext, has-width, all-below-width}
+use Rattle.facts.proofs.Members.{all-below-width}
 
 -- u is among the entries
 has-masked : (w m : ℕ) (l : List ℕ) (u : ℕ) → allBelow w l ≡ true → has (masked w m l) u ≡ (has m u || among u l)

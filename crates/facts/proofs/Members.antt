@@ -1,25 +1,19 @@
 -- The members of a mask as a list of entries: they rise, stay below the width, and are as many as the mask has.
 -- Assumes nothing.
 use mathlib.Core.Path.{_≡_, refl, sym, ap, ap₂, _∙_}
-use mathlib.Core.Bool.{Bool, true, false, cond, _&&_}
+use mathlib.Core.Bool.{Bool, true, false, cond, _&&_, false≢true}
 use mathlib.Core.List.{List, [], _∷_}
-use Prim.Native.Nat.{ℕ, zero, suc, _+_, _^_, _%_, _≤_, _<_}
-use native.Mathlib.Nat.{div-eq-of-lt, lt-of-lt-of-le}
+use Prim.Native.Nat.{ℕ, zero, suc, _+_, _^_, _≤_, _<_}
 use native.Mathlib.Omega.{arith}
 use lib.Dec.{eqb, ltb, leb}
 use lib.ListN.{length}
-use lib.Pow.{pow-mono}
 use lib.Bits.{and-comm, and-zero-l}
-use borrow.Author.Tests.{eq-eqb, ne-eqb, eqb-true, eqb-false, lt-ltb, le-ltb, ltb-true, ltb-false, le-leb}
+use borrow.Author.Tests.{eq-eqb, ne-eqb, eqb-true, eqb-false, lt-ltb, le-ltb, ltb-true, le-leb}
 use Rattle.mask.specs.Mask.{has, below, within, membersFrom, members, count}
 use Rattle.mask.proofs.Laws.{has-below, within-all, all-within}
-use Rattle.mask.proofs.Truth.{both}
+use Rattle.mask.proofs.Truth.{both, bool-ext}
+use Rattle.mask.proofs.Sets.{has-width}
 use Rattle.facts.specs.Forms.{allBelow, rising, listFits}
-
-pub bool-ext : (x y : Bool) → (x ≡ true → y ≡ true) → (y ≡ true → x ≡ true) → x ≡ y
-bool-ext true y f g = sym (f refl)
-bool-ext false true f g = g refl
-bool-ext false false f g = refl
 
 pub rising-members : (k v low m : ℕ) → low ≤ v → rising low (membersFrom v k m) ≡ true
 unfolding membersFrom rising
@@ -58,27 +52,11 @@ members-below (suc k) v m n u h a b e = go (has m v) refl (eqb u v) refl h (memb
       where
         above : eqb u v ≡ false → suc v ≤ u
         above z = let far : (u ≡ v) → ⊥ = eqb-false u v z in omega arith
-    go false p true q r ih = absurd (clash (sym p ∙ ap (has m) (sym (eqb-true u v q)) ∙ e))
-      where
-        clash : false ≡ true → ⊥
-        clash h = let z : _≡_ {A = ℕ} 0 1 = cc in omega arith
+    go false p true q r ih = absurd (false≢true (sym p ∙ ap (has m) (sym (eqb-true u v q)) ∙ e))
     go false p false q r ih = ih r (above q) (omega arith) e
       where
         above : eqb u v ≡ false → suc v ≤ u
         above z = let far : (u ≡ v) → ⊥ = eqb-false u v z in omega arith
-
--- a mask of w bits has no member from w on
-pub has-width : (w m u : ℕ) → m < 2 ^ w → has m u ≡ true → u < w
-unfolding has
-has-width w m u h e = go (ltb u w) refl
-  where
-    clash : eqb (0 % 2) 1 ≡ true → ⊥
-    clash z = let y : _≡_ {A = ℕ} 0 1 = cc in omega arith
-
-    go : (t : Bool) → ltb u w ≡ t → u < w
-    go true p = ltb-true u w p
-    go false p = absurd (clash (ap (λ (n : ℕ). eqb (n % 2) 1)
-        (sym (div-eq-of-lt (lt-of-lt-of-le h (pow-mono (ltb-false u w p))))) ∙ e))
 
 pub all-below-width : (w m : ℕ) → allBelow w (members w m) ≡ true
 unfolding members

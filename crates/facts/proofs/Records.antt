@@ -22,7 +22,7 @@ use Rattle.layout.specs.Parse.{Parsed, parse}
 use Rattle.facts.specs.Forms.{allBelow, rising, listFits, formFits, formLists, recordOf}
 use Rattle.facts.specs.Facts.{failed, factsOf, answered, readBy, readOf, jobRead}
 use Rattle.facts.specs.SheetRows.{sheetRows, filled, factsRecord}
-use Rattle.facts.specs.Back.{formOf, linesOf, Wide, AllWide}
+use Rattle.facts.specs.LinesOf.{formOf, linesOf, Wide, AllWide}
 use Rattle.facts.specs.declared.Sheet.{Sheet}
 use Rattle.facts.proofs.RowsFold.{reads-facts, filled-steps}
 use Rattle.facts.proofs.Masks.{mask-members, members-mask, masked-below}

@@ -1,7 +1,7 @@
 -- Where the lines stand so far: either no row has refused, and what is kept are the facts, or the first refusal is what
 -- is kept. Assumes nothing.
 use mathlib.Core.Path.{_≡_, refl, sym, ap, ap₂, _∙_, subst, subst₃}
-use mathlib.Core.Bool.{Bool, true, false, not, cond}
+use mathlib.Core.Bool.{Bool, true, false, not, cond, false≢true}
 use mathlib.Core.List.{List, [], _∷_, _++_, map, append-nil, append-assoc}
 use Prim.Native.Nat.{ℕ, suc, _+_, _-_, _≤_, _<_}
 use native.Mathlib.Omega.{arith}
@@ -10,11 +10,12 @@ use lib.ListN.{length, take, set, replicate, length-append, length-map}
 use lib.Seq.{set-append-seam, take-append-seam}
 use borrow.Author.Tests.{eqb-false, ltb-true, lt-ltb}
 use Rattle.route.specs.Steps.{blank, stepsOf, names}
-use Rattle.refusal.specs.Rows.{pass, refuse, unless, first}
+use Rattle.refusal.specs.Rows.{unless, first}
 use Rattle.route.specs.declared.Step.{Step}
 use Rattle.route.specs.declared.Route.{Route}
 use Rattle.refusal.specs.declared.Outcome.{Outcome}
 use Rattle.refusal.proofs.Rows.{rows-pass, rows-refuse, head-passed, unless-elim, first-clean, first-alone}
+use Rattle.refusal.proofs.Rows.{first-unless}
 use Rattle.job.specs.Lines.{placesFit, doneRow, doneRows}
 use Rattle.version.specs.declared.Version.{Version}
 use Rattle.layout.specs.Text.{Form, Lines}
@@ -25,9 +26,6 @@ use Rattle.facts.specs.Facts.{State, failed, settled, headed, stepped, w
 use Rattle.facts.specs.Facts.{newHead, jobHead, doneIn, stepIn, more, moreSteps, moreDones, nothing, factsOf}
 use Rattle.facts.specs.SheetRows.{formRows, afterForms, routeFormRows, sheetRows, filled, factsRecord}
 use Rattle.facts.specs.declared.Sheet.{Sheet}
-
-apart : true ≡ false → ⊥
-apart h = let z : _≡_ {A = ℕ} 0 1 = cc in omega arith
 
 pub data Stand (k : Sheet) (rows : List Outcome) (s : Sheet) (v : Type 0) : Type 0 where
   stands : eqb (first rows .number) 0 ≡ true → k ≡ s → v → Stand k rows s v
@@ -129,7 +127,7 @@ step-in : (v : Version) (p : Part) (line : ℕ) (f : Form) (r : Route) (s : Shee
 unfolding stepIn inRoute isRoute
 step-in v OldRoute line f r s e = refl
 step-in v NewRoute line f r s e = refl
-step-in v JobPart line f r s e = absurd (apart (sym e))
+step-in v JobPart line f r s e = absurd (false≢true e)
 
 number-in : (p : Part) (r : Route) (s : Sheet) → inRoute p r s .number ≡ s .number
 unfolding inRoute
@@ -299,12 +297,8 @@ old-stand : (n : ℕ) → Stand (oldHead 1 n (failed 0 0)) (unless (placesFit n)
 unfolding oldHead inRoute filled headed failed
 old-stand n =
     subst (λ (o : Outcome). Stand (settled o (withOld (headed n (failed 0 0 .old)) (failed 0 0)))
-    (unless (placesFit n) 2 1 ∷ []) (withOld (filled n []) (failed 0 0)) (0 ≤ 64)) (one-row (placesFit n))
+    (unless (placesFit n) 2 1 ∷ []) (withOld (filled n []) (failed 0 0)) (0 ≤ 64)) (first-unless (placesFit n) 2 1 refl)
     (settle (unless (placesFit n) 2 1 ∷ []) _ _ _ (λ passes. (refl, omega arith)))
-  where
-    one-row : (t : Bool) → first (unless t 2 1 ∷ []) ≡ unless t 2 1
-    one-row true = unfold first unless in refl
-    one-row false = unfold first unless in refl
 
 new-stand : (line n places : ℕ) (l : List Form) → length l ≤ 64
     → Stand (newHead line n (inRoute OldRoute (filled places (map recordOf l)) (failed 0 0)))
@@ -320,11 +314,6 @@ new-stand line n places l few =
     (settle (unless (not (eqb (length l) 0)) 4 line ∷ unless (placesFit n) 2 line ∷ []) _ _ _
     (λ passes. (refl, omega arith)))
 
-lone : (t : Bool) (n k : ℕ) → eqb n 0 ≡ false → first (unless t n k ∷ []) ≡ unless t n k
-unfolding first unless
-lone true n k z = refl
-lone false n k z = ap (λ (x : Bool). cond x pass (refuse n k)) z
-
 job-stand : (line places : ℕ) (l : List Form) (s : Sheet) → length l ≤ 64
     → Stand (jobHead line (inRoute NewRoute (filled places (map recordOf l)) s))
     (unless (not (eqb (length l) 0)) 4 line ∷ []) (inRoute NewRoute (filled places (map recordOf l)) s) (0 ≤ 64)
@@ -332,7 +321,7 @@ unfolding jobHead inRoute filled
 job-stand line places l s few =
     subst (λ (o : Outcome). Stand (settled o (withNew (filled places (map recordOf l)) s))
     (unless (not (eqb (length l) 0)) 4 line ∷ []) (withNew (filled places (map recordOf l)) s) (0 ≤ 64))
-    (lone (not (eqb (length l) 0)) 4 line refl ∙ ap (λ (m : ℕ). unless (not (eqb m 0)) 4 line)
+    (first-unless (not (eqb (length l) 0)) 4 line refl ∙ ap (λ (m : ℕ). unless (not (eqb m 0)) 4 line)
     (sym (length-map l recordOf)))
     (settle (unless (not (eqb (length l) 0)) 4 line ∷ []) _ _ _ (λ passes. (refl, omega arith)))
 

@@ -1,15 +1,13 @@
 -- The rows of records are the rows of the lines that writing them gives, one for one.
 -- Assumes nothing.
 use mathlib.Core.Path.{_≡_, refl, sym, ap, ap₂, _∙_}
-use mathlib.Core.Bool.{Bool, true, false, not, _&&_, _||_}
+use mathlib.Core.Bool.{Bool, true, false, not, _&&_}
 use mathlib.Core.List.{List, [], _∷_, _++_, map}
 use Prim.Native.Nat.{ℕ, _+_}
 use lib.Dec.{eqb, ltb, leb}
 use lib.ListN.{length, length-map}
-use lib.Bits.{bitOr}
-use Rattle.mask.specs.Mask.{has, below, within, count}
-use Rattle.mask.proofs.Laws.{has-or, within-all, all-within}
-use Rattle.mask.proofs.Truth.{both}
+use Rattle.mask.specs.Mask.{below, within, count}
+use Rattle.mask.proofs.Sets.{within-or}
 use Rattle.refusal.specs.Rows.{unless, first}
 use Rattle.route.specs.declared.Step.{Step}
 use Rattle.refusal.specs.declared.Outcome.{Outcome}
@@ -19,30 +17,8 @@ use Rattle.job.specs.Lines.{placesFit, stepFits, variableList, placeList, lists
 use Rattle.job.specs.Lines.{doneRows, lineRows}
 use Rattle.facts.specs.Forms.{formFits, formLists, formRow}
 use Rattle.facts.specs.SheetRows.{formRows, routeFormRows, sheetRows}
-use Rattle.facts.specs.Back.{formOf, linesOf, Wide, AllWide}
-use Rattle.facts.proofs.Members.{bool-ext, all-below-width, below-is, none-is, fits-is}
-
-pub within-or : (a b c : ℕ) → within (bitOr a b) c ≡ (within a c && within b c)
-within-or a b c =
-    bool-ext (within (bitOr a b) c) (within a c && within b c)
-    (λ e. ap₂ (λ (x y : Bool). x && y) (all-within a c
-    (λ v h. within-all (bitOr a b) c e v (has-or a b v ∙ left (has a v) (has b v) h)))
-    (all-within b c (λ v h. within-all (bitOr a b) c e v (has-or a b v ∙ right (has a v) (has b v) h))))
-    (λ e. all-within (bitOr a b) c (λ v h. pick (has a v) (has b v) (has c v) (sym (has-or a b v) ∙ h)
-    (within-all a c (both (within a c) (within b c) e .0) v)
-    (within-all b c (both (within a c) (within b c) e .1) v)))
-  where
-    left : (x y : Bool) → x ≡ true → (x || y) ≡ true
-    left true y e = refl
-    left false y e = cc
-
-    right : (x y : Bool) → y ≡ true → (x || y) ≡ true
-    right true y e = refl
-    right false y e = e
-
-    pick : (x y z : Bool) → (x || y) ≡ true → (x ≡ true → z ≡ true) → (y ≡ true → z ≡ true) → z ≡ true
-    pick true y z e f g = f refl
-    pick false y z e f g = g e
+use Rattle.facts.specs.LinesOf.{formOf, linesOf, Wide, AllWide}
+use Rattle.facts.proofs.Members.{all-below-width, below-is, none-is, fits-is}
 
 fits-same : (places : ℕ) (s : Step) → Wide s → formFits scope places (formOf s) ≡ stepFits places s
 unfolding formFits stepFits formOf

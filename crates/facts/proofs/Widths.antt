@@ -11,6 +11,7 @@ use lib.Pow.{pow-mono}
 use Rattle.mask.specs.Mask.{below, within, members}
 use Rattle.mask.proofs.Cut.{cut-below, cut-same, within-below, members-cut, count-cut}
 use Rattle.mask.proofs.Truth.{both}
+use Rattle.mask.proofs.Sets.{within-or}
 use Rattle.refusal.specs.Rows.{unless, first}
 use Rattle.refusal.specs.declared.Outcome.{Outcome}
 use Rattle.refusal.proofs.Rows.{head-passed, unless-elim, rows-passed}
@@ -21,9 +22,8 @@ use Rattle.job.specs.Lines.{placesFit, stepFits, variableList, placeList, lists
 use Rattle.job.specs.Lines.{doneRows, lineRows}
 use Rattle.job.proofs.Rows.{route-fits}
 use Rattle.layout.specs.Text.{Form}
-use Rattle.facts.specs.Back.{formOf, linesOf, Wide, AllWide, asRecord, asRecords}
+use Rattle.facts.specs.LinesOf.{formOf, linesOf, Wide, AllWide, asRecord, asRecords}
 use Rattle.facts.proofs.PassingLines.{Passes}
-use Rattle.facts.proofs.Ties.{within-or}
 
 -- ---- a step's record has the same lines and the same rows
 

@@ -3,4 +3,4 @@ pub mod Forms
 pub mod Facts
 pub mod JobPart
 pub mod SheetRows
-pub mod Back
+pub mod LinesOf

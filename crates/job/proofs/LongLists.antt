@@ -12,7 +12,7 @@ use lib.Seq.{take-all, take-take, split-at, length-take-le}
 use borrow.Author.Tests.{ltb-true, ltb-false}
 use Rattle.refusal.specs.Rows.{refuse, unless, first}
 use Rattle.refusal.specs.declared.Outcome.{Outcome}
-use Rattle.refusal.proofs.Rows.{rows-pass, rows-refuse, row-refuses}
+use Rattle.refusal.proofs.Rows.{rows-pass, rows-refuse, row-refuses, ends-refused}
 use Rattle.route.specs.Steps.{blank}
 use Rattle.route.specs.Flat.{Laid}
 use Rattle.route.specs.declared.Step.{Step}
@@ -52,16 +52,6 @@ over-rows line places earlier (x ∷ a) s r e =
     (omega (arith, e, length-append earlier (x .name ∷ [])))
     ∙ ap (λ (n : ℕ). first (stepRows (line + 1) places (earlier ++ (x .name ∷ [])) a ++ (refuse 4 n ∷ [])))
     (omega arith))
-
-ends-refused : (a : List Outcome) (k : ℕ) → eqb (first (a ++ (refuse 4 k ∷ [])) .number) 0 ≡ false
-unfolding first
-ends-refused [] k = refl
-ends-refused (o ∷ a) k = go (eqb (o .number) 0) refl (ends-refused a k)
-  where
-    go : (t : Bool) → eqb (o .number) 0 ≡ t → eqb (first (a ++ (refuse 4 k ∷ [])) .number) 0 ≡ false
-        → eqb (cond t (first (a ++ (refuse 4 k ∷ []))) o .number) 0 ≡ false
-    go true e h = h
-    go false e h = e
 
 overRows : ℕ → ℕ → List Step → Outcome
 overRows line places a =

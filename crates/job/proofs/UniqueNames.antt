@@ -1,6 +1,6 @@
 -- Row 5: in a route whose rows pass no name stands twice.
 use mathlib.Core.Path.{_≡_, refl, sym, ap, _∙_}
-use mathlib.Core.Bool.{Bool, true, false, not, _||_}
+use mathlib.Core.Bool.{Bool, true, false, not, _||_, false≢true}
 use mathlib.Core.List.{List, [], _∷_, _++_, append-nil}
 use Prim.Native.Nat.{ℕ, zero, suc, _+_, _<_}
 use native.Mathlib.Omega.{arith}
@@ -71,8 +71,4 @@ route-unique line places l e i k h b same =
     let old : among (getD l k blank .name) (take k (names l)) ≡ true =
     among-at (getD l k blank .name) (take k (names l)) i (omega arith)
     (getD-take k (names l) i 0 h ∙ getD-names l i ∙ same) in
-    let z : _≡_ {A = ℕ} 0 1 = clash (sym new ∙ old) in
-    omega arith
-  where
-    clash : false ≡ true → _≡_ {A = ℕ} 0 1
-    clash p = cc
+    false≢true (sym new ∙ old)

@@ -1,4 +1,4 @@
 // A job as records: both routes and the done names, and the rows on its lines.
 
 pub mod checks;
-mod lines;
+pub mod lines;

@@ -19,7 +19,6 @@ use Rattle.matching.specs.Fit.{keptOf}
 use Rattle.matching.specs.KeptRows.{keptRows, rowsTo12}
 use Rattle.matching.specs.inner.Matched.{matched, straightEnd, Ready, PreparedOf}
 use Rattle.matching.specs.declared.Prepared.{Prepared}
-use Rattle.matching.proofs.Choice.{cond-yes, cond-no}
 use Rattle.matching.proofs.Preparation.{lines-refused, prepared-ran, prepared-ready, prepared-rows, numbers-done}
 use Rattle.matching.proofs.Preparation.{numbers-matched, occurrences-few}
 use Rattle.search.specs.Candidates.{cleared}
@@ -29,6 +28,7 @@ use Rattle.judging.specs.Judge.{judgeRows, judged, searched, workAfter}
 use Rattle.judging.specs.inner.Passing.{Passing}
 use Rattle.judging.specs.inner.Answers.{AnswersRows, Works}
 use Rattle.answering.specs.declared.Judged.{Judged}
+use Rattle.mask.proofs.Truth.{cond-yes, cond-no}
 
 rows-refused :
     (line from : ℕ) (new l : List Step)

@@ -6,9 +6,8 @@ use mathlib.Core.Option.{none, some, Option·getD}
 use Prim.Native.Nat.{ℕ, suc, _-_, _≤_, _<_}
 use native.Mathlib.Omega.{arith}
 use lib.ListN.{length, take}
-use borrow.Author.Tests.{eq-eqb, ltb-true}
+use borrow.Author.Tests.{eq-eqb}
 use Rattle.mask.specs.Mask.{has, below, count}
-use Rattle.mask.proofs.Laws.{has-below}
 use Rattle.mask.proofs.Members.{count-few}
 use Rattle.route.specs.Steps.{blank}
 use Rattle.route.specs.declared.Step.{Step}
@@ -41,11 +40,6 @@ use Rattle.answering.specs.declared.Judged.{Judged}
 use Rattle.judging.specs.inner.Passing.{Passing}
 use Rattle.candidates.proofs.CandidateColumns.{Room, AllSame}
 use Rattle.candidates.proofs.FirstFit.{Found, none-fit, order-fit}
-
--- all below n are n
-pub below-few : (kept len n : ℕ) → kept ≡ below len → len ≡ n → count 64 kept ≤ n
-below-few kept len n e f = count-few 64 kept n
-    (λ i h. ltb-true i n (sym (has-below n i) ∙ ap (λ (k : ℕ). has k i) (sym (e ∙ ap (λ (k : ℕ). below k) f)) ∙ h))
 
 -- all occurrences in turn, and where they end
 pub straight-list :

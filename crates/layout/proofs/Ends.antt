@@ -1,7 +1,7 @@
 -- From every point that reading reaches, some sheet ends: each point's shortest ending leads to the next one's.
 -- Assumes nothing.
 use mathlib.Core.Path.{_≡_, refl, _∙_}
-use mathlib.Core.Bool.{Bool, true, false, cond}
+use mathlib.Core.Bool.{Bool, true, false, cond, false≢true}
 use mathlib.Core.List.{List, [], _∷_}
 use Prim.Native.Nat.{ℕ, zero, suc, _+_, _-_, _≤_, _<_}
 use native.Mathlib.Omega.{arith}
@@ -22,7 +22,7 @@ use Rattle.layout.specs.declared.Point.{Point}
 use Rattle.layout.specs.declared.Point.the-variants.{Start, Open, Choice, Letters, Past, Digit, Digits, Gap}
 use Rattle.layout.specs.declared.Point.the-variants.{Closed, Lf, Stuck}
 use Rattle.layout.proofs.Numbers.{run-on}
-use Rattle.layout.proofs.PrefixStep.{never, apart, expected, either}
+use Rattle.layout.proofs.PrefixStep.{never, expected, either}
 
 -- ---- the points that reading reaches
 
@@ -292,11 +292,11 @@ module _ (v : Version) where
     ends-closed Out c t h = closed-out c t
     ends-closed Read c t h = closed-read c t
     ends-closed Write c t h = closed-write c t
-    ends-closed Old c t h = absurd (apart h)
-    ends-closed New c t h = absurd (apart h)
-    ends-closed Job c t h = absurd (apart h)
-    ends-closed Done c t h = absurd (apart h)
-    ends-closed Step c t h = absurd (apart h)
+    ends-closed Old c t h = absurd (false≢true h)
+    ends-closed New c t h = absurd (false≢true h)
+    ends-closed Job c t h = absurd (false≢true h)
+    ends-closed Done c t h = absurd (false≢true h)
+    ends-closed Step c t h = absurd (false≢true h)
 
     ends-digits : (w : Word) (k : ℕ) (c : Line) (t : Lines) → numbered w ≡ true → Ends (Digits w p k) c t
     unfolding numbered next more digit ended inList expect alive keep
@@ -308,7 +308,7 @@ module _ (v : Version) where
     ends-digits Out k c t h = by-byte (Digits Out p k) (Closed Out p) 41 c t refl refl (closed-out _ t)
     ends-digits Read k c t h = by-byte (Digits Read p k) (Closed Read p) 41 c t refl refl (closed-read _ t)
     ends-digits Write k c t h = by-byte (Digits Write p k) (Closed Write p) 41 c t refl refl (closed-write _ t)
-    ends-digits Job k c t h = absurd (apart h)
+    ends-digits Job k c t h = absurd (false≢true h)
 
     ends-digit : (w : Word) (c : Line) (t : Lines) → numbered w ≡ true → Ends (Digit w p) c t
     unfolding next first alive keep
@@ -347,4 +347,4 @@ module _ (v : Version) where
   ends (Gap w p) c t h = ends-gap w p (ends-past p w) c t
   ends (Closed w p) c t h = ends-closed p w c t h
   ends (Lf w p) c t h = ends-lf w p c t
-  ends Stuck c t h = absurd (apart h)
+  ends Stuck c t h = absurd (false≢true h)

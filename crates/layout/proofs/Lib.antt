@@ -3,7 +3,7 @@ pub mod Letters
 pub mod Numbers
 pub mod LineLists
 pub mod Complete
-pub mod Back
+pub mod Reversed
 pub mod Sound
 pub mod Ends
 pub mod Broken

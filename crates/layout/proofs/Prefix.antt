@@ -17,7 +17,7 @@ use Rattle.layout.specs.declared.Part.the-variants.{OldRoute, NewRoute, 
 use Rattle.layout.specs.declared.Point.{Point}
 use Rattle.layout.specs.declared.Point.the-variants.{Start, Open, Choice, Letters, Past, Digit, Digits, Gap}
 use Rattle.layout.specs.declared.Point.the-variants.{Closed, Lf, Stuck}
-use Rattle.layout.proofs.Back.{entriesBack, stepsBack, donesBack}
+use Rattle.layout.proofs.Reversed.{entriesBack, stepsBack, donesBack}
 
 -- the line in hand without the number in hand
 pub record Rest : Type 0 where

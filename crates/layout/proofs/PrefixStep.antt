@@ -2,7 +2,7 @@
 -- Assumes nothing.
 use mathlib.Core.Path.{_≡_, refl, sym, ap, ap₂, _∙_, subst}
 use mathlib.Core.Logic.{_⊎_, inl, inr, ⊎-elim}
-use mathlib.Core.Bool.{Bool, true, false, cond, _&&_}
+use mathlib.Core.Bool.{Bool, true, false, cond, false≢true}
 use mathlib.Core.List.{List, [], _∷_, _++_, reverse}
 use Prim.Native.Nat.{ℕ, suc, _+_, _-_, _*_, _^_, _/_, _%_, _≤_, _<_}
 use native.Mathlib.Nat.{pow-suc}
@@ -30,18 +30,16 @@ use Rattle.layout.specs.declared.Point.{Point}
 use Rattle.layout.specs.declared.Point.the-variants.{Start, Open, Choice, Letters, Past, Digit, Digits, Gap}
 use Rattle.layout.specs.declared.Point.the-variants.{Closed, Lf, Stuck}
 use Rattle.layout.proofs.Numbers.{digits-enough}
-use Rattle.layout.proofs.Back.{entriesBack, stepsBack, donesBack, entries-back, shorts-back}
+use Rattle.layout.proofs.Reversed.{entriesBack, stepsBack, donesBack, entries-back, shorts-back}
 use Rattle.layout.proofs.Prefix.{rest, above, gapIn, gapOut, gapRead, gapWrite, gap, listOf, upto, lineEnd}
 use Rattle.layout.proofs.Prefix.{sofar, routed, goes, closes, From, After, Wide, Shape, ShortLine, Onward}
+use Rattle.mask.proofs.Truth.{both}
 
 -- ---- tests that hold
 
 pub never : alive Stuck ≡ true → ⊥
 unfolding alive
 never h = let z : _≡_ {A = ℕ} 0 1 = cc in omega arith
-
-pub apart : false ≡ true → ⊥
-apart h = let z : _≡_ {A = ℕ} 0 1 = cc in omega arith
 
 pub expected : (P : ℕ → Point → Type 0) (b k : ℕ) (q : Point) → P k q → alive (expect b k q) ≡ true → P b (expect b k q)
 unfolding expect
@@ -63,11 +61,7 @@ either P b k q r h other = go (eqb b k) refl
 
 pub digit-bounds : (b : ℕ) → digit b ≡ true → (48 ≤ b) × (b ≤ 57)
 unfolding digit
-digit-bounds b d = (leb-true 48 b (split (leb 48 b) (leb b 57) d .0), leb-true b 57 (split (leb 48 b) (leb b 57) d .1))
-  where
-    split : (x y : Bool) → (x && y) ≡ true → (x ≡ true) × (y ≡ true)
-    split true y e = (refl, e)
-    split false y e = absurd (apart e)
+digit-bounds b d = let (low, high) = both (leb 48 b) (leb b 57) d in (leb-true 48 b low, leb-true b 57 high)
 
 grows : (n b : ℕ) (s : List ℕ) → 1 ≤ n → n < 10 ^ 19 → digit b ≡ true → number (grown n b) s ≡ number n (b ∷ s)
 unfolding number digits
@@ -393,9 +387,9 @@ module _ (v : Version) (limits : Limits v) (c : Line) (t : Lines) (line : ShortL
       done = tt;
     },
   )
-  line-on Old NewRoute g = absurd (apart g)
-  line-on Old JobPart g = absurd (apart g)
-  line-on New OldRoute g = absurd (apart g)
+  line-on Old NewRoute g = absurd (false≢true g)
+  line-on Old JobPart g = absurd (false≢true g)
+  line-on New OldRoute g = absurd (false≢true g)
   line-on New NewRoute g = (
     λ s. refl,
     record {
@@ -406,9 +400,9 @@ module _ (v : Version) (limits : Limits v) (c : Line) (t : Lines) (line : ShortL
       done = tt;
     },
   )
-  line-on New JobPart g = absurd (apart g)
-  line-on Job OldRoute g = absurd (apart g)
-  line-on Job NewRoute g = absurd (apart g)
+  line-on New JobPart g = absurd (false≢true g)
+  line-on Job OldRoute g = absurd (false≢true g)
+  line-on Job NewRoute g = absurd (false≢true g)
   line-on Job JobPart g = (
     λ s. refl,
     record {
@@ -419,8 +413,8 @@ module _ (v : Version) (limits : Limits v) (c : Line) (t : Lines) (line : ShortL
       done = tt;
     },
   )
-  line-on Done OldRoute g = absurd (apart g)
-  line-on Done NewRoute g = absurd (apart g)
+  line-on Done OldRoute g = absurd (false≢true g)
+  line-on Done NewRoute g = absurd (false≢true g)
   line-on Done JobPart g = (
     λ s. refl,
     record {
@@ -431,10 +425,10 @@ module _ (v : Version) (limits : Limits v) (c : Line) (t : Lines) (line : ShortL
       done = (line .0, lines .done);
     },
   )
-  line-on Step p g = absurd (apart g)
-  line-on In p g = absurd (apart g)
-  line-on Out p g = absurd (apart g)
-  line-on Read p g = absurd (apart g)
+  line-on Step p g = absurd (false≢true g)
+  line-on In p g = absurd (false≢true g)
+  line-on Out p g = absurd (false≢true g)
+  line-on Read p g = absurd (false≢true g)
   line-on Write OldRoute g = (
     λ s. ap (λ (y : List ℕ). wordLine Old (t .oldPlaces) (stepsBack (t .old) y))
         (step-back c s),
@@ -458,7 +452,7 @@ module _ (v : Version) (limits : Limits v) (c : Line) (t : Lines) (line : ShortL
       done = lines .done;
     },
   )
-  line-on Write JobPart g = absurd (apart g)
+  line-on Write JobPart g = absurd (false≢true g)
 
   at-lf : (w : Word) (p : Part) (b : ℕ) → Shape v (Lf w p) c → alive (next v (Lf w p) b) ≡ true
       → Onward v (Lf w p) b c t (next v (Lf w p) b) noLine (putLine w p c t)

@@ -16,7 +16,7 @@ use Rattle.layout.specs.declared.Part.the-variants.{OldRoute, NewRoute, 
 use Rattle.layout.specs.declared.Point.{Point}
 use Rattle.layout.specs.declared.Point.the-variants.{Start, Open, Choice, Letters, Past, Digit, Digits, Gap}
 use Rattle.layout.specs.declared.Point.the-variants.{Closed, Lf, Stuck}
-use Rattle.layout.proofs.Back.{stepsBack, steps-back, dones-back, shorts-back, forms-back}
+use Rattle.layout.proofs.Reversed.{stepsBack, steps-back, dones-back, shorts-back, forms-back}
 use Rattle.layout.proofs.Prefix.{rest, above, sofar, Shape, ShortLine}
 use Rattle.layout.proofs.PrefixStep.{onward}
 

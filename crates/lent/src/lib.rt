@@ -17,7 +17,8 @@ ghost use Rattle.writer.specs.Writes.{wrote, outAfter};
 ghost use Rattle.lent.specs.Lent.{lentJob};
 
 pub fn run(old_places: u64, old: &[Step], new_places: u64, new: &[Step], done: &[u32]) -> Ran
-    ensures { λ r. ⌜ r ≡ ran (lentJob «old_places» (now (old .entry)) «new_places» (now (new .entry)) (now (done .entry))) ⌝ }
+    ensures { λ r. ⌜ r ≡ ran
+        (lentJob «old_places» (now (old .entry)) «new_places» (now (new .entry)) (now (done .entry))) ⌝ }
 {
     let mut a = [0u64; 260];
     let mut b = [0u64; 260];
@@ -27,7 +28,8 @@ pub fn run(old_places: u64, old: &[Step], new_places: u64, new: &[Step], done: &
 }
 
 pub fn slice(old_places: u64, old: &[Step], new_places: u64, new: &[Step], done: &[u32]) -> Sliced
-    ensures { λ r. ⌜ r ≡ sliced (lentJob «old_places» (now (old .entry)) «new_places» (now (new .entry)) (now (done .entry))) ⌝ }
+    ensures { λ r. ⌜ r ≡ sliced
+        (lentJob «old_places» (now (old .entry)) «new_places» (now (new .entry)) (now (done .entry))) ⌝ }
 {
     let mut before = [0u64; 260];
     let mut after = [0u64; 260];
@@ -79,7 +81,8 @@ pub fn write(
     done: &[u32],
     out: &mut [u8],
 ) -> Wrote
-    ensures { λ r. ⌜ (r ≡ wrote (lentJob «old_places» (now (old .entry)) «new_places» (now (new .entry)) (now (done .entry))) (length (now (out .entry))))
+    ensures { λ r. ⌜ (r ≡ wrote
+        (lentJob «old_places» (now (old .entry)) «new_places» (now (new .entry)) (now (done .entry))) (length (now (out .entry))))
         × (now (out .exit) ≡ outAfter (lentJob «old_places» (now (old .entry)) «new_places» (now (new .entry)) (now (done .entry))) (now (out .entry))) ⌝ }
 {
     let mut first = [0u64; 260];

@@ -53,7 +53,8 @@ fn put(out: &mut [u32], n: usize, names: &[u32])
 }
 
 pub fn read(sheet: &[u8], old: &mut [Step], new: &mut [Step], done: &mut [u32]) -> Counts
-    ensures { λ r. ⌜ (r ≡ counted (readOf (now (sheet .entry))) (length (now (old .entry))) (length (now (new .entry))) (length (now (done .entry))))
+    ensures { λ r. ⌜ (r ≡ counted (readOf (now (sheet .entry))) (length (now (old .entry)))
+        (length (now (new .entry))) (length (now (done .entry))))
         × ((now (old .exit) ≡ overlaid (r .«old_len») (readOf (now (sheet .entry)) .old .steps) (now (old .entry)))
         × ((now (new .exit) ≡ overlaid (r .«new_len») (readOf (now (sheet .entry)) .new .steps) (now (new .entry)))
         × (now (done .exit) ≡ overlaid (r .«done_len») (readOf (now (sheet .entry)) .done) (now (done .entry))))) ⌝ }

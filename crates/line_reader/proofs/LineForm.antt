@@ -1,7 +1,7 @@
 -- What is kept of a list tells all that the rows ask of it, and its mask.
 -- Assumes nothing.
 use mathlib.Core.Path.{_≡_, refl, sym, ap, ap₂, _∙_}
-use mathlib.Core.Bool.{Bool, true, false, not, cond, _&&_, and-false}
+use mathlib.Core.Bool.{Bool, true, false, not, cond, _&&_, and-false, false≢true}
 use mathlib.Core.List.{List, [], _∷_}
 use Prim.Native.Nat.{ℕ, suc, _+_, _%_, _≤_, _<_}
 use native.Mathlib.Numerals.{add-one}
@@ -19,7 +19,6 @@ use Rattle.facts.specs.Forms.{allBelow, rising, listFits, formFits, formLists, 
 use Rattle.facts.proofs.Masks.{masked-below}
 use Rattle.tokens.specs.inner.Tokens.{noEntries, added, along}
 use Rattle.tokens.specs.declared.Entries.{Entries}
-use Rattle.tokens.proofs.Bytes.{apart}
 use Rattle.line_reader.specs.inner.Lines.{IsForm, entriesFit, lineFits, lineLists}
 use Rattle.line_reader.specs.declared.StepLine.{StepLine}
 
@@ -37,7 +36,7 @@ and-left false y h = h
 
 and-right : (x y : Bool) → (x && y) ≡ true → y ≡ true
 and-right true y h = h
-and-right false y h = absurd (apart (sym h))
+and-right false y h = absurd (false≢true h)
 
 -- ---- along a list
 

@@ -1,7 +1,7 @@
 -- The texts of the lines lead from point to point.
 -- Assumes nothing.
 use mathlib.Core.Path.{_≡_, refl, sym, ap, _∙_}
-use mathlib.Core.Bool.{Bool, true, false, cond}
+use mathlib.Core.Bool.{Bool, true, false, cond, false≢true}
 use mathlib.Core.List.{List, [], _∷_}
 use Prim.Native.Nat.{ℕ, zero, suc, _+_, _-_, _≤_, _<_}
 use native.Mathlib.Omega.{arith}
@@ -20,7 +20,6 @@ use Rattle.layout.specs.declared.Part.the-variants.{OldRoute, NewRoute, JobPart
 use Rattle.layout.specs.declared.Point.{Point}
 use Rattle.layout.specs.declared.Point.the-variants.{Start, Open, Past, Digit, Digits, Gap, Closed, Lf, Stuck}
 use Rattle.tokens.specs.inner.Tokens.{Spells}
-use Rattle.tokens.proofs.Bytes.{apart}
 use Rattle.line_reader.specs.inner.Lines.{headWord, hasSteps}
 
 -- where another byte stands than the one that the layout has
@@ -115,12 +114,12 @@ end-spells v s i Done q c t h =
     byte refl (λ far. after (digit (getD s i 0)) (getD s i 0) 41 (Lf Done q) far) (λ _. refl) (λ is.
     byte refl (λ far. other _ 10 _ far) (λ _. refl) (λ is.
     (refl, (refl, refl))))
-end-spells v s i Job q c t h = absurd (apart (sym h))
-end-spells v s i Step q c t h = absurd (apart (sym h))
-end-spells v s i In q c t h = absurd (apart (sym h))
-end-spells v s i Out q c t h = absurd (apart (sym h))
-end-spells v s i Read q c t h = absurd (apart (sym h))
-end-spells v s i Write q c t h = absurd (apart (sym h))
+end-spells v s i Job q c t h = absurd (false≢true h)
+end-spells v s i Step q c t h = absurd (false≢true h)
+end-spells v s i In q c t h = absurd (false≢true h)
+end-spells v s i Out q c t h = absurd (false≢true h)
+end-spells v s i Read q c t h = absurd (false≢true h)
+end-spells v s i Write q c t h = absurd (false≢true h)
 
 -- ---- a step's line
 
@@ -143,7 +142,7 @@ step-spells v s i NewRoute c t r h =
     byte refl (λ far. other _ 112 _ far) (λ _. refl) (λ is.
     byte refl (λ far. other _ 32 _ far) (λ _. refl) (λ is.
     (refl, (refl, refl))))))))
-step-spells v s i JobPart c t r h = absurd (apart (sym r))
+step-spells v s i JobPart c t r h = absurd (false≢true r)
 
 pub in-spells : (v : Version) (s : List ℕ) (i : ℕ) (q : Part) (c : Line) (t : Lines)
     → Spells v s i (Digits Step q 0) c t (32 ∷ 40 ∷ 105 ∷ 110 ∷ []) (Past In q) (stored Step c) t

@@ -1,5 +1,6 @@
 // Rows 4, 2, 3 and 5 of a line.
 use crate::StepLine;
+use job::lines::places_fit;
 use lookup::Found;
 use refusal::Outcome;
 use route::Route;
@@ -16,17 +17,11 @@ ghost use Rattle.lookup.specs.inner.Hints.{Hinted};
 ghost use Rattle.route.specs.Flat.{stepsIn};
 ghost use Rattle.version.specs.Limits.{Limits};
 ghost use Rattle.version.specs.declared.Version.{Version};
-ghost use Rattle.job.specs.Lines.{placesFit, doneRow};
+ghost use Rattle.job.specs.Lines.{doneRow};
 ghost use Rattle.layout.specs.Text.{Form};
 ghost use Rattle.facts.specs.Forms.{formFits, formRow, recordOf};
 ghost use Rattle.line_reader.specs.inner.Lines.{entriesFit, lineFits, lineLists, IsForm};
 ghost use Rattle.line_reader.specs.inner.Rows.{headRow, newRow, jobRow};
-
-fn places_fit(n: u64) -> bool
-    ensures { λ r. ⌜ r ≡ placesFit n ⌝ }
-{
-    1 <= n && n <= Route::PLACES
-}
 
 pub fn head_row(n: u64, line: u64) -> Outcome
     ensures { λ r. ⌜ r ≡ headRow line n ⌝ }

@@ -2,7 +2,7 @@
 -- after all before it, with all places marked and 32 variables whose last writers have two digits. Where a search was
 -- needed 16 are kept, and it is shorter by far. Assumes nothing.
 use mathlib.Core.Path.{_≡_, refl, sym, ap, _∙_}
-use mathlib.Core.Bool.{Bool, true, false, cond}
+use mathlib.Core.Bool.{Bool, true, false, cond, false≢true}
 use mathlib.Core.List.{List, [], _∷_, _++_, map}
 use mathlib.Core.Option.{Option, none, some, Option·getD}
 use Prim.Native.Nat.{ℕ, zero, suc, _+_, _-_, _*_, _≤_, _<_}
@@ -112,11 +112,8 @@ module _ (l : List Step) (kept : ℕ) where
       split (λ (t : Bool). has (cond t (bitAnd (row l i) kept) 0) x ≡ true → x < i) (has kept i)
       (λ p q. ltb-true x i (both (ltb x i) _ (sym (row-exact l i x)
       ∙ both (has (row l i) x) (has kept x) (sym (has-and (row l i) kept x) ∙ q) .0) .0))
-      (λ p q. let z : _≡_ {A = ℕ} 0 1 = clash (sym (has-zero x) ∙ q) in absurd (omega arith))
+      (λ p q. absurd (false≢true (sym (has-zero x) ∙ q)))
       e
-    where
-      clash : false ≡ true → _≡_ {A = ℕ} 0 1
-      clash f = cc
 
   abbrev rows : List ℕ
   rows = map (afterOf l kept) (inTurn 0 64)

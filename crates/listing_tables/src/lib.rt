@@ -4,7 +4,6 @@ use emit::entries;
 use emit::entry;
 use emit::text;
 use listing_lines::figure;
-ghost use mathlib.Core.Path.{_≡_};
 ghost use Prim.Native.Nat.{_<_};
 ghost use Rattle.emit.specs.Emit.{Room, Emits};
 ghost use Rattle.listing_lines.specs.Lines.{afterLine, afterLines, valueLine, valueLines};

@@ -40,6 +40,13 @@ has-new m k = has-more m k k ∙ rw (eq-eqb k k refl) (or-true (has m k))
 pub has-old : (m k i : ℕ) → (i ≡ k → ⊥) → has (bitOr m (bit k)) i ≡ has m i
 has-old m k i h = has-more m k i ∙ rw (ne-eqb i k h) (or-false (has m i))
 
+pub one-more : (seen x i : ℕ) → has seen x ≡ false → one (has (bitOr seen (bit x)) i) ≡ one (has seen i) + one (eqb x i)
+one-more seen x i h = go (ℕ-discrete x i)
+  where
+    go : Dec (x ≡ i) → one (has (bitOr seen (bit x)) i) ≡ one (has seen i) + one (eqb x i)
+    go (yes e) = rw (← e, has-new seen x, h, eq-eqb x x refl)
+    go (no n) = rw (has-old seen x i (λ e. n (sym e)), ne-eqb x i n) (omega arith)
+
 -- members from v on
 from-on : (t : Bool) (v : ℕ) (l : List ℕ) → length (cond t (v ∷ l) l) ≡ one t + length l
 from-on true v l = omega arith

@@ -1,7 +1,10 @@
--- Laws on truth values, as code that tests in turn needs them.
+-- Laws on truth values and tests, as code that tests in turn needs them.
 -- Assumes nothing.
 use mathlib.Core.Path.{_≡_, refl, sym, ap, _∙_}
-use mathlib.Core.Bool.{Bool, true, false, _&&_}
+use mathlib.Core.Bool.{Bool, true, false, cond, _&&_, _||_}
+use Prim.Native.Nat.{ℕ}
+use lib.Dec.{eqb}
+use borrow.Author.Tests.{eqb-true, eqb-false}
 
 -- what follows of a test from either answer
 pub split {ℓ} : (P : Bool → Type ℓ) (t : Bool) → (t ≡ true → P true) → (t ≡ false → P false) → P t
@@ -19,3 +22,27 @@ and-no y p h = h ∙ ap (λ (b : Bool). b && y) (sym h ∙ p)
 pub both : (x y : Bool) → (x && y) ≡ true → (x ≡ true) × (y ≡ true)
 both true y e = (refl, e)
 both false y e = (e, cc)
+
+-- a disjunction, from what holds where its first side doesn't
+pub or-then : (x y : Bool) → (x ≡ false → y ≡ true) → (x || y) ≡ true
+or-then true y h = refl
+or-then false y h = h refl
+
+-- two tests are equal where each gives the other
+pub bool-ext : (x y : Bool) → (x ≡ true → y ≡ true) → (y ≡ true → x ≡ true) → x ≡ y
+bool-ext true y f g = sym (f refl)
+bool-ext false true f g = g refl
+bool-ext false false f g = refl
+
+-- a test in code: the answer where it holds, and else the other
+module _ {A : Type 0} (x y : A) {t b : Bool} (is : t ≡ b) where
+  pub cond-yes : t ≡ true → x ≡ cond b x y
+  cond-yes h = ap (λ (u : Bool). cond u x y) (sym h ∙ is)
+
+  pub cond-no : t ≡ false → y ≡ cond b x y
+  cond-no h = ap (λ (u : Bool). cond u x y) (sym h ∙ is)
+
+-- two numbers are the same or not
+pub either : {P : Type 0} (a b : ℕ) → (a ≡ b → P) → ((a ≡ b → ⊥) → P) → P
+either {P} a b same differ = split (λ (t : Bool). P) (eqb a b) (λ u. same (eqb-true a b u))
+    (λ u. differ (eqb-false a b u))

@@ -11,6 +11,7 @@ use lib.ListN.{length, getD}
 use borrow.Author.Tests.{leb-true, le-leb, eq-eqb}
 use Rattle.mask.specs.Mask.{has, membersFrom, members, count}
 use Rattle.mask.proofs.Members.{member-at}
+use Rattle.mask.proofs.Truth.{either, or-then}
 use Rattle.route.specs.Steps.{blank, lookup}
 use Rattle.refusal.specs.Rows.{pass, refuse, first}
 use Rattle.route.specs.declared.Step.{Step}
@@ -20,7 +21,6 @@ use Rattle.search.specs.Search.{isSome}
 use Rattle.matching.specs.Straight.{sameData, sameStep, runsStraight}
 use Rattle.matching.specs.Fit.{keptOf}
 use Rattle.matching.specs.KeptRows.{keptRow, keptLines, keptRows}
-use Rattle.matching.proofs.Either.{either}
 
 -- ---- one line
 
@@ -140,10 +140,6 @@ module _ (new l : List Step) (line kept : ℕ) where
 or-else : (x y : Bool) → (x || y) ≡ true → x ≡ false → y ≡ true
 or-else true y e f = cc
 or-else false y e f = e
-
-or-then : (x y : Bool) → (x ≡ false → y ≡ true) → (x || y) ≡ true
-or-then true y h = refl
-or-then false y h = h refl
 
 module _ (line from : ℕ) (new l : List Step) where
   abbrev kept : ℕ

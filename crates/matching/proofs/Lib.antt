@@ -1,7 +1,5 @@
 -- That the code gives what the specs say.
 pub mod AllOf
-pub mod Choice
-pub mod Either
 pub mod KeptLimit
 pub mod KeptRows
 pub mod KeptWrong

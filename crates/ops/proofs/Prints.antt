@@ -13,7 +13,6 @@ use Rattle.judging.specs.Judge.{judged, workAfter}
 use Rattle.answering.specs.Answer.{judgeStopped}
 use Rattle.answering.specs.declared.Judged.{Judged}
 use Rattle.judging.proofs.JudgeOperation as J
-use Rattle.matching.proofs.Choice.{cond-yes, cond-no}
 use Rattle.listing.specs.Listing.{listing}
 use Rattle.listing.specs.Written.{writtenFor, outAfter}
 use Rattle.listing.specs.declared.Written.{Written}
@@ -21,6 +20,7 @@ use Rattle.reader.specs.inner.Read.{ReadTo}
 use Rattle.reader.specs.declared.Counts.{Counts}
 use Rattle.ops.specs.Print.{sheetAnswer, printed, outPrinted, workPrinted}
 use Rattle.ops.proofs.ReadJob.{read-job}
+use Rattle.mask.proofs.Truth.{cond-yes, cond-no}
 
 -- ---- judge's answer to a sheet
 

@@ -6,7 +6,6 @@ use lib.ListN.{take}
 use borrow.Author.Tests.{eq-eqb, ne-eqb}
 use Rattle.facts.specs.Facts.{readOf}
 use Rattle.job.specs.Job.{Job, flatJob}
-use Rattle.matching.proofs.Choice.{cond-yes, cond-no}
 use Rattle.order_entries.specs.Entries.{tryStopped}
 use Rattle.trying.specs.Try.{tried}
 use Rattle.order_entries.specs.declared.Tried.{Tried}
@@ -14,6 +13,7 @@ use Rattle.reader.specs.inner.Read.{ReadTo}
 use Rattle.reader.specs.declared.Counts.{Counts}
 use Rattle.ops.specs.SheetTry.{triedFacts, triedSheet}
 use Rattle.ops.proofs.ReadJob.{read-job}
+use Rattle.mask.proofs.Truth.{cond-yes, cond-no}
 
 module _ (s order : List ℕ) (r : Counts) (old new done : List ℕ) (k : ReadTo s r old new done) where
   pub try-refused : (r .number ≡ 0 → ⊥) → (t : Tried) → t ≡ tryStopped (r .number) (r .second) → t ≡ triedSheet s order

@@ -9,8 +9,8 @@ use Rattle.refusal.specs.declared.Outcome.{Outcome}
 use Rattle.route.specs.declared.Step.{Step}
 use Rattle.precedence.specs.Table.{table}
 use Rattle.matching.specs.Fit.{keptOf}
-use Rattle.order_entries.specs.Entries.{tryStopped, listRow, tryFrom}
-use Rattle.order_entries.specs.inner.Replayable.{Replayable, byRows}
+use Rattle.order_entries.specs.Entries.{tryStopped, listRow, tryFrom, tryEntries}
+use Rattle.order_entries.specs.inner.Replayable.{Replayable}
 use Rattle.order_entries.specs.declared.Tried.{Tried}
 use Rattle.order_entries.proofs.Row17.{positions}
 use Rattle.order_entries.proofs.Entry.{Answers}
@@ -22,18 +22,18 @@ module _ (kept : ℕ) (o : List ℕ) (w : Outcome) (is : w ≡ listRow kept 0 1 
 
   module _ (l matches : List Step) (m : ℕ) (r : Tried) where
     picked : (new : List Step) → kept ≡ keptOf new l → (b : Bool) → t ≡ b
-        → cond b (tryFrom new l m 1 (positions o)) (tryStopped (w .number) (w .second)) ≡ byRows new l m o
-    unfolding byRows
+        → cond b (tryFrom new l m 1 (positions o)) (tryStopped (w .number) (w .second)) ≡ tryEntries new l m o
+    unfolding tryEntries
     picked new kept-is b e =
         ap (λ (x : Bool). cond x (tryFrom new l m 1 (positions o)) (tryStopped (w .number) (w .second))) (sym e ∙ test)
         ∙ ap (λ (x : Outcome). cond (eqb (x .number) 0) (tryFrom new l m 1 (positions o))
         (tryStopped (x .number) (x .second))) (is ∙ ap (λ (n : ℕ). listRow n 0 1 o) kept-is)
 
     pub rows-refused : not t ≡ true → r ≡ tryStopped (w .number) (w .second) → (new : List Step)
-        → Replayable new l kept matches → r ≡ byRows new l m o
+        → Replayable new l kept matches → r ≡ tryEntries new l m o
     rows-refused off e new ready = e ∙ picked new (ready .kept-is) false (not-true t off)
 
     pub rows-tried : (rows : List ℕ) → not t ≡ false → rows ≡ table l → Answers o kept rows matches m r
-        → (new : List Step) → Replayable new l kept matches → r ≡ byRows new l m o
+        → (new : List Step) → Replayable new l kept matches → r ≡ tryEntries new l m o
     rows-tried rows on rows-are answers new ready =
         answers new l ready rows-are ∙ picked new (ready .kept-is) true (not-false t on)

@@ -11,7 +11,7 @@ use lib.ListN.{getD}
 use borrow.Author.Tests.{eqb-true, ne-eqb, le-ltb, not-true}
 use Rattle.mask.specs.Mask.{has, bit, within}
 use Rattle.mask.proofs.Laws.{has-and, has-or, has-bit, within-all, all-within}
-use Rattle.mask.proofs.Truth.{split, both}
+use Rattle.mask.proofs.Truth.{split, both, either, bool-ext}
 use Rattle.route.specs.Steps.{blank}
 use Rattle.refusal.specs.Rows.{pass, refuse}
 use Rattle.route.specs.declared.Step.{Step}
@@ -19,7 +19,6 @@ use Rattle.precedence.specs.Precedence.{clash, comesAfter, row}
 use Rattle.precedence.specs.Order.{noneOf}
 use Rattle.precedence.proofs.Rows.{row-exact}
 use Rattle.order_entries.specs.Entries.{isKept, listRow}
-use Rattle.matching.proofs.Either.{either}
 use Rattle.order_entries.proofs.Row16.{passed-entry}
 
 -- the positions of occurrence numbers
@@ -64,13 +63,8 @@ module _ (kept : ℕ) (t : ℕ → Bool) where
   -- a test of those to come, as one on masks: r is the set of those that pass it
   left-test : (r seen at : ℕ) (o : List ℕ) → ((j : ℕ) → has r j ≡ t j) → listRow kept seen at o .number ≡ 0
       → noneOf t (positions o) ≡ within (bitAnd r kept) seen
-  left-test r seen at o is e = same (noneOf t (positions o)) (within (bitAnd r kept) seen) down up
+  left-test r seen at o is e = bool-ext (noneOf t (positions o)) (within (bitAnd r kept) seen) down up
     where
-      same : (x y : Bool) → (x ≡ true → y ≡ true) → (y ≡ true → x ≡ true) → x ≡ y
-      same true y h k = sym (h refl)
-      same false true h k = k refl
-      same false false h k = refl
-
       down : noneOf t (positions o) ≡ true → within (bitAnd r kept) seen ≡ true
       down n = all-within (bitAnd r kept) seen (λ v h.
           let (a, b) = both (has r v) (has kept v) (sym (has-and r kept v) ∙ h) in split

@@ -1,6 +1,6 @@
 -- Rows 16, 17 and 18: the entries of an order that somebody hands in.
 use mathlib.Core.Bool.{Bool, not, cond, _&&_}
-use mathlib.Core.List.{List, [], _∷_}
+use mathlib.Core.List.{List, [], _∷_, map}
 use Prim.Native.Nat.{ℕ, _+_, _-_}
 use lib.Dec.{eqb, leb}
 use lib.ListN.{getD}
@@ -13,6 +13,7 @@ use Rattle.route.specs.declared.Step.{Step}
 use Rattle.refusal.specs.declared.Outcome.{Outcome}
 use Rattle.precedence.specs.Precedence.{comesAfter}
 use Rattle.precedence.specs.Order.{noneOf}
+use Rattle.matching.specs.Fit.{keptOf}
 use Rattle.order_entries.specs.declared.Tried.{Tried}
 
 -- a refusal: its number and second number, no marking
@@ -42,3 +43,10 @@ tryFrom new l m at (i ∷ o) =
     (ifFires m (lookup (getD l i blank .name) new) (tryStopped 18 at) (tryStopped 18 at)
     (λ s m′. tryFrom new l m′ (at + 1) o))
     (tryStopped 17 at)
+
+-- 16, then 17 and 18, from a marking
+unfoldable pub tryEntries : List Step → List Step → ℕ → List ℕ → Tried
+tryEntries new l m o =
+    cond (eqb (listRow (keptOf new l) 0 1 o .number) 0)
+    (tryFrom new l m 1 (map (λ (b : ℕ). b - 1) o))
+    (tryStopped (listRow (keptOf new l) 0 1 o .number) (listRow (keptOf new l) 0 1 o .second))

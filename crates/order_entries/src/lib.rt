@@ -12,8 +12,8 @@ ghost use Rattle.mask.specs.Mask.{has};
 ghost use Rattle.route.specs.Flat.{stepsIn};
 ghost use Rattle.route.specs.declared.Step.{Step};
 ghost use Rattle.precedence.specs.Table.{table};
-ghost use Rattle.order_entries.specs.Entries.{tryStopped, isKept, listRow, tryFrom};
-ghost use Rattle.order_entries.specs.inner.Replayable.{Replayable, byRows};
+ghost use Rattle.order_entries.specs.Entries.{tryStopped, isKept, listRow, tryFrom, tryEntries};
+ghost use Rattle.order_entries.specs.inner.Replayable.{Replayable};
 
 // The marking at the end of the order, where it is accepted.
 pub struct Tried {
@@ -111,7 +111,7 @@ pub fn by_rows(
     requires { ⌜ ((i : ℕ) → has kept i ≡ true → i < length (stepsIn (now matches))) ⌝ }
     ensures { λ r. ⌜ ((new : List Step)
         → Replayable new (stepsIn (now (occurrences .entry))) kept (stepsIn (now (matches .entry)))
-        → r ≡ byRows new (stepsIn (now (occurrences .entry))) (from .tokens) (now (order .entry))) ⌝ }
+        → r ≡ tryEntries new (stepsIn (now (occurrences .entry))) (from .tokens) (now (order .entry))) ⌝ }
 {
     let o = check_list(order, kept);
     if !o.passed() {

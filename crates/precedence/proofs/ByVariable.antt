@@ -1,7 +1,7 @@
 -- Loops over the variables of a mask, from the lowest up: the union of the entries there, and one more occurrence at
 -- each.
 use mathlib.Core.Path.{_≡_, refl, sym, ap, ap₂, _∙_}
-use mathlib.Core.Bool.{Bool, true, false, not, cond, _&&_, _||_, or-false, and-true, and-false}
+use mathlib.Core.Bool.{Bool, true, false, not, cond, _&&_, _||_, or-false, and-true, and-false, and-or-distrib-left}
 use mathlib.Core.List.{List}
 use Prim.Native.Nat.{ℕ, _+_, _-_, _*_, _^_, _<_}
 use native.Mathlib.Omega.{arith}
@@ -18,9 +18,9 @@ use Rattle.mask.specs.Mask.{has, bit, meets, collect}
 use Rattle.mask.proofs.Laws.{has-or, has-zero, has-ext, has-collect, collect-hit, collect-miss}
 use Rattle.mask.proofs.Truth.{both}
 use Rattle.mask.proofs.Lowest.{lowest-of, has-less-lowest, meets-less}
+use Rattle.mask.proofs.Sets.{or-meets}
 use Rattle.precedence.specs.inner.ByVariable.{ByVariable, meeting, Gathers, Joins}
 use Rattle.precedence.proofs.Filled.{zeros-at}
-use Rattle.precedence.proofs.Meeting.{or-meets, and-either}
 
 -- what is gathered so far, and the entries at the variables that are left
 pub record Gathering (by : List ℕ) (vars left m : ℕ) : Type 0 where
@@ -71,7 +71,7 @@ meeting-or f g vars n = has-ext (bitOr (meeting f vars n) (meeting g vars n))
         has-or (meeting f vars n) (meeting g vars n) j
         ∙ ap₂ (λ (x y : Bool). x || y) (has-collect (λ (j : ℕ). meets (f j) vars) n j)
         (has-collect (λ (j : ℕ). meets (g j) vars) n j)
-        ∙ and-either (ltb j n) (meets (f j) vars) (meets (g j) vars)
+        ∙ sym (and-or-distrib-left (ltb j n) (meets (f j) vars) (meets (g j) vars))
         ∙ ap (λ (t : Bool). ltb j n && t) (sym (or-meets (f j) (g j) vars))
         ∙ sym (has-collect (λ (j : ℕ). meets (bitOr (f j) (g j)) vars) n j)
 

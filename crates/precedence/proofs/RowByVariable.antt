@@ -11,12 +11,12 @@ use lib.Bits.{bitAnd, bitOr}
 use lib.ListN.{getD}
 use Rattle.mask.specs.Mask.{has, bit, meets}
 use Rattle.mask.proofs.Laws.{has-or, has-and, has-ext, has-below, has-collect, meets-or}
+use Rattle.mask.proofs.Sets.{meets-comm, or-meets}
 use Rattle.route.specs.Steps.{blank}
 use Rattle.route.specs.declared.Step.{Step}
 use Rattle.precedence.specs.Precedence.{clash, comesAfter, row}
 use Rattle.precedence.specs.inner.ByVariable.{meeting}
 use Rattle.precedence.proofs.Rows.{row-exact}
-use Rattle.precedence.proofs.Meeting.{meets-comm, or-meets}
 
 -- what each occurrence reads, what it writes, and both
 abbrev pub readBy : List Step → ℕ → ℕ

@@ -1,7 +1,7 @@
 -- The done lines, to the end of the bytes.
 -- Assumes nothing.
 use mathlib.Core.Path.{_≡_, refl, sym, ap, _∙_, subst}
-use mathlib.Core.Bool.{true, false, not}
+use mathlib.Core.Bool.{true, false, not, false≢true}
 use mathlib.Core.List.{List, [], _∷_}
 use Prim.Native.Nat.{ℕ, _+_, _-_, _%_, _^_, _≤_, _<_}
 use native.Mathlib.Omega.{arith}
@@ -29,7 +29,6 @@ use Rattle.line_reader.specs.inner.Lines.{headWord, NumberedOn}
 use Rattle.reader.specs.inner.Prefix.{backDones, oldState, newState, jobState, stateOf, Prefix, Upto, passed}
 use Rattle.reader.specs.inner.Prefix.{brokenAt, Placed, withDones, DonesOn}
 use Rattle.reader.specs.declared.Pass.{Pass}
-use Rattle.tokens.proofs.Bytes.{apart}
 use Rattle.line_reader.proofs.LineTexts.{done-spells}
 use Rattle.reader.proofs.PrefixStep.{settled-no, more-on, more-refused, prefix-of, upto-held, upto-broken}
 
@@ -173,7 +172,7 @@ dones-passes v s p list b h e is =
     (record {
       within = h .within;
       few = omega arith;
-      all = λ z. absurd (apart (sym z));
+      all = λ z. absurd (false≢true z);
       goes = λ z zero u. upto-broken v s (p .at) (p .ok) JobPart JobPart _ _ e u;
     })
 
@@ -187,7 +186,7 @@ module _ (v : Version) (s : List ℕ) (p : Pass) (list₀ list : List ℕ) (outc
       (record {
         within = hn .within;
         few = omega arith;
-        all = λ z. absurd (apart (sym z));
+        all = λ z. absurd (false≢true z);
         goes = λ z zero u. done-breaks v s list₀ list (p .at) (p .lines) (p .outcome) outcome lines at len h inside n hn
             bad z _ zero (upto-held v s (p .at) (p .ok) JobPart _ held u);
       })

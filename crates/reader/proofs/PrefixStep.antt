@@ -1,7 +1,7 @@
 -- One more line over the lines so far, and the lines so far at the end of the bytes.
 -- Assumes nothing.
 use mathlib.Core.Path.{_≡_, refl, sym, ap, _∙_}
-use mathlib.Core.Bool.{Bool, true, false, not, cond}
+use mathlib.Core.Bool.{Bool, true, false, not, cond, true≢false, false≢true}
 use mathlib.Core.List.{List, [], _∷_, reverseAux}
 use Prim.Native.Nat.{ℕ, _+_}
 use lib.Dec.{eqb}
@@ -17,7 +17,6 @@ use Rattle.layout.specs.declared.Point.the-variants.{Open}
 use Rattle.facts.specs.Facts.{State, failed, settled, newHead, jobHead, more, moreSteps, moreDones, factsOf}
 use Rattle.facts.specs.declared.Sheet.{Sheet}
 use Rattle.tokens.specs.inner.Tokens.{Reached}
-use Rattle.tokens.proofs.Bytes.{apart}
 use Rattle.reader.specs.inner.Prefix.{backSteps, backDones, oldState, newState, jobState, stateOf, Prefix, Upto}
 use Rattle.reader.specs.inner.Prefix.{passed, brokenAt}
 
@@ -70,17 +69,17 @@ pub upto-held : (v : Version) (s : List ℕ) (i : ℕ) (ok : Bool) (q : Part) (k
     → Upto v s i ok q k → Prefix v s i q k
 unfolding Upto
 upto-held v s i true q k e h = h
-upto-held v s i false q k e h = absurd (apart e)
+upto-held v s i false q k e h = absurd (true≢false e)
 
 pub upto-on : (v : Version) (s : List ℕ) (i : ℕ) (ok : Bool) (q : Part) (k : State) → not ok ≡ false → Upto v s i ok q k
     → Upto v s i true q k
 upto-on v s i true q k e h = h
-upto-on v s i false q k e h = absurd (apart e)
+upto-on v s i false q k e h = absurd (true≢false e)
 
 pub upto-broken : (v : Version) (s : List ℕ) (i : ℕ) (ok : Bool) (q q′ : Part) (k k′ : State) → not ok ≡ true
     → Upto v s i ok q k → Upto v s i false q′ k′
 unfolding Upto
-upto-broken v s i true q q′ k k′ e h = absurd (apart (sym e))
+upto-broken v s i true q q′ k k′ e h = absurd (false≢true e)
 upto-broken v s i false q q′ k k′ e h = h
 
 -- ---- all lines

@@ -1,7 +1,7 @@
 -- The steps of a route, line by line.
 -- Assumes nothing.
 use mathlib.Core.Path.{_≡_, refl, sym, ap, ap₂, _∙_, subst}
-use mathlib.Core.Bool.{Bool, true, false, not, cond}
+use mathlib.Core.Bool.{Bool, true, false, not, cond, false≢true}
 use mathlib.Core.List.{List, [], _∷_, _++_, append-nil}
 use Prim.Native.Nat.{ℕ, zero, suc, _+_, _-_, _*_, _^_, _≤_, _<_}
 use native.Mathlib.Omega.{arith}
@@ -32,7 +32,6 @@ use Rattle.facts.specs.Forms.{formFits, formRow, recordOf}
 use Rattle.facts.specs.Facts.{State, settled, stepped, stepIn, more}
 use Rattle.facts.specs.declared.Sheet.{Sheet}
 use Rattle.refusal.proofs.Rows.{head-passed, unless-elim}
-use Rattle.tokens.proofs.Bytes.{apart}
 use Rattle.line_reader.specs.inner.Lines.{hasSteps, IsForm, StepOn}
 use Rattle.reader.specs.inner.Prefix.{backSteps, oldState, newState, stateOf, Prefix, Upto, passed, brokenAt}
 use Rattle.reader.specs.inner.Prefix.{Placed, bare, withRoute, StepsOn}
@@ -48,7 +47,7 @@ step-state : (v : Version) (q : Part) (t : Lines) (f : Form) → hasSteps q ≡ 
 unfolding hasSteps stateOf oldState newState backSteps putStep
 step-state v OldRoute t f h = refl
 step-state v NewRoute t f h = refl
-step-state v JobPart t f h = absurd (apart (sym h))
+step-state v JobPart t f h = absurd (false≢true h)
 
 route-number : (q : Part) (r : Route) (z : Sheet) → withRoute q r z .number ≡ z .number
 unfolding withRoute
@@ -62,7 +61,7 @@ step-settled : (v : Version) (q : Part) (line : ℕ) (f : Form) (r : Route) (z :
 unfolding hasSteps stepIn withRoute
 step-settled v OldRoute line f r z h = refl
 step-settled v NewRoute line f r z h = refl
-step-settled v JobPart line f r z h = absurd (apart (sym h))
+step-settled v JobPart line f r z h = absurd (false≢true h)
 
 few-steps : (r : Route) → r .len ≤ 64 → stepsOf r ≡ take (r .len) (r .steps)
 unfolding stepsOf
@@ -308,7 +307,7 @@ steps-passes v s p places list b h e is =
     (record {
       placed = broken-placed s (p .at) (h .within);
       few = omega arith;
-      over = λ z. absurd (apart (sym z));
+      over = λ z. absurd (false≢true z);
       goes = λ q z r nil u. upto-broken v s (p .at) (p .ok) q q _ _ e u;
     })
 
@@ -322,7 +321,7 @@ module _ (v : Version) (s : List ℕ) (p : Pass) (places : ℕ) (list hint : Lis
       (record {
         placed = broken-placed s (l .at) (hl .within);
         few = omega arith;
-        over = λ z. absurd (apart (sym z));
+        over = λ z. absurd (false≢true z);
         goes = λ q z r nil u. step-breaks v s places list hint (p .at) (p .lines) (p .outcome) outcome lines at len h l
             hl x test so bad q z _ r nil (upto-held v s (p .at) (p .ok) q _ held u);
       })

@@ -19,6 +19,12 @@ unfolding first unless
 row-refuses t n k l e z = ap (λ (x : Bool). first (unless x n k ∷ l)) e
     ∙ ap (λ (x : Bool). cond x (first l) (refuse n k)) z
 
+-- one row alone
+pub first-unless : (t : Bool) (n k : ℕ) → eqb n 0 ≡ false → first (unless t n k ∷ []) ≡ unless t n k
+unfolding first unless
+first-unless true n k z = refl
+first-unless false n k z = ap (λ (x : Bool). cond x pass (refuse n k)) z
+
 pub rows-end : first [] ≡ pass
 unfolding first
 rows-end = refl
@@ -146,3 +152,14 @@ unless-no t n k e = ap (λ (x : Bool). cond x pass (refuse n k)) e
 pub unless-yes : (t : Bool) (n k : ℕ) → t ≡ true → unless t n k ≡ pass
 unfolding unless
 unless-yes t n k e = ap (λ (x : Bool). cond x pass (refuse n k)) e
+
+-- a row that refuses, after any others
+pub ends-refused : (a : List Outcome) (k : ℕ) → eqb (first (a ++ (refuse 4 k ∷ [])) .number) 0 ≡ false
+unfolding first
+ends-refused [] k = refl
+ends-refused (o ∷ a) k = go (eqb (o .number) 0) refl (ends-refused a k)
+  where
+    go : (t : Bool) → eqb (o .number) 0 ≡ t → eqb (first (a ++ (refuse 4 k ∷ [])) .number) 0 ≡ false
+        → eqb (cond t (first (a ++ (refuse 4 k ∷ []))) o .number) 0 ≡ false
+    go true e h = h
+    go false e h = e

@@ -1,5 +1,5 @@
 -- Laws on steps and firing, which proofs of this crate and of those above it cite.
-pub mod Full
+pub mod RouteLength
 pub mod StepList
 pub mod FlatSteps
 pub mod LaidSteps

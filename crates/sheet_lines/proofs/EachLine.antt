@@ -12,7 +12,7 @@ use Rattle.emit.proofs.Loops.{Left, left-as, left-room, left-turn, left-end}
 use Rattle.route.specs.declared.Step.{Step}
 use Rattle.layout.specs.Text.{stepLine, stepLines, wordLine, doneLines}
 use Rattle.layout.specs.declared.Word.the-variants.{Done}
-use Rattle.facts.specs.Back.{formOf}
+use Rattle.facts.specs.LinesOf.{formOf}
 use Rattle.sheet_lines.proofs.TextsInFront.{step-front, word-front}
 
 -- the lines of a list are those of its entries in turn

@@ -14,7 +14,7 @@ use Rattle.layout.specs.Words.{spelling}
 use Rattle.layout.specs.Text.{listed, stepLine, wordLine, jobLine, stepLines, doneLines, jobText}
 use Rattle.layout.specs.declared.Word.{Word}
 use Rattle.layout.specs.declared.Word.the-variants as W
-use Rattle.facts.specs.Back.{formOf}
+use Rattle.facts.specs.LinesOf.{formOf}
 use Rattle.sheet_lines.specs.inner.Parts.{opening, closing, lists, routeText}
 use Rattle.sheet_lines.proofs.TextsInFront.{number-is, entries-are, listed-front, lists-front, word-front}
 

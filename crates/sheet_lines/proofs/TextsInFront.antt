@@ -14,7 +14,7 @@ use Rattle.layout.specs.Text.{Form, digits, number, entries, listed, stepLine, 
 use Rattle.layout.specs.declared.Word.{Word}
 use Rattle.layout.specs.declared.Word.the-variants.{In, Out, Read, Write}
 use Rattle.layout.specs.declared.Word.the-variants as W
-use Rattle.facts.specs.Back.{formOf}
+use Rattle.facts.specs.LinesOf.{formOf}
 use Rattle.sheet_lines.specs.inner.Parts.{lists, routeText}
 
 -- the digits of a sheet's number and those of an emitter's are the same

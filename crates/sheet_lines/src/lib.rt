@@ -11,7 +11,7 @@ ghost use Rattle.emit.specs.Emit.{Room, Emits};
 ghost use Rattle.route.specs.Flat.{stepsIn};
 ghost use Rattle.layout.specs.Words.{spelling};
 ghost use Rattle.layout.specs.Text.{listed, stepLine, stepLines, wordLine, doneLines, jobText};
-ghost use Rattle.facts.specs.Back.{formOf};
+ghost use Rattle.facts.specs.LinesOf.{formOf};
 ghost use Rattle.sheet_lines.specs.inner.Parts.{opening, closing, lists, routeText};
 
 // The letters of a word, from the table.

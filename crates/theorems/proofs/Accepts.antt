@@ -19,13 +19,14 @@ use Rattle.search.specs.Search.{isSome}
 use Rattle.matching.specs.Straight.{sameStep, fireAll, stepsOn, runsStraight}
 use Rattle.matching.specs.Fit.{keptOf, KeptFit, FitAt, Fit}
 use Rattle.matching.specs.KeptRows.{keptRows}
-use Rattle.order_entries.specs.Entries.{tryStopped, tryAccepted, listRow, tryFrom}
+use Rattle.order_entries.specs.Entries.{tryStopped, tryAccepted, listRow, tryFrom, tryEntries}
 use Rattle.trying.specs.Try.{sameList, tryList, tryRows, tried}
 use Rattle.order_entries.specs.declared.Tried.{Tried}
 use Rattle.theorems.specs.Demand3.{Runs, stepsDone, positions, FitFor}
 use Rattle.refusal.proofs.Rows.{cond-zero, cond-zero-elim}
 use Rattle.theorems.proofs.Runs.{steps-short}
-use Rattle.theorems.proofs.Entries.{eachOnce-has, allOf-stepsOn-intro, stepsOn-inTurn}
+use Rattle.precedence.proofs.Times.{eachOnce-has}
+use Rattle.theorems.proofs.Entries.{allOf-stepsOn-intro, stepsOn-inTurn}
 use Rattle.theorems.proofs.FitList.{endOf, straight-fires, fit-fires}
 use Rattle.theorems.proofs.KeptRows.{KeptPass, fit-pass, keptRows-elim, keptRows-intro}
 use Rattle.theorems.proofs.ListRow.{listRow-elim, listRow-intro}
@@ -78,11 +79,10 @@ module _ (from : ℕ) (new l : List Step) (o : List ℕ) where
 
   -- rows 16 to 18
   abbrev byRows : Tried
-  byRows = cond (eqb (listRow (keptOf new l) 0 1 o .number) 0) (tryFrom new l from 1 (positions o))
-      (tryStopped (listRow (keptOf new l) 0 1 o .number) (listRow (keptOf new l) 0 1 o .second))
+  byRows = tryEntries new l from o
 
   rows-taken : KeptPass from new l → byRows .number ≡ 0 → Taken from new l o byRows
-  unfolding isSome
+  unfolding isSome tryEntries
   rows-taken k e =
       let (row, is) = cond-zero-elim (λ (t : Tried). t .number) (listRow (keptOf new l) 0 1 o .number) _ _ refl e in
       let (n, c) = listRow-elim (keptOf new l) o row in
@@ -118,6 +118,7 @@ module _ (from : ℕ) (new l : List Step) (o : List ℕ) where
       go false h e = rows-taken k e
 
   taken-rows : (p : List ℕ) → o ≡ map suc p → KeptFit from new l p → byRows .number ≡ 0
+  unfolding tryEntries
   taken-rows p e f =
       let own : positions o ≡ p = ap positions e ∙ positions-suc p in
       let row : listRow (keptOf new l) 0 1 o .number ≡ 0 =

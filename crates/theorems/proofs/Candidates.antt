@@ -1,17 +1,17 @@
 -- Candidates are numbered in the rising order of their positions. So a list of candidates and the list of their
 -- positions have the same counts and the same dictionary order.
 use mathlib.Core.Path.{_≡_, refl, sym, ap₂, _∙_}
-use mathlib.Core.Bool.{Bool, true, false, cond}
+use mathlib.Core.Bool.{Bool, cond}
 use mathlib.Core.List.{List, [], _∷_, map}
-use Prim.Native.Nat.{ℕ, zero, suc, _+_, _≤_, _<_}
+use Prim.Native.Nat.{ℕ, zero, suc, _+_, _<_}
 use native.Mathlib.Omega.{arith}
 use native.Mathlib.Decide.{ℕ-discrete, decLt}
 use lib.Dec.{eqb}
 use lib.ListN.{length, getD}
 use borrow.Author.Tests.{eq-eqb, ne-eqb}
-use Rattle.mask.specs.Mask.{has, membersFrom, members}
+use Rattle.mask.proofs.Members.{Rises}
 use Rattle.precedence.specs.Order.{times}
-use Rattle.theorems.proofs.Entries.{times-head, times-cons-elim}
+use Rattle.precedence.proofs.Times.{times-head, times-cons-elim}
 
 -- ---- the entries of a list, by their positions in it
 
@@ -37,44 +37,6 @@ unfolding times
 map-entry f [] i n = absurd (omega arith)
 map-entry f (x ∷ o) i n = times-cons-elim (λ i. (y : ℕ) × (0 < times y (x ∷ o)) × (f y ≡ i)) (f x) (map f o)
     (x, times-head x (times x o), refl) (λ i n. let (y, h, e) = map-entry f o i n in (y, omega arith, e)) i n
-
--- ---- rising lists
-
-abbrev pub Rises : List ℕ → Type 0
-Rises ks = (j k : ℕ) → j < k → k < length ks → getD ks j 0 < getD ks k 0
-
-from-low : (c v m k : ℕ) → k < length (membersFrom v c m) → v ≤ getD (membersFrom v c m) k 0
-unfolding membersFrom
-from-low zero v m k h = absurd (omega arith)
-from-low (suc c) v m k h = go (has m v) k h (from-low c (suc v) m)
-  where
-    rest : List ℕ
-    rest = membersFrom (suc v) c m
-
-    go : (t : Bool) (k : ℕ) → k < length (cond t (v ∷ rest) rest)
-        → ((k : ℕ) → k < length rest → suc v ≤ getD rest k 0) → v ≤ getD (cond t (v ∷ rest) rest) k 0
-    go true zero h ih = omega arith
-    go true (suc k) h ih = omega (arith, ih k (omega arith))
-    go false k h ih = omega (arith, ih k h)
-
-from-rises : (c v m : ℕ) → Rises (membersFrom v c m)
-unfolding membersFrom
-from-rises zero v m j k l h = absurd (omega arith)
-from-rises (suc c) v m j k l h = go (has m v) j k l h (from-rises c (suc v) m)
-  where
-    rest : List ℕ
-    rest = membersFrom (suc v) c m
-
-    go : (t : Bool) (j k : ℕ) → j < k → k < length (cond t (v ∷ rest) rest) → Rises rest
-        → getD (cond t (v ∷ rest) rest) j 0 < getD (cond t (v ∷ rest) rest) k 0
-    go true zero (suc k) l h ih = from-low c (suc v) m k (omega arith)
-    go true (suc j) (suc k) l h ih = ih j k (omega arith) (omega arith)
-    go true j zero l h ih = absurd (omega arith)
-    go false j k l h ih = ih j k l h
-
-pub members-rise : (w m : ℕ) → Rises (members w m)
-unfolding members
-members-rise w m = from-rises w 0 m
 
 module _ (ks : List ℕ) (up : Rises ks) where
   abbrev at : ℕ → ℕ

@@ -5,7 +5,7 @@ use Prim.Native.Nat.{ℕ, suc, _<_}
 use native.Mathlib.Omega.{arith}
 use Rattle.precedence.specs.Order.{times}
 use Rattle.search.specs.Dictionary.{NotAfter, beginning, smaller, same}
-use Rattle.theorems.proofs.Entries.{times-head}
+use Rattle.precedence.proofs.Times.{times-head}
 
 pub notAfter-map : (f : ℕ → ℕ) {a b : List ℕ} → ((x y : ℕ) → x < y → 0 < times y b → f x < f y) → NotAfter a b
     → NotAfter (map f a) (map f b)

@@ -21,13 +21,15 @@ use Rattle.search.specs.Dictionary.{NotAfter}
 use Rattle.candidates.specs.Placing.{placeNext}
 use Rattle.candidates.specs.FirstFit.{firstOf, firstFit}
 use Rattle.search.proofs.Finds.{Allowed, search-sound, search-complete, search-least}
-use Rattle.theorems.proofs.Entries.{eachOnce-has, has-eachOnce, allOf-stepsOn-intro}
+use Rattle.precedence.proofs.Times.{eachOnce-has, has-eachOnce}
+use Rattle.theorems.proofs.Entries.{allOf-stepsOn-intro}
 use Rattle.mask.proofs.Count.{one, count-none, count-full}
-use Rattle.theorems.proofs.EachOnce.{marks, fresh, fresh-times, fresh-count, length-eachOnce}
+use Rattle.mask.proofs.Members.{members-rise}
+use Rattle.precedence.proofs.EachOnce.{marks, fresh, fresh-times, fresh-count, length-eachOnce}
 use Rattle.theorems.proofs.KeptRows.{KeptPass, kept-short, all-kept}
 use Rattle.theorems.proofs.FitList.{fit-fires}
 use Rattle.theorems.proofs.Dictionary.{notAfter-map}
-use Rattle.theorems.proofs.Candidates.{Below, entry-at, at-entry, map-entry, members-rise, times-at, find-at}
+use Rattle.theorems.proofs.Candidates.{Below, entry-at, at-entry, map-entry, times-at, find-at}
 use Rattle.theorems.proofs.Placed.{allowed-placed, placed-allowed}
 
 map-some : {A B : Type 0} (f : A → B) (q : Option A) (b : B) → Option·map f q ≡ some b

@@ -7,7 +7,7 @@ use native.Mathlib.Omega.{arith}
 use lib.Dec.{eqb}
 use borrow.Author.Tests.{eqb-true}
 use Rattle.precedence.specs.Order.{times}
-use Rattle.theorems.proofs.Entries.{times-head}
+use Rattle.precedence.proofs.Times.{times-head}
 
 -- k is r with x put in somewhere
 pub data Insertion (x : ℕ) : List ℕ → List ℕ → Type 0 where

@@ -33,7 +33,7 @@ use Rattle.refusal.proofs.Rows.{cond-zero}
 use Rattle.precedence.proofs.InTurn.{length-inTurn}
 use Rattle.theorems.proofs.Runs.{done-length, steps-short}
 use Rattle.mask.proofs.Count.{count-most}
-use Rattle.theorems.proofs.EachOnce.{length-eachOnce}
+use Rattle.precedence.proofs.EachOnce.{length-eachOnce}
 use Rattle.theorems.proofs.Dictionary.{notAfter-suc, notAfter-antisym}
 use Rattle.theorems.proofs.KeptRows.{KeptPass, kept-short, fit-pass, keptRows-elim, keptRows-intro}
 use Rattle.theorems.proofs.KeptRows.{keptRows-most}

@@ -4,27 +4,26 @@ use mathlib.Core.Path.{_≡_, refl, sym, ap, _∙_}
 use mathlib.Core.Logic.{inl, inr}
 use mathlib.Core.Bool.{Bool, true, false, _||_, true≢false}
 use mathlib.Core.List.{List, [], _∷_}
-use mathlib.Core.Option.{Option, none, some}
 use Prim.Native.Nat.{ℕ, _+_, _≤_, _<_}
 use native.Mathlib.Omega.{arith}
 use lib.Dec.{leb}
 use lib.ListN.{length, getD}
 use borrow.Author.Tests.{le-leb}
 use Rattle.mask.specs.Mask.{has, members, count}
-use Rattle.route.specs.Steps.{blank, lookup}
+use Rattle.mask.proofs.Truth.{or-then}
+use Rattle.route.specs.Steps.{blank}
 use Rattle.refusal.specs.Rows.{first}
 use Rattle.route.specs.declared.Step.{Step}
 use Rattle.refusal.specs.declared.Outcome.{Outcome}
-use Rattle.refusal.proofs.Rows.{row-passes, rows-end, cond-zero, unless-number, first-number}
+use Rattle.refusal.proofs.Rows.{row-passes, cond-zero, unless-number, first-number}
 use Rattle.slice.specs.Slice.{variables}
 use Rattle.precedence.specs.Order.{times, EachOnce}
 use Rattle.slice.proofs.Sweep.{kept-below}
-use Rattle.search.specs.Search.{isSome}
-use Rattle.matching.specs.Straight.{sameData, sameStep, runsStraight}
+use Rattle.matching.specs.Straight.{sameStep, runsStraight}
 use Rattle.matching.specs.Fit.{keptOf, FitAt}
 use Rattle.matching.specs.KeptRows.{keptRow, keptLines, keptRows}
-use Rattle.theorems.proofs.Entries.{times-head, eachOnce-has, has-eachOnce}
-use Rattle.matching.proofs.KeptRows.{limit-holds, members-same}
+use Rattle.precedence.proofs.Times.{times-head, eachOnce-has, has-eachOnce}
+use Rattle.matching.proofs.KeptRows.{limit-holds, members-same, row-same}
 use Rattle.theorems.proofs.Candidates.{at-entry}
 use Rattle.theorems.proofs.MembersOrder.{members-eachOnce}
 use Rattle.theorems.proofs.FitList.{straight-same, fit-same}
@@ -33,19 +32,6 @@ use Rattle.theorems.proofs.FitList.{straight-same, fit-same}
 pub record KeptPass (from : ℕ) (new l : List Step) : Type 0 where
   pub limit : runsStraight from new l ≡ false → count 64 (keptOf new l) ≤ 16
   pub same : (i : ℕ) → has (keptOf new l) i ≡ true → sameStep new (getD l i blank) ≡ true
-
--- ---- one line
-
-same-row : (new : List Step) (line : ℕ) (s : Step) → sameStep new s ≡ true → keptRow new line s .number ≡ 0
-unfolding keptRow sameStep sameData isSome
-same-row new line s h =
-    ap (λ (o : Outcome). o .number)
-    (row-passes (isSome (lookup (s .name) new)) 11 line _ (there (lookup (s .name) new) h)
-    ∙ row-passes (sameStep new s) 12 line [] h ∙ rows-end)
-  where
-    there : (q : Option Step) → sameData s q ≡ true → isSome q ≡ true
-    there none h = h
-    there (some t) h = refl
 
 -- ---- the lines in turn
 
@@ -56,7 +42,7 @@ same-lines new l line [] h = refl
 same-lines new l line (x ∷ o) h =
     rw (cond-zero (keptRow new (line + x) (getD l x blank) .number) (first (keptLines new l line o))
     (keptRow new (line + x) (getD l x blank))
-    (same-row new (line + x) (getD l x blank) (h x (times-head x (times x o)))))
+    (ap (λ (o : Outcome). o .number) (row-same new (line + x) (getD l x blank) (h x (times-head x (times x o))))))
     (same-lines new l line o (λ i n. h i (omega arith)))
 
 -- ---- all rows
@@ -103,10 +89,6 @@ fit-pass from new l p (inr k) = record {
   same = λ i h. fit-same from new l p (inr k) i (has-eachOnce (keptOf new l) p (k .once) i h);
 }
 
-or-holds : (x y : Bool) → (x ≡ false → y ≡ true) → (x || y) ≡ true
-or-holds true y h = refl
-or-holds false y h = h refl
-
 -- the kept in turn hold each kept occurrence once
 pub all-kept : (new l : List Step) → length l ≤ 64 → EachOnce (keptOf new l) (members 64 (keptOf new l))
 all-kept new l short = members-eachOnce 64 (keptOf new l) (λ i h. omega (arith, kept-short new l i h))
@@ -128,6 +110,6 @@ module _ (from : ℕ) (new l : List Step) (short : length l ≤ 64) where
   unfolding keptRows
   keptRows-intro line p =
       ap (λ (o : Outcome). o .number) (row-passes (runsStraight from new l || limited) 10 line _
-      (or-holds (runsStraight from new l) limited (λ h. le-leb (count 64 (keptOf new l)) 16 (p .limit h))))
+      (or-then (runsStraight from new l) limited (λ h. le-leb (count 64 (keptOf new l)) 16 (p .limit h))))
       ∙ same-lines new l (line + 1) (members 64 (keptOf new l))
       (λ i n. p .same i (eachOnce-has (keptOf new l) (members 64 (keptOf new l)) (all-kept new l short) i n))

@@ -1,6 +1,6 @@
 -- The number that is shown for a variable is that of its last writer, and 0 exactly when no occurrence writes it.
-use mathlib.Core.Path.{_≡_, refl, ap}
-use mathlib.Core.Bool.{Bool, true, false, cond}
+use mathlib.Core.Path.{_≡_, refl, ap, sym, _∙_}
+use mathlib.Core.Bool.{Bool, true, false, cond, true≢false}
 use mathlib.Core.List.{List, [], _∷_}
 use Prim.Native.Nat.{ℕ, zero, suc, _+_, _<_}
 use native.Mathlib.Omega.{arith}
@@ -66,12 +66,9 @@ some-from v i (s ∷ l) j e = go (eqb later 0) (has (s .writes) v) refl refl e (
 one-last : (l : List Step) (n v i j : ℕ) → LastWriter l n v i → LastWriter l n v j → i ≡ j
 one-last l n v i j a b = go (decLt i j) (decLt j i)
   where
-    clash : {t : Bool} → t ≡ true → t ≡ false → ⊥
-    clash p q = let z : _≡_ {A = ℕ} 0 1 = cc in omega arith
-
     go : Dec (i < j) → Dec (j < i) → i ≡ j
-    go (yes h) d = absurd (clash (b .writer) (a .last j h (b .earlier)))
-    go (no h) (yes d) = absurd (clash (a .writer) (b .last i d (a .earlier)))
+    go (yes h) d = absurd (true≢false (sym (b .writer) ∙ a .last j h (b .earlier)))
+    go (no h) (yes d) = absurd (true≢false (sym (a .writer) ∙ b .last i d (a .earlier)))
     go (no h) (no d) = omega arith
 
 module _ (l : List Step) (v : ℕ) where

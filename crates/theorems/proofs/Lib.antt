@@ -11,7 +11,6 @@ pub mod KeptValues
 pub mod Replayed
 pub mod Fires
 pub mod Runs
-pub mod EachOnce
 pub mod FitList
 pub mod Dictionary
 pub mod Candidates

@@ -14,7 +14,7 @@ use Rattle.refusal.specs.Rows.{pass, refuse}
 use Rattle.precedence.specs.Order.{EachOnce}
 use Rattle.order_entries.specs.Entries.{isKept, listRow}
 use Rattle.theorems.specs.Demand3.{positions}
-use Rattle.theorems.proofs.EachOnce.{marks, fresh, marks-old, eachOnce-elim, eachOnce-intro}
+use Rattle.precedence.proofs.EachOnce.{marks, fresh, marks-old, eachOnce-elim, eachOnce-intro}
 use Rattle.mask.proofs.Count.{has-new}
 
 -- a list of numbers from 1 on is that of its positions

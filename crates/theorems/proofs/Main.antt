@@ -29,12 +29,12 @@ use Rattle.layout.specs.Begins.{IsSheet, FirstBroken}
 use Rattle.facts.specs.Facts.{factsOf, readOf}
 use Rattle.facts.specs.JobPart.{jobPart}
 use Rattle.facts.specs.SheetRows.{sheetOf}
-use Rattle.facts.specs.Back.{AllWide, asRecord, asRecords}
+use Rattle.facts.specs.LinesOf.{AllWide, asRecord, asRecords}
 use Rattle.facts.proofs.RowOne.{row-1-iff, row-1-offset, read-sheet, sheet-facts}
 use Rattle.facts.proofs.PartText.{job-part-text}
 use Rattle.facts.proofs.Widths.{records-own}
 use Rattle.writer.specs.Writes.{wrote}
-use Rattle.writer.proofs.Trips.{write-reads}
+use Rattle.writer.proofs.RoundTrips.{write-reads}
 use Rattle.writer.proofs.Bound.{bounded}
 use Rattle.writer.proofs.Longest.{longest-reads}
 use Rattle.ops.specs.Print.{sheetAnswer, listingOf, printed, outPrinted}

@@ -5,15 +5,16 @@ use mathlib.Core.List.{List, [], _∷_}
 use mathlib.Core.Option.{Option, none, some, Option·some-injective}
 use Prim.Native.Nat.{ℕ}
 use native.Mathlib.Omega.{arith}
-use lib.Bits.{bitXor, xor-comm, xor-zero-r}
+use lib.Bits.{bitXor, xor-zero-r}
 use Rattle.mask.proofs.Laws.{xor-assoc}
+use Rattle.mask.proofs.Sets.{xor-swap-left}
 use Rattle.route.specs.Steps.{names, lookup}
 use Rattle.route.specs.Firing.{fire}
 use Rattle.route.specs.declared.Step.{Step}
 use Rattle.route.proofs.Toggle.{fire-toggles}
 use Rattle.precedence.specs.Order.{times}
 use Rattle.matching.specs.Straight.{fireAll}
-use Rattle.theorems.proofs.Entries.{times-head}
+use Rattle.precedence.proofs.Times.{times-head}
 use Rattle.theorems.proofs.Insertion.{Insertion, here, there, insertion-times, take-out}
 use Rattle.theorems.proofs.Fires.{fireAll-cons}
 
@@ -21,9 +22,6 @@ use Rattle.theorems.proofs.Fires.{fireAll-cons}
 unfoldable pub toggleOf : Option Step → ℕ
 toggleOf none = 0
 toggleOf (some s) = bitXor (s .ins) (s .outs)
-
-swap : (a b c : ℕ) → bitXor a (bitXor b c) ≡ bitXor b (bitXor a c)
-swap a b c = sym (xor-assoc a b c) ∙ ap (λ (x : ℕ). bitXor x c) (xor-comm a b) ∙ xor-assoc b a c
 
 module _ (steps : List Step) where
   unfoldable pub toggles : List ℕ → ℕ
@@ -46,7 +44,7 @@ module _ (steps : List Step) where
   put-toggles here = refl
   put-toggles {x = x} (there {y = y} {r = r} p) =
       ap (bitXor (toggleOf (lookup y steps))) (put-toggles p)
-      ∙ swap (toggleOf (lookup y steps)) (toggleOf (lookup x steps)) (toggles r)
+      ∙ xor-swap-left (toggleOf (lookup y steps)) (toggleOf (lookup x steps)) (toggles r)
 
   same-toggles : (a b : List ℕ) → ((n : ℕ) → times n a ≡ times n b) → toggles a ≡ toggles b
   unfolding toggles times

@@ -23,12 +23,14 @@ use Rattle.precedence.specs.Order.{times, noneOf, inOrder}
 use Rattle.matching.specs.Straight.{fireAll, stepsOn}
 use Rattle.candidates.specs.Placing.{before, placeNext}
 use Rattle.search.proofs.Finds.{Allowed, done, then}
-use Rattle.theorems.proofs.Entries.{times-head, times-cons-elim, noneOf-elim, noneOf-intro, inOrder-cons}
+use Rattle.precedence.proofs.Times.{times-head, times-cons-elim}
+use Rattle.theorems.proofs.Entries.{noneOf-elim, noneOf-intro, inOrder-cons}
 use Rattle.theorems.proofs.MembersOrder.{comesAfter-le}
-use Rattle.mask.proofs.Count.{one, one-some, one-same, has-more}
-use Rattle.theorems.proofs.EachOnce.{fresh, fresh-out, one-more}
+use Rattle.mask.proofs.Count.{one, one-some, one-same, has-more, one-more}
+use Rattle.mask.proofs.Members.{Rises}
+use Rattle.precedence.proofs.EachOnce.{fresh, fresh-out}
 use Rattle.theorems.proofs.Fires.{fireAll-cons}
-use Rattle.theorems.proofs.Candidates.{Below, Rises, map-entry, times-at}
+use Rattle.theorems.proofs.Candidates.{Below, map-entry, times-at}
 
 -- firing next, and firing in turn
 next-fires : (m m′ : ℕ) (q : Option Step) (next : ℕ → Option ℕ) → fireNext m q ≡ some m′

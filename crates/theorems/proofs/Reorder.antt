@@ -14,7 +14,8 @@ use Rattle.precedence.specs.Order.{times, EachOnce, noneOf, inOrder}
 use Rattle.mask.proofs.Truth.{both}
 use Rattle.theorems.specs.Values.{Store, Work, perform, performAll}
 use Rattle.theorems.proofs.Perform.{stepAt}
-use Rattle.theorems.proofs.Entries.{times-head, noneOf-elim, noneOf-mono, inOrder-cons}
+use Rattle.precedence.proofs.Times.{times-head}
+use Rattle.theorems.proofs.Entries.{noneOf-elim, noneOf-mono, inOrder-cons}
 use Rattle.theorems.proofs.Insertion.{Insertion, here, there, insertion-times, insertion-in, take-out}
 use Rattle.theorems.proofs.Commute.{clash-comm, commute}
 

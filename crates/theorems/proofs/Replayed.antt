@@ -13,7 +13,7 @@ use Rattle.route.specs.declared.Step.{Step}
 use Rattle.route.proofs.IfFires.{ifFires-can, ifFires-elim}
 use Rattle.precedence.specs.Order.{times}
 use Rattle.theorems.specs.Values.{Store, Work, End, ended, readings, perform, performAll, replayFrom}
-use Rattle.theorems.proofs.Entries.{times-head}
+use Rattle.precedence.proofs.Times.{times-head}
 
 -- the two steps read and write the same
 abbrev pub SameData : Step → Step → Type 0

@@ -15,11 +15,11 @@ use Rattle.records.specs.Overlaid.{overlaid}
 use Rattle.version.specs.Limits.{scope}
 use Rattle.facts.specs.Facts.{readOf, jobRead}
 use Rattle.facts.specs.SheetRows.{filled, sheetOf}
-use Rattle.facts.specs.Back.{asRecord, asRecords}
+use Rattle.facts.specs.LinesOf.{asRecord, asRecords}
 use Rattle.facts.specs.declared.Sheet.{Sheet}
 use Rattle.writer.specs.Writes.{wrote}
-use Rattle.writer.proofs.Round.{read-sheetOf}
-use Rattle.writer.proofs.Trips.{write-reads, read-writes}
+use Rattle.writer.proofs.Inverses.{read-sheetOf}
+use Rattle.writer.proofs.RoundTrips.{write-reads, read-writes}
 use Rattle.lent_reading.specs.Reading.{readRow, counts, counted}
 use Rattle.reader.specs.Refused.{noCounts}
 use Rattle.reader.specs.declared.Counts.{Counts}

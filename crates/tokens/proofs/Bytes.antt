@@ -1,7 +1,7 @@
 -- Reading, one byte on.
 -- Assumes nothing.
 use mathlib.Core.Path.{_≡_, sym, ap, _∙_}
-use mathlib.Core.Bool.{Bool, true, false, not, cond}
+use mathlib.Core.Bool.{Bool, true, false, not, cond, true≢false, false≢true}
 use mathlib.Core.List.{List, [], _∷_}
 use Prim.Native.Nat.{ℕ, _+_, _≤_, _<_}
 use native.Mathlib.Omega.{arith}
@@ -15,9 +15,6 @@ use Rattle.layout.specs.Parse.{Line, Parsed, took, keep, atEnd, run, parse}
 use Rattle.layout.specs.declared.Point.{Point}
 use Rattle.layout.specs.declared.Point.the-variants.{Stuck}
 use Rattle.tokens.specs.inner.Tokens.{Reading, Broken, Reached}
-
-pub apart : true ≡ false → ⊥
-apart h = let z : _≡_ {A = ℕ} 0 1 = cc in omega arith
 
 module _ (v : Version) (s : List ℕ) (i : ℕ) (p : Point) (c : Line) (t : Lines) (h : Reading v s i p c t) where
   here : i < length s → parse v s ≡ run v p c t (getD s i 0 ∷ drop (i + 1) s)
@@ -57,11 +54,11 @@ module _ (v : Version) (s : List ℕ) (i : ℕ) (p : Point) (c : Line) (t : Line
 pub break-on : (v : Version) (s : List ℕ) (i : ℕ) (ok : Bool) (p q : Point) (c d : Line) (t u : Lines) → not ok ≡ true
     → Reached v s i ok p c t → Reached v s i false q d u
 unfolding Reached
-break-on v s i true p q c d t u e h = absurd (apart (sym e))
+break-on v s i true p q c d t u e h = absurd (false≢true e)
 break-on v s i false p q c d t u e h = h
 
 pub reached : (v : Version) (s : List ℕ) (i : ℕ) (ok : Bool) (p : Point) (c : Line) (t : Lines) → not ok ≡ false
     → Reached v s i ok p c t → Reading v s i p c t
 unfolding Reached
 reached v s i true p c t e h = h
-reached v s i false p c t e h = absurd (apart e)
+reached v s i false p c t e h = absurd (true≢false e)

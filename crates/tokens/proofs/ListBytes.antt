@@ -1,7 +1,7 @@
 -- A list's bytes: what the byte after an entry does.
 -- Assumes nothing.
 use mathlib.Core.Path.{_≡_, refl, sym, ap, _∙_, subst}
-use mathlib.Core.Bool.{Bool, true, false, not, cond}
+use mathlib.Core.Bool.{Bool, true, false, not, cond, true≢false}
 use mathlib.Core.List.{List, [], _∷_, _++_}
 use Prim.Native.Nat.{ℕ, _+_, _%_, _≤_, _<_}
 use native.Mathlib.Omega.{arith}
@@ -23,7 +23,7 @@ use Rattle.tokens.specs.inner.Tokens.{Reading, Reached, NumberOn, listWo
 use Rattle.tokens.specs.declared.Numeral.{Numeral}
 use Rattle.tokens.specs.declared.Entries.{Entries}
 use Rattle.tokens.specs.declared.Listed.{Listed}
-use Rattle.tokens.proofs.Bytes.{apart, byte-on, byte-stuck, bytes-over, break-on}
+use Rattle.tokens.proofs.Bytes.{byte-on, byte-stuck, bytes-over, break-on}
 
 -- ---- the four words that head a list
 
@@ -71,7 +71,7 @@ in-other w q b e f =
 
 digit-in : (w : Word) (q : Part) (b : ℕ) → digit b ≡ true → inList w q b ≡ Stuck
 unfolding digit
-digit-in w q b d = in-other w q b (λ e. apart (sym d ∙ ap digit e)) (λ e. apart (sym d ∙ ap digit e))
+digit-in w q b d = in-other w q b (λ e. true≢false (sym d ∙ ap digit e)) (λ e. true≢false (sym d ∙ ap digit e))
 
 -- past an entry the list stands as past its word
 run-back : (v : Version) (w : Word) (q : Part) → listWord w ≡ true → (n : ℕ) (c : Line) (t : Lines) (l : List ℕ)

@@ -1,15 +1,15 @@
 -- A number's bytes: reading goes on from digit to digit, and stops where the reader does.
 -- Assumes nothing.
 use mathlib.Core.Path.{_≡_, refl, sym, ap, _∙_, subst}
-use mathlib.Core.Bool.{Bool, true, false, not, cond, _&&_}
+use mathlib.Core.Bool.{Bool, true, false, not, cond, true≢false}
 use mathlib.Core.List.{List, [], _∷_}
 use Prim.Native.Nat.{ℕ, suc, _+_, _-_, _*_, _^_, _≤_, _<_}
 use native.Mathlib.Omega.{arith}
 use native.Mathlib.Nat.{pow-suc}
-use lib.Dec.{ltb, leb}
+use lib.Dec.{ltb}
 use lib.ListN.{length, drop, getD, drop-of-length-le}
 use lib.Seq.{drop-cons}
-use borrow.Author.Tests.{eq-eqb, ne-eqb, lt-ltb, ltb-true, ltb-false, leb-true, not-true, not-false}
+use borrow.Author.Tests.{eq-eqb, ne-eqb, lt-ltb, ltb-true, ltb-false, not-true, not-false}
 use Rattle.version.specs.Limits.{Limits}
 use Rattle.version.specs.declared.Version.{Version}
 use Rattle.version.proofs.Tens.{tens-mono}
@@ -20,19 +20,12 @@ use Rattle.layout.specs.declared.Word.{Word}
 use Rattle.layout.specs.declared.Part.{Part}
 use Rattle.layout.specs.declared.Point.{Point}
 use Rattle.layout.specs.declared.Point.the-variants.{Digit, Digits, Stuck}
+use Rattle.layout.proofs.PrefixStep.{digit-bounds}
 use Rattle.tokens.specs.inner.Tokens.{Reading, Broken, Reached, noNumber, numberTo, NumberOn}
 use Rattle.tokens.specs.declared.Numeral.{Numeral}
-use Rattle.tokens.proofs.Bytes.{apart, byte-on, byte-stuck, bytes-over, break-on}
+use Rattle.tokens.proofs.Bytes.{byte-on, byte-stuck, bytes-over, break-on}
 
 -- ---- digits
-
-digit-range : (b : ℕ) → digit b ≡ true → (48 ≤ b) × (b ≤ 57)
-unfolding digit
-digit-range b h = go (leb 48 b) refl h
-  where
-    go : (x : Bool) → leb 48 b ≡ x → (x && leb b 57) ≡ true → (48 ≤ b) × (b ≤ 57)
-    go true e r = (leb-true 48 b e, leb-true b 57 r)
-    go false e r = absurd (apart (sym r))
 
 module _ (v : Version) (s : List ℕ) (from : ℕ) (room : from < length s) (w : Word) (q : Part) (c : Line) (t : Lines)
     (h : Reading v s from (Digit w q) c t) where
@@ -58,7 +51,7 @@ module _ (v : Version) (s : List ℕ) (from : ℕ) (room : from < length s) (w :
   no-digit d =
       byte-stuck v s from (Digit w q) c t h room
       (ap (λ (x : Bool). cond x (Digits w q 0) (cond (digit (getD s from 0)) (Digits w q (v .digits - 1)) Stuck))
-      (ne-eqb (getD s from 0) 48 (λ e. apart (sym (ap digit e) ∙ d)))
+      (ne-eqb (getD s from 0) 48 (λ e. true≢false (sym (ap digit e) ∙ d)))
       ∙ ap (λ (x : Bool). cond x (Digits w q (v .digits - 1)) Stuck) d)
 
 module _ (v : Version) (s : List ℕ) (w : Word) (q : Part) (c : Line) (t : Lines) (k n i : ℕ)
@@ -131,7 +124,7 @@ counts-init : (v : Version) → Limits v → (s : List ℕ) (from n : ℕ) (x : 
 unfolding Reached
 counts-init v limits s from n x room is e far val left all =
     let d = sym is ∙ not-false x e in
-    let low = digit-range (getD s from 0) d in
+    let low = digit-bounds (getD s from 0) d in
     let one : 1 ≡ v .digits - left = omega (arith, limits .two, all) in
     record {
       limits = limits;
@@ -164,14 +157,14 @@ module _ (v : Version) (limits : Limits v) (s : List ℕ) (from n i left : ℕ) 
 
   module _ (b d : ℕ) (x : Bool) (is : x ≡ digit b) (e : not x ≡ false) (val : d ≡ b - 48) where
     counts-add : n * 10 + d < 2 ^ 64
-    counts-add = omega (arith, counts-low, digit-range b (sym is ∙ not-false x e), val)
+    counts-add = omega (arith, counts-low, digit-bounds b (sym is ∙ not-false x e), val)
 
     wider : n * 10 + d < 10 ^ (v .digits - (left - 1))
     wider =
         let one : v .digits - (left - 1) ≡ suc (v .digits - left) = omega (arith, h .few) in
         let up : 10 ^ (v .digits - (left - 1)) ≡ 10 ^ (v .digits - left) * 10 =
         ap (λ (k : ℕ). 10 ^ k) one ∙ pow-suc 10 (v .digits - left) in
-        omega (arith, up, val, h .below, digit-range b (sym is ∙ not-false x e))
+        omega (arith, up, val, h .below, digit-bounds b (sym is ∙ not-false x e))
 
 counts-step : (v : Version) (s : List ℕ) (from n i left d : ℕ) (x : Bool) → Counts v s from n i left → i < length s
     → x ≡ digit (getD s i 0) → not x ≡ false → (left ≡ 0 → ⊥) → d ≡ getD s i 0 - 48
@@ -224,7 +217,7 @@ module _ (v : Version) (limits : Limits v) (s : List ℕ) (from most n i left : 
 
   pub counting-other : (x : Bool) → x ≡ digit (getD s i 0) → not x ≡ true → NumberOn v s from true r
   counting-other x d e = subst (NumberOn v s from true) (sym is)
-      (counts-done v s from n i left h (λ r f. absurd (apart (sym f ∙ sym d ∙ not-true x e))))
+      (counts-done v s from n i left h (λ r f. absurd (true≢false (sym f ∙ sym d ∙ not-true x e))))
 
   pub counting-full : left ≡ 0 → NumberOn v s from true r
   counting-full none = subst (NumberOn v s from true) (sym is) (counts-done v s from n i left h (λ r d. none))

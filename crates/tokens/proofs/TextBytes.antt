@@ -1,7 +1,7 @@
 -- A fixed text's bytes: reading goes on along its points, and breaks at the first byte that is not its own.
 -- Assumes nothing.
 use mathlib.Core.Path.{_≡_, refl, sym, ap, _∙_, subst}
-use mathlib.Core.Bool.{Bool, true, false, not}
+use mathlib.Core.Bool.{Bool, true, false, not, false≢true}
 use mathlib.Core.List.{List, [], _∷_}
 use Prim.Native.Nat.{ℕ, zero, suc, _+_, _-_, _≤_, _<_}
 use native.Mathlib.Omega.{arith}
@@ -18,7 +18,7 @@ use Rattle.layout.specs.Parse.{Line, took, keep, run}
 use Rattle.layout.specs.declared.Point.{Point}
 use Rattle.tokens.specs.inner.Tokens.{Reading, Broken, Reached, Spells, TextOn, Agrees, Agreeing, four}
 use Rattle.tokens.specs.declared.Cursor.{Cursor}
-use Rattle.tokens.proofs.Bytes.{apart, byte-on, byte-stuck, bytes-over, break-on}
+use Rattle.tokens.proofs.Bytes.{byte-on, byte-stuck, bytes-over, break-on}
 
 shifted : (s : List ℕ) (from b n : ℕ) (w : List ℕ) → Agrees s from (b ∷ w) (n + 1) → Agrees s (from + 1) w n
 shifted s from b n w h j r = ap (λ (x : ℕ). getD s x 0) (omega arith) ∙ h (j + 1) (omega (arith, r))
@@ -124,7 +124,7 @@ unfolding Reached
 text-breaks s from w i h r far =
     record {
       later = omega arith;
-      past = λ e. absurd (apart (sym e));
+      past = λ e. absurd (false≢true e);
       within = h .within;
       goes = λ v p c t q d u way at. spells-break v s w from i p c t q d u way r (h .agrees) (h .within) far at;
     }
@@ -217,7 +217,7 @@ agreeing-told s from w a b c d hs hw in-s some few room a-is b-is first c-is d-i
         ∙ ap (λ (x : ℕ). getD w x 0) v
 
 pub agreeing-not : (s : List ℕ) (from : ℕ) (w : List ℕ) → Agreeing s from w false
-agreeing-not s from w = record { agrees = λ e. absurd (apart (sym e)); within = λ e. absurd (apart (sym e)) }
+agreeing-not s from w = record { agrees = λ e. absurd (false≢true e); within = λ e. absurd (false≢true e) }
 
 -- ---- whether or not the layout holds to there
 
@@ -225,7 +225,7 @@ pub text-passes : (s : List ℕ) (from : ℕ) (ok : Bool) (w : List ℕ) → fro
     → TextOn s from ok w (record { at = from; ok = false })
 text-passes s from ok w h e = record {
   later = omega arith;
-  past = λ z. absurd (apart (sym z));
+  past = λ z. absurd (false≢true z);
   within = h;
   goes = λ v p c t q d u way r. break-on v s from ok _ _ _ _ _ _ e r;
 }

@@ -15,7 +15,7 @@ use Rattle.matching.proofs.Preparation.{doneSteps, prepared-ready, prepared-row
 use Rattle.matching.proofs.Preparation.{numbers-done, numbers-matched}
 use Rattle.matching.proofs.KeptRows.{kept-same}
 use Rattle.trying.specs.Try.{tryList, tried}
-use Rattle.trying.specs.inner.Ready.{TryReady}
+use Rattle.trying.specs.inner.TryPrepared.{TryPrepared}
 use Rattle.order_entries.specs.declared.Tried.{Tried}
 use Rattle.trying.proofs.TryRows.{tried-list}
 
@@ -31,8 +31,8 @@ module _ (j : Job) (p : Prepared) (occurrences matches : List ℕ) (is : Prepare
   ready : Ready (newStart j) (j .new) (doneSteps j) p occurrences matches
   ready = prepared-ready j p occurrences matches is t test on
 
-  try-ready : TryReady (newStart j) (j .new) (doneSteps j) p lentMatches
-  try-ready =
+  try-prepared : TryPrepared (newStart j) (j .new) (doneSteps j) p lentMatches
+  try-prepared =
       record {
         start-is = ready .start-is;
         straight-is = ready .straight-is;
@@ -55,8 +55,8 @@ module _ (j : Job) (p : Prepared) (occurrences matches : List ℕ) (is : Prepare
   -- the answer to the list is the answer
   pub tried-prepared :
       (o : List ℕ) (r : Tried)
-      → ((from : ℕ) (new : List Step) → TryReady from new lent p lentMatches → r ≡ tryList from new lent o)
+      → ((from : ℕ) (new : List Step) → TryPrepared from new lent p lentMatches → r ≡ tryList from new lent o)
       → r ≡ tried j o
   tried-prepared o r answers =
       tried-list j o (p .outcome) t test r (is .outcome-is) on
-      ((rw (numbers-done j p occurrences matches is t test on _ refl) at answers) (newStart j) (j .new) try-ready)
+      ((rw (numbers-done j p occurrences matches is t test on _ refl) at answers) (newStart j) (j .new) try-prepared)

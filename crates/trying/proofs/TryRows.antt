@@ -26,10 +26,10 @@ use Rattle.matching.specs.inner.Matched.{straightEnd}
 use Rattle.matching.specs.declared.Prepared.{Prepared}
 use Rattle.matching.specs.declared.End.{End}
 use Rattle.matching.specs.declared.End.the-variants.{At, Stuck}
-use Rattle.order_entries.specs.Entries.{tryStopped}
+use Rattle.order_entries.specs.Entries.{tryStopped, tryEntries}
 use Rattle.trying.specs.Try.{sameList, tryList, tryRows, tried}
-use Rattle.order_entries.specs.inner.Replayable.{Replayable, byRows}
-use Rattle.trying.specs.inner.Ready.{TryReady}
+use Rattle.order_entries.specs.inner.Replayable.{Replayable}
+use Rattle.trying.specs.inner.TryPrepared.{TryPrepared}
 use Rattle.order_entries.specs.declared.Tried.{Tried}
 
 -- ---- the straight list first
@@ -39,12 +39,12 @@ module _ (l : List Step) (p : Prepared) (matches : List Step) (o : List ℕ) (n 
   abbrev accepted : Marking → Tried
   accepted m = record { number = 0; second = 0; marking = m }
 
-  module _ (from : ℕ) (new : List Step) (ready : TryReady from new l p matches) where
+  module _ (from : ℕ) (new : List Step) (ready : TryPrepared from new l p matches) where
     abbrev end : Marking
     end = record { tokens = Option·getD (fireAll new from l) 0 }
 
     abbrev rows : Tried
-    rows = byRows new l from o
+    rows = tryEntries new l from o
 
     -- by whether the new route runs straight, and whether the order is 1, 2, ..
     end-is : f ≡ cond (sameList o (map suc (inTurn 0 (length l)))) (cond (runsStraight from new l) (At end) Stuck) Stuck
@@ -52,7 +52,7 @@ module _ (l : List Step) (p : Prepared) (matches : List Step) (o : List ℕ) (n 
     end-is = is ∙ ap₂ (λ (k : ℕ) (e : End). cond (sameList o (map suc (inTurn 0 k))) e Stuck) count (ready .straight-is)
 
     at-end : (m : Marking) → f ≡ At m → accepted m ≡ tryList from new l o
-    unfolding tryList byRows
+    unfolding tryList
     at-end m e = go (runsStraight from new l) (sameList o (map suc (inTurn 0 (length l)))) (sym end-is ∙ e)
       where
         go : (s t : Bool) → cond t (cond s (At end) Stuck) Stuck ≡ At m → accepted m ≡ cond (s && t) (accepted end) rows
@@ -62,7 +62,7 @@ module _ (l : List Step) (p : Prepared) (matches : List Step) (o : List ℕ) (n 
         go false false q = cc
 
     at-rows : f ≡ Stuck → rows ≡ tryList from new l o
-    unfolding tryList byRows
+    unfolding tryList
     at-rows e = go (runsStraight from new l) (sameList o (map suc (inTurn 0 (length l)))) (sym end-is ∙ e)
       where
         go : (s t : Bool) → cond t (cond s (At end) Stuck) Stuck ≡ Stuck → rows ≡ cond (s && t) (accepted end) rows
@@ -71,14 +71,14 @@ module _ (l : List Step) (p : Prepared) (matches : List Step) (o : List ℕ) (n 
         go false true q = refl
         go false false q = refl
 
-  pub list-straight : (m : Marking) → f ≡ At m → (from : ℕ) (new : List Step) → TryReady from new l p matches
+  pub list-straight : (m : Marking) → f ≡ At m → (from : ℕ) (new : List Step) → TryPrepared from new l p matches
       → accepted m ≡ tryList from new l o
   list-straight m e from new ready = at-end from new ready m e
 
   pub list-rows : (r : Tried) → f ≡ Stuck → ((new : List Step) → Replayable new l (p .kept) matches
-      → r ≡ byRows new l (p .start .tokens) o) → (from : ℕ) (new : List Step) → TryReady from new l p matches
+      → r ≡ tryEntries new l (p .start .tokens) o) → (from : ℕ) (new : List Step) → TryPrepared from new l p matches
       → r ≡ tryList from new l o
-  list-rows r e by from new ready = by new (ready .kept-are) ∙ ap (λ (m : ℕ). byRows new l m o) (ready .start-is)
+  list-rows r e by from new ready = by new (ready .kept-are) ∙ ap (λ (m : ℕ). tryEntries new l m o) (ready .start-is)
       ∙ at-rows from new ready e
 
 -- ---- the operation

@@ -2,7 +2,7 @@
 use mathlib.Core.Bool.{Bool, true, false, cond, _&&_}
 use mathlib.Core.List.{List, [], _∷_, map}
 use mathlib.Core.Option.{Option·getD}
-use Prim.Native.Nat.{ℕ, suc, _-_}
+use Prim.Native.Nat.{ℕ, suc}
 use lib.Dec.{eqb}
 use lib.ListN.{length}
 use Rattle.route.specs.declared.Step.{Step}
@@ -10,9 +10,8 @@ use Rattle.job.specs.Job.{Job, jobLine, newStart}
 use Rattle.running.specs.Run.{ran, performed}
 use Rattle.precedence.specs.Order.{inTurn}
 use Rattle.matching.specs.Straight.{fireAll, runsStraight}
-use Rattle.matching.specs.Fit.{keptOf}
 use Rattle.matching.specs.KeptRows.{keptRows}
-use Rattle.order_entries.specs.Entries.{tryStopped, tryAccepted, listRow, tryFrom}
+use Rattle.order_entries.specs.Entries.{tryStopped, tryAccepted, tryEntries}
 use Rattle.order_entries.specs.declared.Tried.{Tried}
 
 -- two lists of numbers are equal
@@ -27,9 +26,7 @@ unfoldable pub tryList : ℕ → List Step → List Step → List ℕ → Tried
 tryList from new l o =
     cond (runsStraight from new l && sameList o (map suc (inTurn 0 (length l))))
     (tryAccepted (Option·getD (fireAll new from l) 0))
-    (cond (eqb (listRow (keptOf new l) 0 1 o .number) 0)
-    (tryFrom new l from 1 (map (λ (b : ℕ). b - 1) o))
-    (tryStopped (listRow (keptOf new l) 0 1 o .number) (listRow (keptOf new l) 0 1 o .second)))
+    (tryEntries new l from o)
 
 -- rows 10 to 12, then the list
 unfoldable pub tryRows : ℕ → ℕ → List Step → List Step → List ℕ → Tried

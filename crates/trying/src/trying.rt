@@ -21,7 +21,7 @@ ghost use Rattle.job.specs.Lines.{LinesPass};
 ghost use Rattle.precedence.specs.Order.{inTurn};
 ghost use Rattle.matching.specs.declared.End.the-variants as ends;
 ghost use Rattle.trying.specs.Try.{sameList, tryList, tried};
-ghost use Rattle.trying.specs.inner.Ready.{TryReady};
+ghost use Rattle.trying.specs.inner.TryPrepared.{TryPrepared};
 
 // The order is 1, 2, .., len.
 fn in_turn(order: &[u8], len: usize) -> bool
@@ -55,7 +55,7 @@ fn try_prepared(p: Prepared, occurrences: &[u64], matches: &[u64], order: &[u8])
     requires { ⌜ length (stepsIn (now occurrences)) ≤ 64 ⌝ }
     requires { ⌜ ((i : ℕ) → has (p .kept) i ≡ true → i < length (stepsIn (now matches))) ⌝ }
     ensures { λ r. ⌜ ((from : ℕ) (new : List Step)
-        → TryReady from new (stepsIn (now (occurrences .entry))) p (stepsIn (now (matches .entry)))
+        → TryPrepared from new (stepsIn (now (occurrences .entry))) p (stepsIn (now (matches .entry)))
         → r ≡ tryList from new (stepsIn (now (occurrences .entry))) (now (order .entry))) ⌝ }
 {
     let straight = p.straight;

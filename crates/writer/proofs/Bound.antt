@@ -26,7 +26,7 @@ use Rattle.facts.specs.Forms.{allBelow, rising, listFits, formFits, formLists}
 use Rattle.facts.specs.Facts.{readBy}
 use Rattle.facts.specs.SheetRows.{sheetRows}
 use Rattle.job.specs.Job as J
-use Rattle.facts.specs.Back.{linesOf, asRecords}
+use Rattle.facts.specs.LinesOf.{linesOf, asRecords}
 use Rattle.writer.specs.Written.{written, longest}
 use Rattle.facts.proofs.PassingLines.{Passes, Fine, AllFine, AllLines, lines-fine, lines-short}
 use Rattle.facts.proofs.Ties.{tie}

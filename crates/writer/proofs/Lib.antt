@@ -1,9 +1,9 @@
 -- Laws on what writing gives.
-pub mod Round
+pub mod Inverses
 pub mod Bound
 pub mod Longest
 pub mod Answers
 pub mod LongLists
-pub mod Trips
+pub mod RoundTrips
 pub mod WholeText
 pub mod WrittenText

@@ -18,7 +18,7 @@ use Rattle.facts.specs.Facts.{readOf}
 use Rattle.facts.specs.SheetRows.{formRows, routeFormRows, sheetRows, factsRecord}
 use Rattle.facts.specs.declared.Sheet.{Sheet}
 use Rattle.facts.proofs.PassingLines.{Passes, lines-fine, lines-short}
-use Rattle.writer.proofs.Round.{standing}
+use Rattle.writer.proofs.Inverses.{standing}
 use Rattle.facts.proofs.Records.{read-is}
 
 -- the k numbers from n on

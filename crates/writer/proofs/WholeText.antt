@@ -7,7 +7,7 @@ use Rattle.route.specs.declared.Step.{Step}
 use Rattle.job.specs.Job.{Job}
 use Rattle.layout.specs.Text.{jobText, text}
 use Rattle.layout.specs.declared.Word.the-variants as W
-use Rattle.facts.specs.Back.{linesOf}
+use Rattle.facts.specs.LinesOf.{linesOf}
 use Rattle.sheet_lines.specs.inner.Parts.{routeText}
 use Rattle.sheet_lines.proofs.TextsInFront.{route-front}
 use Rattle.writer.specs.Written.{written}

@@ -4,7 +4,7 @@ use Prim.Native.Nat.{ℕ, _+_, _*_}
 use Rattle.version.specs.declared.Version.{Version}
 use Rattle.job.specs.Job.{Job}
 use Rattle.layout.specs.Text.{text}
-use Rattle.facts.specs.Back.{linesOf}
+use Rattle.facts.specs.LinesOf.{linesOf}
 
 unfoldable pub written : Job → List ℕ
 written j = text (linesOf j)

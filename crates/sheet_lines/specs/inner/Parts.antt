@@ -6,7 +6,7 @@ use Rattle.layout.specs.Words.{spelling}
 use Rattle.layout.specs.Text.{Form, listed, wordLine, stepLines}
 use Rattle.layout.specs.declared.Word.{Word}
 use Rattle.layout.specs.declared.Word.the-variants.{In, Out, Read, Write}
-use Rattle.facts.specs.Back.{formOf}
+use Rattle.facts.specs.LinesOf.{formOf}
 
 abbrev pub opening : Word → List ℕ
 opening w = 40 ∷ spelling w

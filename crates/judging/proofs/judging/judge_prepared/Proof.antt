@@ -1,10 +1,10 @@
 -- `judging::judging::judge_prepared`: the straight list where there is one, else the first fit list of the kept.
 use mathlib.Core.Path.{refl, _∙_}
 use borrow.Author.Needs.{needs}
-use Rattle.matching.proofs.Choice.{cond-yes, cond-no}
 use Rattle.judging.proofs.JudgeRows.{rows-straight, rows-search, passing-straight, passing-stuck}
 use Rattle.judging.proofs.judging.judge_prepared.Statement.{statement}
 use Rattle.judging.proofs.judging.judge_prepared.Tie as tie
+use Rattle.mask.proofs.Truth.{cond-yes, cond-no}
 
 table-of-requires : tie.Need-table-of-requires
 table-of-requires c κs = let start : tie.Start = search in start .pre .0 .short

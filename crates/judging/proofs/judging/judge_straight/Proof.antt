@@ -4,10 +4,11 @@ use Prim.Native.Nat.{ℕ}
 use borrow.Author.Needs.{needs}
 use lib.ListN.{length}
 use Rattle.mask.specs.Mask.{below}
+use Rattle.mask.proofs.Members.{below-few}
 use Rattle.route.specs.Flat.{stepsIn}
 use Rattle.precedence.specs.Order.{inTurn}
 use Rattle.answering.specs.Answer.{answer}
-use Rattle.judging.proofs.JudgeRows.{below-few, straight-list}
+use Rattle.judging.proofs.JudgeRows.{straight-list}
 use Rattle.judging.proofs.judging.judge_straight.Statement.{statement}
 use Rattle.judging.proofs.judging.judge_straight.Tie as tie
 

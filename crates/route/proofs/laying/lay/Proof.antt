@@ -5,7 +5,7 @@ use Prim.Native.Nat.{_-_, _≤_, _<_}
 use lib.ListN.{length, take}
 use Rattle.route.specs.Steps.{stepsOf}
 use Rattle.route.specs.Flat.{stepsIn}
-use Rattle.route.proofs.Full.{full}
+use Rattle.route.proofs.RouteLength.{full}
 use borrow.Author.Needs.{needs}
 use Rattle.route.proofs.FlatSteps.{length-flat}
 use Rattle.route.proofs.LaidSteps.{lay-end, lay-on, lay-over}

@@ -12,14 +12,14 @@ use Rattle.version.proofs.Limits.{scope-limits}
 use Rattle.job.specs.Job.{Job}
 use Rattle.job.specs.Lines.{lineRows}
 use Rattle.facts.specs.Facts.{readOf, jobRead}
-use Rattle.facts.specs.Back.{asRecords}
+use Rattle.facts.specs.LinesOf.{asRecords}
 use Rattle.refusal.proofs.Rows.{rows-passed}
 use Rattle.facts.proofs.PassingLines.{Passes}
 use Rattle.facts.proofs.Records.{read-lines}
 use Rattle.writer.specs.Written.{written}
 use Rattle.writer.specs.Writes.{writeRow, wrote, outAfter}
 use Rattle.facts.specs.SheetRows.{sheetOf}
-use Rattle.writer.proofs.Round.{read-then-write, write-then-read}
+use Rattle.writer.proofs.Inverses.{read-then-write, write-then-read}
 use Rattle.writer.proofs.Answers.{passed-answer, passed-out}
 
 module _ (j : Job) (o : List ℕ) (ok : wrote j (length o) .number ≡ 0) where

@@ -1,21 +1,19 @@
 -- A list whose entries go into a set one by one: where each is new, every entry is counted once, and the other way
 -- round.
-use mathlib.Core.Path.{_≡_, refl, sym}
+use mathlib.Core.Path.{_≡_, refl}
 use mathlib.Core.Bool.{Bool, true, false, not, _&&_}
 use mathlib.Core.List.{List, [], _∷_}
 use Prim.Native.Nat.{ℕ, _+_, _<_}
 use native.Mathlib.Omega.{arith}
-use native.Mathlib.Decide.{ℕ-discrete}
-use lib.Dec.{eqb}
 use lib.ListN.{length}
 use lib.Bits.{bitOr}
-use borrow.Author.Tests.{eq-eqb, ne-eqb, not-true}
+use borrow.Author.Tests.{not-true}
 use Rattle.mask.specs.Mask.{has, bit, count}
 use Rattle.mask.proofs.Laws.{has-ext, has-zero}
 use Rattle.mask.proofs.Truth.{both}
 use Rattle.precedence.specs.Order.{times, EachOnce}
-use Rattle.theorems.proofs.Entries.{times-head, eachOnce-has}
-use Rattle.mask.proofs.Count.{one, one-same, one-some, one-most, has-new, has-old, count-none, count-new}
+use Rattle.precedence.proofs.Times.{times-head, eachOnce-has}
+use Rattle.mask.proofs.Count.{one, one-same, one-some, one-most, count-none, count-new, one-more}
 
 -- the set after all entries
 unfoldable pub marks : ℕ → List ℕ → ℕ
@@ -26,13 +24,6 @@ marks seen (i ∷ o) = marks (bitOr seen (bit i)) o
 unfoldable pub fresh : ℕ → List ℕ → Bool
 fresh seen [] = true
 fresh seen (i ∷ o) = not (has seen i) && fresh (bitOr seen (bit i)) o
-
-pub one-more : (seen x i : ℕ) → has seen x ≡ false → one (has (bitOr seen (bit x)) i) ≡ one (has seen i) + one (eqb x i)
-one-more seen x i h = go (ℕ-discrete x i)
-  where
-    go : Dec (x ≡ i) → one (has (bitOr seen (bit x)) i) ≡ one (has seen i) + one (eqb x i)
-    go (yes e) = rw (← e, has-new seen x, h, eq-eqb x x refl)
-    go (no n) = rw (has-old seen x i (λ e. n (sym e)), ne-eqb x i n) (omega arith)
 
 pub fresh-times : (o : List ℕ) (seen : ℕ) → fresh seen o ≡ true → (i : ℕ)
     → one (has seen i) + times i o ≡ one (has (marks seen o) i)

@@ -8,7 +8,7 @@ use Rattle.matching.specs.declared.Prepared.{Prepared}
 use Rattle.order_entries.specs.inner.Replayable.{Replayable}
 
 -- what stands of a job that no row to 12 refuses: l are the steps done, from the new start
-pub record TryReady (from : ℕ) (new l : List Step) (p : Prepared) (matches : List Step) : Type 0 where
+pub record TryPrepared (from : ℕ) (new l : List Step) (p : Prepared) (matches : List Step) : Type 0 where
   pub start-is : p .start .tokens ≡ from
   pub straight-is : p .straight ≡ straightEnd from new l
   pub kept-are : Replayable new l (p .kept) matches

@@ -1,7 +1,7 @@
 -- Reading and writing undo each other.
 -- Assumes nothing.
 use mathlib.Core.Path.{_≡_, sym, ap, _∙_}
-use mathlib.Core.Bool.{true, false}
+use mathlib.Core.Bool.{true, false, false≢true}
 use mathlib.Core.List.{List, _++_, map}
 use Prim.Native.Nat.{ℕ, _+_, _-_, _≤_}
 use native.Mathlib.Omega.{arith}
@@ -23,7 +23,7 @@ use Rattle.facts.specs.Facts.{factsOf, readBy, readOf, jobRead}
 use Rattle.facts.specs.SheetRows.{sheetRows, filled, factsRecord, sheetOf}
 use Rattle.facts.specs.declared.Sheet.{Sheet}
 use Rattle.facts.proofs.RowsFold.{Stand, stands, fails, facts-stand, filled-steps}
-use Rattle.facts.specs.Back.{linesOf, AllWide, asRecords}
+use Rattle.facts.specs.LinesOf.{linesOf, AllWide, asRecords}
 use Rattle.facts.proofs.PassingLines.{Passes, AllLines, lines-fine, lines-short}
 use Rattle.facts.proofs.Ties.{tie}
 use Rattle.facts.proofs.Records.{ReadAs, records-forms, lines-back, read-is, reads-as}
@@ -75,12 +75,9 @@ read-sheetOf v s z = r .facts ∙ ap sheetOf (sym (ap jobRead (r .facts) ∙ sam
 pub standing : (v : Version) (x : Lines) → Passes (sheetRows v x) → factsOf v x ≡ factsRecord x
 standing v x h = go (facts-stand v x)
   where
-    clash : false ≡ true → ⊥
-    clash z = let y : _≡_ {A = ℕ} 0 1 = cc in omega arith
-
     go : Stand (factsOf v x) (sheetRows v x) (factsRecord x) (length (x .done) ≤ 64) → factsOf v x ≡ factsRecord x
     go (stands e q few) = q
-    go (fails e q) = absurd (clash (sym e ∙ h))
+    go (fails e q) = absurd (false≢true (sym e ∙ h))
 
 -- what is written of records whose lines a version allows, it reads back
 pub lines-then-read : {v : Version} → Limits v → (j : Job) → AllWide (j .old) → AllWide (j .new)
