@@ -65,7 +65,7 @@ pub fn script() -> String {
     [long_jobs(), jobs(), searches(), sheets()].concat()
 }
 
-/// Jobs of 64 done steps or more, on a route that goes round.
+/// Jobs of 64 and 65 done steps on a route that goes round, and a route of 65 steps.
 fn long_jobs() -> String {
     let begin = step(10, [&[0], &[1]], [&[], &[0]]);
     let on = step(20, [&[1], &[1]], [&[0], &[0]]);
@@ -131,7 +131,8 @@ fn searches() -> String {
     .concat()
 }
 
-/// Sheets that aren't whole, or have one entry, or one letter, too many.
+/// Sheets with an entry or a letter too many, without the end of their last line, or
+/// with a route of no step.
 fn sheets() -> String {
     let nine = step(10, [&[0], &[1]], [&[0, 1, 2, 3, 4, 5, 6, 7, 8], &[]]);
     let plain = route(2, &[step(10, [&[0], &[1]], [&[], &[]])]);

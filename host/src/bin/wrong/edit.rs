@@ -62,8 +62,12 @@ impl Edit {
 
 /// The edits of these crates, or of all, in the order of their names.
 pub fn all(names: &[String]) -> Vec<Edit> {
+    let crates = root().join("crates");
+    for name in names {
+        assert!(crates.join(name).is_dir(), "there is no crate {name}");
+    }
     let mut edits = Vec::new();
-    for folder in sorted(&root().join("crates")) {
+    for folder in sorted(&crates) {
         let name = folder.file_name().expect("no name").to_string_lossy();
         if names.is_empty() || names.iter().any(|wanted| *wanted == name) {
             let paths = sorted(&folder.join("must-fail"));

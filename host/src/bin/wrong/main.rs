@@ -23,19 +23,12 @@ fn main() -> ExitCode {
         .into_iter()
         .partition(|edit| edit.is_driven());
     let scripts = scripts::all();
-    let next = AtomicUsize::new(0);
-    let right: usize = thread::scope(|scope| {
-        let workers: Vec<_> = (0..trial::workers())
-            .map(|number| {
-                scope.spawn({
-                    let (code, scripts, next) = (&code, &scripts, &next);
-                    move || run_in_turn(number, code, scripts, next)
-                })
-            })
-            .collect();
-        let counts = workers.into_iter().map(|worker| worker.join());
-        counts.map(|count| count.expect("a worker ended")).sum()
-    });
+    let unedited = Trial::new(0).first_wrong(&scripts);
+    if !matches!(unedited, Verdict::Right) {
+        println!("without an edit: {unedited}");
+        return ExitCode::FAILURE;
+    }
+    let right = run_all(&code, &scripts);
     for edit in &other {
         println!("{edit}: not run (no code that drive reaches)");
     }
@@ -44,8 +37,19 @@ fn main() -> ExitCode {
     ExitCode::from(u8::from(right > 0))
 }
 
-/// Takes the next edit that no worker has taken, until there is none; gives how
-/// many have not been seen to answer wrongly.
+/// Runs the edits, as many at a time as there are processors; gives how many
+/// have not been seen to answer wrongly.
+fn run_all(edits: &[Edit], scripts: &[Script]) -> usize {
+    let next = &AtomicUsize::new(0);
+    thread::scope(|scope| {
+        let start = |number| scope.spawn(move || run_in_turn(number, edits, scripts, next));
+        let workers: Vec<_> = (0..trial::workers()).map(start).collect();
+        let ends = workers.into_iter().map(|worker| worker.join());
+        ends.map(|right| right.expect("a worker failed")).sum()
+    })
+}
+
+/// Takes the next edit that no worker has taken, until there is none.
 fn run_in_turn(number: usize, edits: &[Edit], scripts: &[Script], next: &AtomicUsize) -> usize {
     let trial = Trial::new(number);
     let mut right = 0;

@@ -81,7 +81,8 @@ impl Trial {
         verdict
     }
 
-    fn first_wrong(&self, scripts: &[Script]) -> Verdict {
+    /// The first script that the program, as it stands here, answers wrongly.
+    pub fn first_wrong(&self, scripts: &[Script]) -> Verdict {
         for (script, number) in scripts.iter().zip(1..) {
             let said = self.try_drive(script);
             let ok = |line: &&str| line.starts_with("ok: the native program");
