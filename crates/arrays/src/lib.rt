@@ -2,11 +2,11 @@
 // local that is a lent list of records takes a walk by hand, so a program calls these.)
 use answering::Judged;
 use order_entries::Tried;
+use out_slice::Wrote;
 use reader::Counts;
 use route::Step;
 use running::Ran;
 use slice::Sliced;
-use writer::Wrote;
 ghost use mathlib.Core.Path.{_≡_};
 ghost use Prim.Native.Nat.{_≤_};
 ghost use mathlib.Core.List.{_++_};

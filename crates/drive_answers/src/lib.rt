@@ -1,13 +1,12 @@
 // What an operation answers, as numbers. They are gathered in a buffer, and n of its bytes are in use.
 use answering::Judged;
 use facts::Sheet;
-use listing::Written;
+use out_slice::Wrote;
 use reader::Counts;
 use route::Marking;
 use route::Route;
 use route::Step;
 use slice::Sliced;
-use writer::Wrote;
 ghost use Prim.Native.Nat.{_≤_};
 
 pub mod out;
@@ -84,9 +83,8 @@ pub fn wrote(o: &mut [u8; 65536], n: usize, r: Wrote, s: &[u8]) -> usize {
     runs::bytes(o, m, s)
 }
 
-pub fn printed(o: &mut [u8; 65536], n: usize, r: Written, work: &[u8], s: &[u8]) -> usize {
-    let mut m = out::numbers(o, n, &[r.number as u64, r.second, r.written]);
-    m = runs::bytes(o, m, work);
+pub fn printed(o: &mut [u8; 65536], n: usize, r: Wrote, work: &[u8], s: &[u8]) -> usize {
+    let m = wrote(o, n, r, work);
     runs::bytes(o, m, s)
 }
 

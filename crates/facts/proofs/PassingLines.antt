@@ -1,7 +1,7 @@
 -- What rows that pass say of the lines: every form fits its range and its lists, no count is over 64, and every number
 -- is short. Assumes nothing.
 use mathlib.Core.Path.{_≡_, refl}
-use mathlib.Core.Bool.{true, _&&_}
+use mathlib.Core.Bool.{true, not, _&&_}
 use mathlib.Core.List.{List, [], _∷_, _++_}
 use Prim.Native.Nat.{ℕ, _+_, _≤_, _<_}
 use native.Mathlib.Omega.{arith}
@@ -18,16 +18,50 @@ use Rattle.job.specs.Lines.{placesFit, doneRow, doneRows}
 use Rattle.version.specs.Limits.{Limits}
 use Rattle.version.specs.declared.Version.{Version}
 use Rattle.layout.specs.Text.{Form, Lines, Shorts, ShortForm, ShortForms, ShortLines}
-use Rattle.facts.specs.Forms.{allBelow, formFits, formLists, formRow}
+use Rattle.facts.specs.Forms.{allBelow, rising, listFits, formFits, formLists, formRow}
 use Rattle.facts.specs.SheetRows.{formRows, afterForms, routeFormRows, sheetRows}
 
 abbrev pub Passes : List Outcome → Type 0
 Passes rows = eqb (first rows .number) 0 ≡ true
 
+-- a list that passes rows 2 and 3: its entries are below n, at most eight, and rise
+pub record FineList (n : ℕ) (l : List ℕ) : Type 0 where
+  pub low : allBelow n l ≡ true
+  pub few : length l ≤ 8
+  pub rises : rising 0 l ≡ true
+
 -- a step's line that passes
 pub record Fine (v : Version) (places : ℕ) (f : Form) : Type 0 where
-  pub fits : formFits v places f ≡ true
-  pub lists : formLists f ≡ true
+  pub name : nameFits v (f .name) ≡ true
+  pub ins : FineList places (f .ins)
+  pub outs : FineList places (f .outs)
+  pub reads : FineList 32 (f .reads)
+  pub writes : FineList 32 (f .writes)
+
+list-fine : (n : ℕ) (l : List ℕ) → allBelow n l ≡ true → listFits l ≡ true → FineList n l
+unfolding listFits
+list-fine n l low fits =
+    let parts = both (leb (length l) 8) (rising 0 l) fits in
+    record { low = low; few = leb-true (length l) 8 (parts .0); rises = parts .1 }
+
+form-fine : (v : Version) (places : ℕ) (f : Form) → formFits v places f ≡ true → formLists f ≡ true → Fine v places f
+unfolding formFits formLists
+form-fine v places f fits lists =
+    let a = both (nameFits v (f .name)) _ fits in
+    let b = both (allBelow places (f .ins)) _ (a .1) in
+    let c = both (allBelow places (f .outs)) _ (b .1) in
+    let d = both (allBelow 32 (f .reads)) _ (c .1) in
+    let some = both (not (eqb (length (f .outs)) 0)) _ (both (not (eqb (length (f .ins)) 0)) _ lists .1) in
+    let p = both (listFits (f .ins)) _ (some .1) in
+    let q = both (listFits (f .outs)) _ (p .1) in
+    let r = both (listFits (f .reads)) _ (q .1) in
+    record {
+      name = a .0;
+      ins = list-fine places (f .ins) (b .0) (p .0);
+      outs = list-fine places (f .outs) (c .0) (q .0);
+      reads = list-fine 32 (f .reads) (d .0) (r .0);
+      writes = list-fine 32 (f .writes) (d .1) (r .1);
+    }
 
 abbrev pub AllFine : (v : Version) → ℕ → List Form → Type 0
 AllFine v places [] = Unit {0}
@@ -47,10 +81,8 @@ forms-fine v (f ∷ l) line places earlier few h =
     let rest = forms-fine v l (line + 1) places (earlier ++ (f .name ∷ []))
     (omega (arith, length-append earlier (f .name ∷ []))) (row .1) in (
       (
-        record {
-          fits = unless-elim (formFits v places f) 2 line refl (two .0);
-          lists = unless-elim (formLists f) 3 line refl (three .0);
-        },
+        form-fine v places f (unless-elim (formFits v places f) 2 line refl (two .0))
+            (unless-elim (formLists f) 3 line refl (three .0)),
         rest .0,
       ),
       omega (arith, rest .1, length-append earlier (f .name ∷ [])),
@@ -126,21 +158,13 @@ below-short v limits (m ∷ l) n h e =
     (low-short v limits m (omega (arith, ltb-true m n (parts .0))), below-short v limits l n h (parts .1))
 
 form-short : (v : Version) (limits : Limits v) (places : ℕ) (f : Form) → places ≤ 64 → Fine v places f → ShortForm v f
-unfolding formFits
-form-short v limits places f h fine =
-    let a = both (nameFits v (f .name)) _ (fine .fits) in
-    let b = both _ _ (a .1) in
-    let c = both _ _ (b .1) in
-    let d = both _ _ (c .1) in
-    record {
-      name = name-short v limits (f .name) (a .0);
-      ins = below-short v limits (f .ins) places h (b .0);
-      outs = below-short v limits (f .outs) places h (c .0);
-      reads =
-          below-short v limits (f .reads) 32 (omega arith) (d .0);
-      writes =
-          below-short v limits (f .writes) 32 (omega arith) (d .1);
-    }
+form-short v limits places f h fine = record {
+  name = name-short v limits (f .name) (fine .name);
+  ins = below-short v limits (f .ins) places h (fine .ins .low);
+  outs = below-short v limits (f .outs) places h (fine .outs .low);
+  reads = below-short v limits (f .reads) 32 (omega arith) (fine .reads .low);
+  writes = below-short v limits (f .writes) 32 (omega arith) (fine .writes .low);
+}
 
 forms-short : (v : Version) (limits : Limits v) (l : List Form) (places : ℕ) → places ≤ 64 → AllFine v places l
     → ShortForms v l

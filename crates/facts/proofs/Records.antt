@@ -1,11 +1,11 @@
 -- The records that reading gives: their lines are the sheet's lines, and pass the rows.
 -- Assumes nothing.
 use mathlib.Core.Path.{_≡_, refl, sym, ap, ap₂, _∙_, subst}
-use mathlib.Core.Bool.{Bool, true, not, _&&_}
+use mathlib.Core.Bool.{Bool, true, _&&_}
 use mathlib.Core.List.{List, [], _∷_, map}
 use Prim.Native.Nat.{ℕ, _-_, _≤_}
 use native.Mathlib.Omega.{arith}
-use lib.Dec.{eqb, ltb, leb}
+use lib.Dec.{eqb, ltb}
 use lib.ListN.{length, replicate, length-map}
 use lib.Seq.{take-append-seam}
 use borrow.Author.Tests.{ltb-true, lt-ltb, eqb-true}
@@ -14,12 +14,12 @@ use Rattle.route.specs.Steps.{stepsOf}
 use Rattle.refusal.specs.Rows.{first}
 use Rattle.route.specs.declared.Step.{Step}
 use Rattle.refusal.specs.declared.Outcome.{Outcome}
-use Rattle.version.specs.Limits.{scope, nameFits}
+use Rattle.version.specs.Limits.{scope}
 use Rattle.job.specs.Lines.{lineRows, LinesPass}
 use Rattle.version.specs.declared.Version.{Version}
 use Rattle.layout.specs.Text.{Form, Lines}
 use Rattle.layout.specs.Parse.{Parsed, parse}
-use Rattle.facts.specs.Forms.{allBelow, rising, listFits, formFits, formLists, recordOf}
+use Rattle.facts.specs.Forms.{allBelow, recordOf}
 use Rattle.facts.specs.Facts.{failed, factsOf, answered, readBy, readOf, jobRead}
 use Rattle.facts.specs.SheetRows.{sheetRows, filled, factsRecord}
 use Rattle.facts.specs.LinesOf.{formOf, linesOf, Wide, AllWide}
@@ -54,25 +54,13 @@ wider (v ∷ l) n m h e =
     let parts = both (ltb v n) (allBelow n l) e in
     ap₂ (λ (x y : Bool). x && y) (lt-ltb v m (omega (arith, ltb-true v n (parts .0)))) (wider l n m h (parts .1))
 
-risen : (l : List ℕ) → listFits l ≡ true → rising 0 l ≡ true
-unfolding listFits
-risen l e = both (leb (length l) 8) (rising 0 l) e .1
-
 pub form-record : (v : Version) (places : ℕ) (f : Form) → places ≤ 64 → Fine v places f → formOf (recordOf f) ≡ f
-unfolding recordOf formOf formFits formLists
+unfolding recordOf formOf
 form-record v places f h fine =
-    let a = both (nameFits v (f .name)) _ (fine .fits) in
-    let b = both (allBelow places (f .ins)) _ (a .1) in
-    let c = both (allBelow places (f .outs)) _ (b .1) in
-    let d = both (allBelow 32 (f .reads)) _ (c .1) in
-    let p = both (not (eqb (length (f .outs)) 0)) _ (both (not (eqb (length (f .ins)) 0)) _ (fine .lists) .1) in
-    let q = both (listFits (f .ins)) _ (p .1) in
-    let r = both (listFits (f .outs)) _ (q .1) in
-    let s = both (listFits (f .reads)) _ (r .1) in
-    let ins = members-mask 64 (f .ins) (risen (f .ins) (q .0)) (wider (f .ins) places 64 h (b .0)) in
-    let outs = members-mask 64 (f .outs) (risen (f .outs) (r .0)) (wider (f .outs) places 64 h (c .0)) in
-    let reads = members-mask 32 (f .reads) (risen (f .reads) (s .0)) (d .0) in
-    let writes = members-mask 32 (f .writes) (risen (f .writes) (s .1)) (d .1) in
+    let ins = members-mask 64 (f .ins) (fine .ins .rises) (wider (f .ins) places 64 h (fine .ins .low)) in
+    let outs = members-mask 64 (f .outs) (fine .outs .rises) (wider (f .outs) places 64 h (fine .outs .low)) in
+    let reads = members-mask 32 (f .reads) (fine .reads .rises) (fine .reads .low) in
+    let writes = members-mask 32 (f .writes) (fine .writes .rises) (fine .writes .low) in
     λ i. record { name = f .name; ins = ins i; outs = outs i; reads = reads i; writes = writes i }
 
 forms-records : (v : Version) (l : List Form) (places : ℕ) → places ≤ 64 → AllFine v places l

@@ -171,22 +171,16 @@ module _ (j : Job) where
 -- ---- rows that follow the lines
 
 module _ (j k : Job) (r : Refused j k) where
-  pub rows-alike : (b c : List Outcome) → first (lineRows j ++ b) ≡ first (lineRows k ++ c)
-  rows-alike b c =
-      rows-refuse (lineRows j) b (ap (λ (o : Outcome). eqb (o .number) 0) (r .alike) ∙ r .refused)
-      ∙ r .alike
-      ∙ sym (rows-refuse (lineRows k) c (r .refused))
-
-  pub rows-off : (c : List Outcome) → eqb (first (lineRows k ++ c) .number) 0 ≡ false
-  rows-off c = ap (λ (o : Outcome). eqb (o .number) 0) (rows-refuse (lineRows k) c (r .refused)) ∙ r .refused
-
   pub checked-alike : checked j ≡ checked k
   unfolding checked
-  checked-alike = rows-alike _ _
+  checked-alike =
+      rows-refuse (lineRows j) _ (ap (λ (o : Outcome). eqb (o .number) 0) (r .alike) ∙ r .refused)
+      ∙ r .alike
+      ∙ sym (rows-refuse (lineRows k) _ (r .refused))
 
   pub checked-off : eqb (checked k .number) 0 ≡ false
   unfolding checked
-  checked-off = rows-off _
+  checked-off = ap (λ (o : Outcome). eqb (o .number) 0) (rows-refuse (lineRows k) _ (r .refused)) ∙ r .refused
 
 -- ---- both lists laid as numbers
 

@@ -2,11 +2,11 @@
 // over lists of numbers. (The arrays have other names in each, so that an edit of must-fail/ can name its line.)
 use answering::Judged;
 use order_entries::Tried;
+use out_slice::Wrote;
 use records::lay;
 use route::Step;
 use running::Ran;
 use slice::Sliced;
-use writer::Wrote;
 ghost use mathlib.Core.Path.{_≡_};
 ghost use lib.ListN.{length};
 ghost use Rattle.running.specs.Run.{ran};

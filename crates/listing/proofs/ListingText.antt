@@ -1,19 +1,16 @@
 -- The whole text, and what writing it answers.
 -- Assumes nothing.
-use mathlib.Core.Path.{_≡_, sym, ap, _∙_}
+use mathlib.Core.Path.{_≡_, sym, ap}
 use mathlib.Core.List.{List, [], _∷_, _++_, append-nil}
-use Prim.Native.Nat.{ℕ, _≤_, _<_}
+use Prim.Native.Nat.{ℕ, _≤_}
 use native.Mathlib.Omega.{arith}
-use lib.ListN.{length, take, drop, replicate, length-replicate}
-use lib.Seq.{length-take-le}
-use borrow.Author.Tests.{eq-eqb, ne-eqb, le-leb, lt-leb}
+use lib.ListN.{length, replicate, length-replicate}
+use borrow.Author.Tests.{eq-eqb, ne-eqb}
 use Rattle.answering.specs.declared.Judged.{Judged}
-use Rattle.emit.specs.Emit.{Room, Emits}
 use Rattle.emit.proofs.Chains.{parts, First, Second, Third, Two, Three, first-room, second-room, third-room, two-emits}
-use Rattle.emit.proofs.Chains.{three-emits, room-as, emits-length, emits-end, emits-whole, emits-take}
+use Rattle.emit.proofs.Chains.{three-emits, room-as}
 use Rattle.listing_lines.specs.Lines.{movedLine, afterLines, orderLine, markingLine, valueLines, refusedLine}
 use Rattle.listing.specs.Listing.{movedText, listing}
-use Rattle.listing.specs.Written.{writtenFor, outAfter}
 
 abbrev pub firstLines : Judged → List ℕ
 firstLines a = movedLine (a .kept) (a .dropped) ++ afterLines (a .kept) (a .after)
@@ -61,59 +58,12 @@ module _ (s t u : List ℕ) where
   pub three-whole : Three (s ++ (t ++ u)) s t u
   three-whole = three-emits _ _ _ _ three-parts
 
--- ---- the answers by the text's length
-
-module _ (a : Judged) (out : List ℕ) (end : ℕ) (is : end ≡ length (listing a)) where
-  pub short-answer : length out < end → record { number = 15; second = end; written = 0 } ≡ writtenFor a (length out)
-  unfolding writtenFor
-  short-answer h = rw (lt-leb (length (listing a)) (length out) (omega arith), is)
-
-  pub short-out : length out < end → out ≡ outAfter a out
-  unfolding outAfter
-  short-out h = rw (lt-leb (length (listing a)) (length out) (omega arith))
-
-  pub passed-answer : end ≤ length out → record { number = 0; second = 0; written = end } ≡ writtenFor a (length out)
-  unfolding writtenFor
-  passed-answer h = rw (le-leb (length (listing a)) (length out) (omega arith), is)
-
-  passed-out : end ≤ length out → (p : List ℕ) → p ≡ listing a ++ drop (length (listing a)) out → p ≡ outAfter a out
-  unfolding outAfter
-  passed-out h p e = e ∙ rw (le-leb (length (listing a)) (length out) (omega arith))
-
 -- ---- a slice with room for any answer's listing
 
-module _ (a : Judged) (short : length (listing a) ≤ 7053) (o : List ℕ) (long : 7053 ≤ length o) where
-  pub any-room : Room (listing a) o 0
-  any-room = record { fits = omega arith }
+pub listing-fits : (a : Judged) (o : List ℕ) → length (listing a) ≤ 7053 → 7053 ≤ length o
+    → length (listing a) ≤ length o
+listing-fits a o short long = omega (arith, short, long)
 
-  module _ (p : List ℕ) (end : ℕ) (w : Emits (listing a) o 0 p end) where
-    end-fits : end ≤ 7053
-    end-fits = omega (arith, emits-end w)
-
-    -- it is the caller's
-    pub direct-answer : record { number = 0; second = 0; written = end } ≡ writtenFor a (length o)
-    direct-answer = passed-answer a o end (emits-end w) (omega (arith, end-fits))
-
-    pub direct-out : p ≡ outAfter a o
-    direct-out = passed-out a o end (emits-end w) (omega (arith, end-fits)) p (emits-whole any-room w)
-
-    -- it is copied to the caller's
-    pub end-inside : end ≤ length p
-    end-inside = omega (arith, end-fits, emits-length w)
-
-    pub prefix-long : end ≡ length (take end p)
-    prefix-long = sym (length-take-le end p end-inside)
-
-    module _ (out : List ℕ) (enough : end ≤ length out) where
-      pub copy-room : Room (take end p) out 0
-      copy-room = record { fits = omega (arith, ap length (emits-take any-room w), emits-end w) }
-
-      pub copy-out : (q : List ℕ) (k : ℕ) → Emits (take end p) out 0 q k → q ≡ outAfter a out
-      copy-out q k x =
-          let same : take end p ≡ listing a = emits-take any-room w in
-          passed-out a out end (emits-end w) enough q
-          (emits-whole copy-room x ∙ ap (λ (t : List ℕ). t ++ drop (length t) out) same)
-
--- the array that the text is written to apart
+-- such is the array that the text is written to apart
 pub apart-long : 7053 ≤ length (replicate {A = ℕ} 7053 0)
 apart-long = omega (arith, length-replicate {A = ℕ} 7053 0)

@@ -1,3 +1,2 @@
 -- The listing of judge's answer, and the operation that writes it.
 pub mod Listing
-pub mod Written

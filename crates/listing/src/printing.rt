@@ -1,5 +1,4 @@
 // The whole listing, and writing it into a lent slice that has room for it.
-use crate::Written;
 use answering::Judged;
 use listing_lines::marking_line;
 use listing_lines::moved_line;
@@ -7,14 +6,15 @@ use listing_lines::order_line;
 use listing_lines::refused_line;
 use listing_tables::after_lines;
 use listing_tables::value_lines;
+use out_slice::Wrote;
 ghost use mathlib.Core.Path.{_≡_};
 ghost use mathlib.Core.List.{_++_};
 ghost use lib.ListN.{length};
 ghost use Prim.Native.Nat.{_<_, _≤_};
 ghost use Rattle.emit.specs.Emit.{Room, Emits};
 ghost use Rattle.listing_lines.specs.Lines.{movedLine, afterLines, orderLine, markingLine, valueLines};
+ghost use Rattle.out_slice.specs.OutSlice.{wroteText, outWith};
 ghost use Rattle.listing.specs.Listing.{listing};
-ghost use Rattle.listing.specs.Written.{writtenFor, outAfter};
 
 // No answer of judge has a longer listing (proofs/Longest.antt).
 const ENOUGH: usize = 7053;
@@ -55,40 +55,24 @@ fn text(out: &mut [u8], at: usize, a: Judged) -> usize
 }
 
 // Where the slice may be too short, the text is written apart and copied if it fits.
-fn write_copied(a: Judged, out: &mut [u8]) -> Written
+fn write_copied(a: Judged, out: &mut [u8]) -> Wrote
     requires { ⌜ length (listing a) ≤ 7053 ⌝ }
-    ensures { λ r. ⌜ r ≡ writtenFor a (length (now (out .entry))) ⌝ }
-    ensures { λ _. ⌜ now (out .exit) ≡ outAfter a (now (out .entry)) ⌝ }
+    ensures { λ r. ⌜ r ≡ wroteText (listing a) (length (now (out .entry))) ⌝ }
+    ensures { λ _. ⌜ now (out .exit) ≡ outWith (listing a) (now (out .entry)) ⌝ }
 {
     let mut apart = [0u8; ENOUGH];
     let end = text(&mut apart, 0, a);
-    if out.len() < end {
-        return Written {
-            number: 15,
-            second: end as u64,
-            written: 0,
-        };
-    }
-    emit::text(out, 0, &apart[..end]);
-    Written {
-        number: 0,
-        second: 0,
-        written: end as u64,
-    }
+    out_slice::copy(&apart[..end], out)
 }
 
-pub fn write_listing(a: Judged, out: &mut [u8]) -> Written
+pub fn write_listing(a: Judged, out: &mut [u8]) -> Wrote
     requires { ⌜ length (listing a) ≤ 7053 ⌝ }
-    ensures { λ r. ⌜ r ≡ writtenFor a (length (now (out .entry))) ⌝ }
-    ensures { λ _. ⌜ now (out .exit) ≡ outAfter a (now (out .entry)) ⌝ }
+    ensures { λ r. ⌜ r ≡ wroteText (listing a) (length (now (out .entry))) ⌝ }
+    ensures { λ _. ⌜ now (out .exit) ≡ outWith (listing a) (now (out .entry)) ⌝ }
 {
     if out.len() < ENOUGH {
         return write_copied(a, out);
     }
     let end = text(out, 0, a);
-    Written {
-        number: 0,
-        second: 0,
-        written: end as u64,
-    }
+    Wrote::all(end)
 }

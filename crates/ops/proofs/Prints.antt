@@ -14,11 +14,11 @@ use Rattle.answering.specs.Answer.{judgeStopped}
 use Rattle.answering.specs.declared.Judged.{Judged}
 use Rattle.judging.proofs.JudgeOperation as J
 use Rattle.listing.specs.Listing.{listing}
-use Rattle.listing.specs.Written.{writtenFor, outAfter}
-use Rattle.listing.specs.declared.Written.{Written}
+use Rattle.out_slice.specs.OutSlice.{unwritten, whole, wroteText, outWith}
+use Rattle.out_slice.specs.declared.Wrote.{Wrote}
 use Rattle.reader.specs.inner.Read.{ReadTo}
 use Rattle.reader.specs.declared.Counts.{Counts}
-use Rattle.ops.specs.Print.{sheetAnswer, printed, outPrinted, workPrinted}
+use Rattle.ops.specs.Print.{sheetAnswer, listingOf, printed, outPrinted, workPrinted}
 use Rattle.ops.proofs.ReadJob.{read-job}
 use Rattle.mask.proofs.Truth.{cond-yes, cond-no}
 
@@ -67,9 +67,9 @@ module _ (s : List ℕ) (r : Counts) (old new done : List ℕ) (k : ReadTo s r o
 module _ (s w o : List ℕ) where
   -- row 14
   module _ (short : length w < 8192) where
-    pub printed-short : record { number = 14; second = 0; written = 0 } ≡ printed s (length w) (length o)
+    pub printed-short : (x : Wrote) → x ≡ unwritten 14 0 → x ≡ printed s (length w) (length o)
     unfolding printed
-    printed-short = cond-no _ _ refl (lt-leb 8192 (length w) short)
+    printed-short x e = e ∙ cond-no _ _ refl (lt-leb 8192 (length w) short)
 
     pub out-short : o ≡ outPrinted s (length w) o
     unfolding outPrinted
@@ -85,25 +85,24 @@ module _ (s w o : List ℕ) where
 
   -- and where there is room to work
   module _ (long : 8192 ≤ length w) (a : Judged) (told : a ≡ sheetAnswer s) where
-    pub printed-long : (x : Written) → x ≡ writtenFor a (length o) → x ≡ printed s (length w) (length o)
-    unfolding printed
-    printed-long x e = e ∙ ap (λ (y : Judged). writtenFor y (length o)) told
+    pub printed-long : (x : Wrote) → x ≡ wroteText (listing a) (length o) → x ≡ printed s (length w) (length o)
+    unfolding printed listingOf
+    printed-long x e = e ∙ ap (λ (y : Judged). wroteText (listing y) (length o)) told
         ∙ cond-yes _ _ refl (le-leb 8192 (length w) long)
 
-    pub out-long : (x : List ℕ) → x ≡ outAfter a o → x ≡ outPrinted s (length w) o
-    unfolding outPrinted
-    out-long x e = e ∙ ap (λ (y : Judged). outAfter y o) told ∙ cond-yes _ o refl (le-leb 8192 (length w) long)
+    pub out-long : (x : List ℕ) → x ≡ outWith (listing a) o → x ≡ outPrinted s (length w) o
+    unfolding outPrinted listingOf
+    out-long x e = e ∙ ap (λ (y : Judged). outWith (listing y) o) told ∙ cond-yes _ o refl (le-leb 8192 (length w) long)
 
 -- the bytes written lie in the out slice
-pub written-fits : (a : Written) (s : List ℕ) (work room : ℕ) → a ≡ printed s work room → a .written ≤ room
-unfolding printed writtenFor
-written-fits a s work room is = subst (λ (w : Written). w .written ≤ room) (sym is)
-    (go (leb 8192 work) (leb (length (listing (sheetAnswer s))) room) refl)
+pub written-fits : (a : Wrote) (s : List ℕ) (work room : ℕ) → a ≡ printed s work room → a .written ≤ room
+unfolding printed wroteText
+written-fits a s work room is = subst (λ (w : Wrote). w .written ≤ room) (sym is)
+    (go (leb 8192 work) (leb (length (listingOf s)) room) refl)
   where
-    go : (t u : Bool) → leb (length (listing (sheetAnswer s))) room ≡ u
-        → cond {A = Written} t (cond u (record { number = 0; second = 0; written = length (listing (sheetAnswer s)) })
-        (record { number = 15; second = length (listing (sheetAnswer s)); written = 0 }))
-        (record { number = 14; second = 0; written = 0 }) .written ≤ room
-    go true true e = leb-true (length (listing (sheetAnswer s))) room e
+    go : (t u : Bool) → leb (length (listingOf s)) room ≡ u
+        → cond t (cond u (whole (length (listingOf s))) (unwritten 15 (length (listingOf s)))) (unwritten 14 0) .written
+        ≤ room
+    go true true e = leb-true (length (listingOf s)) room e
     go true false e = omega arith
     go false u e = omega arith

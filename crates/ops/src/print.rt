@@ -2,8 +2,8 @@
 use answering::Judged;
 use answering::answers::stop;
 use judging::judging::judge_checked;
-use listing::Written;
 use listing::printing::write_listing;
+use out_slice::Wrote;
 use reader::lists::read_lists;
 use search::WORK;
 ghost use mathlib.Core.Path.{_≡_};
@@ -38,18 +38,14 @@ fn answer(sheet: &[u8], work: &mut [u8]) -> Judged
 }
 
 // Any sheet, any work slice, any out slice.
-pub fn print(sheet: &[u8], work: &mut [u8], out: &mut [u8]) -> Written
+pub fn print(sheet: &[u8], work: &mut [u8], out: &mut [u8]) -> Wrote
     ensures { λ r. ⌜ r ≡ printed (now (sheet .entry)) (length (now (work .entry))) (length (now (out .entry))) ⌝ }
     ensures { λ _. ⌜ now (work .exit) ≡ workPrinted (now (sheet .entry)) (now (work .entry)) ⌝ }
     ensures { λ _. ⌜ now (out .exit) ≡ outPrinted (now (sheet .entry)) (length (now (work .entry)))
         (now (out .entry)) ⌝ }
 {
     if work.len() < WORK {
-        return Written {
-            number: 14,
-            second: 0,
-            written: 0,
-        };
+        return Wrote::refuse(14, 0);
     }
     let a = answer(sheet, work);
     write_listing(a, out)

@@ -22,7 +22,7 @@ use Rattle.answering.specs.Answer.{judgeStopped}
 use Rattle.answering.specs.declared.Judged.{Judged}
 use Rattle.listing_lines.specs.Lines.{line, movedLine, refusedLine}
 use Rattle.listing.specs.Listing.{movedText, listing}
-use Rattle.listing.specs.Written.{writtenFor, outAfter}
+use Rattle.out_slice.proofs.WholeText.{fits-answer, fits-out}
 use Rattle.ops.specs.Print.{sheetAnswer, listingOf, printed, outPrinted}
 use Rattle.ops.specs.SheetTry.{triedFacts, triedSheet}
 use Rattle.examples.specs.Table.{codes}
@@ -60,12 +60,12 @@ module _ (a : Judged) (r : List ℕ) where
 
 module _ (s out : List ℕ) (work : ℕ) (enough : 8192 ≤ work) (room : length (listingOf s) ≤ length out) where
   pub print-answer : printed s work (length out) ≡ record { number = 0; second = 0; written = length (listingOf s) }
-  unfolding printed writtenFor listingOf
-  print-answer = rw (le-leb 8192 work enough, le-leb (length (listingOf s)) (length out) room)
+  unfolding printed
+  print-answer = rw (le-leb 8192 work enough) (fits-answer (listingOf s) (length out) room)
 
   pub print-leaves : outPrinted s work out ≡ listingOf s ++ drop (length (listingOf s)) out
-  unfolding outPrinted outAfter listingOf
-  print-leaves = rw (le-leb 8192 work enough, le-leb (length (listingOf s)) (length out) room)
+  unfolding outPrinted
+  print-leaves = rw (le-leb 8192 work enough) (fits-out (listingOf s) out room)
 
 -- ---- which sheets are moved
 

@@ -3,7 +3,7 @@
 use mathlib.Core.Path.{_≡_, refl, sym, ap, _∙_, subst}
 use mathlib.Core.Bool.{Bool, true, false, not, false≢true}
 use mathlib.Core.List.{List, [], _∷_}
-use Prim.Native.Nat.{ℕ, zero, suc, _+_, _-_, _≤_, _<_}
+use Prim.Native.Nat.{ℕ, zero, suc, _+_, _*_, _-_, _≤_, _<_}
 use native.Mathlib.Omega.{arith}
 use native.Mathlib.Numerals.{add-one}
 use mir.Syntax.{w8}
@@ -139,62 +139,30 @@ text-other s from w i h r far = text-breaks s from w i h r (λ _. far)
 
 -- ---- four bytes at a time
 
+module _ (a b c d a′ b′ c′ d′ : ℕ) (ha : Fits w8 a) (hb : Fits w8 b) (hc : Fits w8 c) (hd : Fits w8 d) (ha′ : Fits w8 a′)
+    (hb′ : Fits w8 b′) (hc′ : Fits w8 c′) (hd′ : Fits w8 d′) where
+  four-same : a + b * 256 + c * 65536 + d * 16777216 ≡ a′ + b′ * 256 + c′ * 65536 + d′ * 16777216
+      → (a ≡ a′) × (b ≡ b′) × (c ≡ c′) × (d ≡ d′)
+  four-same e = (omega arith, omega arith, omega arith, omega arith)
+
 module _ (s : List ℕ) (at : ℕ) (w : List ℕ) (b : ℕ) (hs : (j : ℕ) → Fits w8 (getD s j 0))
     (hw : (j : ℕ) → Fits w8 (getD w j 0)) (e : four s at ≡ four w b) where
   pick : (k : ℕ) → k < 4 → getD s (at + k) 0 ≡ getD w (b + k) 0
-  pick zero r =
-      let x : at + 0 ≡ at = omega arith in
-      let y : b ≡ b + 0 = omega arith in
-      let z : getD s at 0 ≡ getD w b 0 = omega (
-        arith,
-        e,
-        hs at,
-        hs (at + 1),
-        hs (at + 2),
-        hs (at + 3),
-        hw b,
-        hw (b + 1),
-        hw (b + 2),
-        hw (b + 3),
-      ) in
-      ap (λ (x : ℕ). getD s x 0) x ∙ z ∙ ap (λ (x : ℕ). getD w x 0) y
-  pick (suc zero) r = omega (
-    arith,
-    e,
-    hs at,
-    hs (at + 1),
-    hs (at + 2),
-    hs (at + 3),
-    hw b,
-    hw (b + 1),
-    hw (b + 2),
-    hw (b + 3),
-  )
-  pick (suc (suc zero)) r = omega (
-    arith,
-    e,
-    hs at,
-    hs (at + 1),
-    hs (at + 2),
-    hs (at + 3),
-    hw b,
-    hw (b + 1),
-    hw (b + 2),
-    hw (b + 3),
-  )
-  pick (suc (suc (suc zero))) r = omega (
-    arith,
-    e,
-    hs at,
-    hs (at + 1),
-    hs (at + 2),
-    hs (at + 3),
-    hw b,
-    hw (b + 1),
-    hw (b + 2),
-    hw (b + 3),
-  )
-  pick (suc (suc (suc (suc k)))) r = absurd (omega (arith, r))
+  pick k r =
+      let same = four-same _ _ _ _ _ _ _ _ (hs at) (hs (at + 1)) (hs (at + 2)) (hs (at + 3)) (hw b) (hw (b + 1))
+      (hw (b + 2)) (hw (b + 3)) e in go k r same
+    where
+      go : (k : ℕ) → k < 4 → (getD s at 0 ≡ getD w b 0) × (getD s (at + 1) 0 ≡ getD w (b + 1) 0)
+          × (getD s (at + 2) 0 ≡ getD w (b + 2) 0) × (getD s (at + 3) 0 ≡ getD w (b + 3) 0)
+          → getD s (at + k) 0 ≡ getD w (b + k) 0
+      go zero r h =
+          let x : at + 0 ≡ at = omega arith in
+          let y : b ≡ b + 0 = omega arith in
+          ap (λ (x : ℕ). getD s x 0) x ∙ h .0 ∙ ap (λ (x : ℕ). getD w x 0) y
+      go (suc zero) r h = h .1
+      go (suc (suc zero)) r h = h .2
+      go (suc (suc (suc zero))) r h = h .3
+      go (suc (suc (suc (suc k)))) r h = absurd (omega (arith, r))
 
 pub agreeing-told : (s : List ℕ) (from : ℕ) (w : List ℕ) (a b c d : ℕ) → ((j : ℕ) → Fits w8 (getD s j 0))
     → ((j : ℕ) → Fits w8 (getD w j 0)) → from ≤ length s → 4 ≤ length w → length w ≤ 8 → length w ≤ length s - from

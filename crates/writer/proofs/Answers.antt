@@ -1,71 +1,52 @@
 -- What write answers: the rows of the lines first, then 15, then the text.
 -- Assumes nothing.
-use mathlib.Core.Path.{_≡_, sym, ap, _∙_}
+use mathlib.Core.Path.{_≡_, refl, sym, ap, _∙_}
 use mathlib.Core.Bool.{Bool, true, false, not}
-use mathlib.Core.List.{List, [], _∷_, _++_}
-use Prim.Native.Nat.{ℕ, _≤_, _<_}
+use mathlib.Core.List.{List}
+use Prim.Native.Nat.{ℕ, _≤_}
 use native.Mathlib.Omega.{arith}
-use lib.Dec.{eqb, leb}
-use lib.ListN.{length, drop}
-use borrow.Author.Tests.{le-leb, lt-leb, eq-eqb, not-true}
-use Rattle.refusal.specs.Rows.{unless, first}
+use lib.Dec.{eqb}
+use lib.ListN.{length, replicate, length-replicate}
+use borrow.Author.Tests.{eq-eqb, not-true}
+use Rattle.mask.proofs.Truth.{cond-yes, cond-no}
+use Rattle.refusal.specs.Rows.{first}
 use Rattle.refusal.specs.declared.Outcome.{Outcome}
-use Rattle.refusal.proofs.Rows.{rows-pass, rows-refuse}
 use Rattle.job.specs.Job.{Job}
 use Rattle.job.specs.Lines.{lineRows, LinesPass}
 use Rattle.writer.specs.Written.{written}
-use Rattle.writer.specs.Writes.{writeRow, wrote, outAfter}
+use Rattle.out_slice.specs.OutSlice.{unwritten, wroteText, outWith}
+use Rattle.out_slice.specs.declared.Wrote.{Wrote}
+use Rattle.writer.specs.Writes.{wrote, outAfter}
+use Rattle.writer.proofs.Bound.{written-length}
 
 -- a line refuses: code has asked, and t says whether they pass
 module _ (j : Job) (o : Outcome) (is : o ≡ first (lineRows j)) (t : Bool) (test : t ≡ eqb (o .number) 0)
     (fails : not t ≡ true) where
-  off : eqb (o .number) 0 ≡ false
-  off = sym test ∙ not-true t fails
+  off : eqb (first (lineRows j) .number) 0 ≡ false
+  off = ap (λ (x : Outcome). eqb (x .number) 0) (sym is) ∙ sym test ∙ not-true t fails
 
-  row-refused : (n : ℕ) → writeRow j n ≡ o
-  unfolding writeRow
-  row-refused n = rows-refuse (lineRows j) _ (ap (λ (x : Outcome). eqb (x .number) 0) (sym is) ∙ off) ∙ sym is
-
-  pub refused-answer : (n : ℕ) → record { number = o .number; second = o .second; written = 0 } ≡ wrote j n
+  pub refused-answer : (n : ℕ) (r : Wrote) → r ≡ unwritten (o .number) (o .second) → r ≡ wrote j n
   unfolding wrote
-  refused-answer n = rw (row-refused n, off)
+  refused-answer n r e = e ∙ ap (λ (x : Outcome). unwritten (x .number) (x .second)) is ∙ cond-no _ _ refl off
 
   pub refused-out : (l : List ℕ) → l ≡ outAfter j l
   unfolding outAfter
-  refused-out l = rw (row-refused (length l), off)
+  refused-out l = cond-no _ l refl off
 
--- the lines pass
-module _ (j : Job) (pass : LinesPass j) (l : List ℕ) where
-  row-last : writeRow j (length l) ≡ first (unless (leb (length (written j)) (length l)) 15 (length (written j)) ∷ [])
-  unfolding writeRow
-  row-last = rows-pass (lineRows j) _ (eq-eqb _ 0 pass)
+-- the lines pass: the answer and the slice are the text's
+module _ (j : Job) (pass : LinesPass j) where
+  pub text-answer : (n : ℕ) (r : Wrote) → r ≡ wroteText (written j) n → r ≡ wrote j n
+  unfolding wrote
+  text-answer n r e = e ∙ cond-yes _ _ refl (eq-eqb _ 0 pass)
 
-  -- the slice is too short
-  module _ (n : ℕ) (long : n ≡ length (written j)) (short : length l < n) where
-    row-short : writeRow j (length l) ≡ record { number = 15; second = n }
-    unfolding first unless
-    row-short = row-last ∙ ap (λ (t : Bool). first (unless t 15 (length (written j)) ∷ []))
-        (lt-leb (length (written j)) (length l) (omega arith)) ∙ (λ i. record { number = 15; second = sym long i })
+  pub text-out : (l p : List ℕ) → p ≡ outWith (written j) l → p ≡ outAfter j l
+  unfolding outAfter
+  text-out l p e = e ∙ cond-yes _ l refl (eq-eqb _ 0 pass)
 
-    pub short-answer : record { number = 15; second = n; written = 0 } ≡ wrote j (length l)
-    unfolding wrote
-    short-answer = rw row-short
+-- a slice with room for any text of a job whose lines pass
+pub text-fits : (j : Job) (o : List ℕ) → LinesPass j → 18136 ≤ length o → length (written j) ≤ length o
+text-fits j o pass long = omega (arith, written-length j (eq-eqb _ 0 pass), long)
 
-    pub short-out : l ≡ outAfter j l
-    unfolding outAfter
-    short-out = rw row-short
-
-  -- there is room
-  module _ (n : ℕ) (long : n ≡ length (written j)) (room : n ≤ length l) where
-    row-passed : writeRow j (length l) ≡ record { number = 0; second = 0 }
-    unfolding first unless
-    row-passed = row-last ∙ ap (λ (t : Bool). first (unless t 15 (length (written j)) ∷ []))
-        (le-leb (length (written j)) (length l) (omega arith))
-
-    pub passed-answer : record { number = 0; second = 0; written = n } ≡ wrote j (length l)
-    unfolding wrote
-    passed-answer = rw (row-passed, long)
-
-    pub passed-out : (p : List ℕ) → p ≡ written j ++ drop (length (written j)) l → p ≡ outAfter j l
-    unfolding outAfter
-    passed-out p e = rw (row-passed, e)
+-- such is the array that the text is written to apart
+pub apart-long : 18136 ≤ length (replicate {A = ℕ} 18136 0)
+apart-long = omega (arith, length-replicate {A = ℕ} 18136 0)

@@ -1,18 +1,18 @@
 -- "No sheet that reads is longer than 18,136 bytes": the longest step line has 130 bytes besides its name, a head 9,
 -- the job line 6, a done line 8 besides its name. Assumes nothing.
 use mathlib.Core.Path.{_≡_, refl, sym, ap, _∙_, subst}
-use mathlib.Core.Bool.{Bool, true, false, not, cond}
+use mathlib.Core.Bool.{Bool, true, false, cond}
 use mathlib.Core.List.{List, [], _∷_}
 use Prim.Native.Nat.{ℕ, zero, suc, _+_, _*_, _^_, _/_, _%_, _≤_, _<_}
 use native.Mathlib.Nat.{suc-mul, mul-le-mul-right}
 use native.Mathlib.Omega.{arith}
-use lib.Dec.{eqb, ltb, leb}
+use lib.Dec.{eqb, ltb}
 use lib.ListN.{length}
-use borrow.Author.Tests.{ltb-true, ltb-false, leb-true}
+use borrow.Author.Tests.{ltb-true, ltb-false}
 use Rattle.mask.proofs.Truth.{both}
 use Rattle.refusal.specs.Rows.{first}
 use Rattle.refusal.specs.declared.Outcome.{Outcome}
-use Rattle.version.specs.Limits.{scope, nameFits, Limits}
+use Rattle.version.specs.Limits.{scope, Limits}
 use Rattle.version.specs.declared.Version.{Version}
 use Rattle.version.proofs.Tens.{tenth}
 use Rattle.version.proofs.Limits.{scope-limits, name-short}
@@ -22,13 +22,13 @@ use Rattle.layout.specs.Text.{Form, Lines, digits, number, entries, listed, ste
 use Rattle.layout.specs.Text.{doneLines, jobText, text, Short, Shorts}
 use Rattle.layout.specs.declared.Word.the-variants.{New, Job, In, Out, Read, Write}
 use Rattle.layout.proofs.Sound.{sound}
-use Rattle.facts.specs.Forms.{allBelow, rising, listFits, formFits, formLists}
+use Rattle.facts.specs.Forms.{allBelow}
 use Rattle.facts.specs.Facts.{readBy}
 use Rattle.facts.specs.SheetRows.{sheetRows}
 use Rattle.job.specs.Job as J
 use Rattle.facts.specs.LinesOf.{linesOf, asRecords}
 use Rattle.writer.specs.Written.{written, longest}
-use Rattle.facts.proofs.PassingLines.{Passes, Fine, AllFine, AllLines, lines-fine, lines-short}
+use Rattle.facts.proofs.PassingLines.{Passes, FineList, Fine, AllFine, AllLines, lines-fine, lines-short}
 use Rattle.facts.proofs.Ties.{tie}
 use Rattle.facts.proofs.Records.{reads-as}
 use Rattle.facts.proofs.Widths.{lines-same, rows-as-records, rows-wide}
@@ -68,41 +68,23 @@ long-entries (m ∷ l) n s h e =
     omega (arith, two-digits m (entries l s) (omega arith), long-entries l n s h (parts .1))
 
 -- a list of at most eight entries
-long-list : (l : List ℕ) (n : ℕ) (s : List ℕ) → n ≤ 64 → allBelow n l ≡ true → listFits l ≡ true
-    → length (entries l s) ≤ 24 + length s
-unfolding listFits
-long-list l n s h e f = omega (
-  arith,
-  long-entries l n s h e,
-  leb-true (length l) 8 (both (leb (length l) 8) (rising 0 l) f .0),
-)
+long-list : (l : List ℕ) (n : ℕ) (s : List ℕ) → n ≤ 64 → FineList n l → length (entries l s) ≤ 24 + length s
+long-list l n s h fine = omega (arith, long-entries l n s h (fine .low), fine .few)
 
 long-step : (v : Version) → Limits v → (places : ℕ) (f : Form) (s : List ℕ) → places ≤ 64 → Fine v places f
     → length (stepLine f s) ≤ 130 + v .digits + length s
-unfolding stepLine listed spelling formFits formLists
+unfolding stepLine listed spelling
 long-step v limits places f s h fine =
-    let a = both (nameFits v (f .name)) _ (fine .fits) in
-    let b = both (allBelow places (f .ins)) _ (a .1) in
-    let c = both (allBelow places (f .outs)) _ (b .1) in
-    let d = both (allBelow 32 (f .reads)) _ (c .1) in
-    let p = both (not (eqb (length (f .outs)) 0)) _ (both (not (eqb (length (f .ins)) 0)) _ (fine .lists) .1) in
-    let q = both (listFits (f .ins)) _ (p .1) in
-    let r = both (listFits (f .outs)) _ (q .1) in
-    let t = both (listFits (f .reads)) _ (r .1) in
     let fourth : List ℕ = listed Write (f .writes) (41 ∷ 10 ∷ s) in
     let third : List ℕ = listed Read (f .reads) fourth in
     let second : List ℕ = listed Out (f .outs) third in
-    let w = long-list (f .writes) 32 (41 ∷ 41 ∷ 10 ∷ s) (omega arith) (d .1) (t .1) in
-    let x = long-list (f .reads) 32 (41 ∷ fourth) (omega arith) (d .0) (t .0) in
-    let y = long-list (f .outs) places (41 ∷ third) h (c .0) (r .0) in
-    let z = long-list (f .ins) places (41 ∷ second) h (b .0) (q .0) in
     omega (
       arith,
-      long-number v limits (f .name) (listed In (f .ins) second) (name-short v limits (f .name) (a .0)),
-      w,
-      x,
-      y,
-      z,
+      long-number v limits (f .name) (listed In (f .ins) second) (name-short v limits (f .name) (fine .name)),
+      long-list (f .writes) 32 (41 ∷ 41 ∷ 10 ∷ s) (omega arith) (fine .writes),
+      long-list (f .reads) 32 (41 ∷ fourth) (omega arith) (fine .reads),
+      long-list (f .outs) places (41 ∷ third) h (fine .outs),
+      long-list (f .ins) places (41 ∷ second) h (fine .ins),
     )
 
 long-steps : (v : Version) → Limits v → (l : List Form) (places : ℕ) (s : List ℕ) → places ≤ 64 → AllFine v places l

@@ -6,4 +6,3 @@ pub mod Answers
 pub mod LongLists
 pub mod RoundTrips
 pub mod WholeText
-pub mod WrittenText

@@ -1,33 +1,22 @@
 -- Where the lines are refused write answers that refusal and leaves every byte, whatever else the job holds; so steps
 -- past the 65th of a list change nothing.
 use mathlib.Core.Path.{_≡_, _∙_}
-use mathlib.Core.Bool.{false}
 use mathlib.Core.List.{List}
 use Prim.Native.Nat.{ℕ}
-use lib.Dec.{eqb}
-use lib.ListN.{length}
 use Rattle.route.specs.Flat.{Laid}
 use Rattle.job.specs.Job.{Job}
-use Rattle.job.proofs.LongLists.{Refused, rows-alike, rows-off, laidJob, same-laid}
-use Rattle.writer.specs.Writes.{writeRow, wrote, outAfter}
-use Rattle.writer.specs.declared.Wrote.{Wrote}
+use Rattle.job.proofs.LongLists.{Refused, laidJob, same-laid}
+use Rattle.writer.specs.Writes.{wrote, outAfter}
+use Rattle.out_slice.specs.declared.Wrote.{Wrote}
 
 module _ (j k : Job) (r : Refused j k) where
-  row-alike : (n : ℕ) → writeRow j n ≡ writeRow k n
-  unfolding writeRow
-  row-alike n = rows-alike j k r _ _
-
-  row-off : (n : ℕ) → eqb (writeRow k n .number) 0 ≡ false
-  unfolding writeRow
-  row-off n = rows-off j k r _
-
   wrote-alike : (n : ℕ) → wrote j n ≡ wrote k n
   unfolding wrote
-  wrote-alike n = rw (row-alike n, row-off n)
+  wrote-alike n = rw (r .alike, r .refused)
 
   out-alike : (l : List ℕ) → outAfter j l ≡ outAfter k l
   unfolding outAfter
-  out-alike l = rw (row-alike (length l), row-off (length l))
+  out-alike l = rw (r .alike, r .refused)
 
 -- ---- both lists laid as numbers
 

@@ -1,6 +1,6 @@
 // Write: rows 4, 2, 3, 5, then 15.
-use crate::Wrote;
 use layout::Word;
+use out_slice::Wrote;
 use route::Route;
 use route::laying::lay;
 ghost use mathlib.Core.Path.{_≡_};
@@ -8,6 +8,7 @@ ghost use lib.ListN.{length};
 ghost use Rattle.emit.specs.Emit.{Room, Emits};
 ghost use Rattle.job.specs.Job.{jobOf, flatJob};
 ghost use Rattle.job.specs.Lines.{LinesPass};
+ghost use Rattle.out_slice.specs.OutSlice.{wroteText, outWith};
 ghost use Rattle.writer.specs.Written.{written};
 ghost use Rattle.writer.specs.Writes.{wrote, outAfter};
 
@@ -43,28 +44,16 @@ fn write_copied(
     out: &mut [u8],
 ) -> Wrote
     requires { ⌜ LinesPass (flatJob «old_places» (now old) «new_places» (now new) (now done)) ⌝ }
-    ensures { λ r. ⌜ (r ≡ wrote
-        (flatJob «old_places» (now (old .entry)) «new_places» (now (new .entry)) (now (done .entry)))
+    ensures { λ r. ⌜ (r ≡ wroteText
+        (written (flatJob «old_places» (now (old .entry)) «new_places» (now (new .entry)) (now (done .entry))))
         (length (now (out .entry))))
-        × (now (out .exit) ≡ outAfter
-        (flatJob «old_places» (now (old .entry)) «new_places» (now (new .entry)) (now (done .entry)))
+        × (now (out .exit) ≡ outWith
+        (written (flatJob «old_places» (now (old .entry)) «new_places» (now (new .entry)) (now (done .entry))))
         (now (out .entry))) ⌝ }
 {
     let mut apart = [0u8; LONGEST];
     let end = text(&mut apart, old_places, old, new_places, new, done);
-    if out.len() < end {
-        return Wrote {
-            number: 15,
-            second: end as u64,
-            written: 0,
-        };
-    }
-    emit::text(out, 0, &apart[..end]);
-    Wrote {
-        number: 0,
-        second: 0,
-        written: end as u64,
-    }
+    out_slice::copy(&apart[..end], out)
 }
 
 // Write over lists of steps.
@@ -85,21 +74,13 @@ pub fn write_lists(
 {
     let o = job::checks::check_lines(old_places, old, new_places, new, done);
     if !o.passed() {
-        return Wrote {
-            number: o.number,
-            second: o.second,
-            written: 0,
-        };
+        return Wrote::refuse(o.number, o.second);
     }
     if out.len() < LONGEST {
         return write_copied(old_places, old, new_places, new, done, out);
     }
     let end = text(out, old_places, old, new_places, new, done);
-    Wrote {
-        number: 0,
-        second: 0,
-        written: end as u64,
-    }
+    Wrote::all(end)
 }
 
 // The operation write, on records by value.

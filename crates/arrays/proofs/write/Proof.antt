@@ -5,8 +5,8 @@ use denote.Struct.Laws as LL
 use denote.Triple.Spec.{tripleOf}
 use denote.Triple.Table.{entered, cited}
 use Rattle.writer.specs.Writes.{wrote, outAfter}
-use Rattle.writer.proofs.Wrote as R
-use Rattle.writer.proofs.Wrote.Laws as R′
+use Rattle.out_slice.proofs.Wrote as R
+use Rattle.out_slice.proofs.Wrote.Laws as R′
 use Rattle.lent.specs.Lent.{lentJob}
 use Rattle.lent.proofs.write.Symbol as over-lists
 use Rattle.lent.proofs.write.Met as over-lists-thm

@@ -9,8 +9,8 @@ use lib.ListN.{length}
 use contract.Monad.{fact, fact-mono}
 use Rattle.writer.specs.Writes.{wrote, outAfter}
 use Rattle.writer.proofs.LongLists.{wrote-laid, out-laid}
-use Rattle.writer.proofs.Wrote as R
-use Rattle.writer.proofs.Wrote.Laws as R′
+use Rattle.out_slice.proofs.Wrote as R
+use Rattle.out_slice.proofs.Wrote.Laws as R′
 use Rattle.writer.proofs.writes.write_lists.Symbol as core
 use Rattle.writer.proofs.writes.write_lists.Met as core-thm
 use Rattle.records.proofs.lay.Symbol as lay

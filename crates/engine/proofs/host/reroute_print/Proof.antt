@@ -1,7 +1,7 @@
 -- `engine::host::reroute_print`: print's answer, number by number.
 use mathlib.Core.Path.{ap}
 use borrow.Author.Needs.{needs}
-use Rattle.listing.specs.declared.Written.{Written}
+use Rattle.out_slice.specs.declared.Wrote.{Wrote}
 use Rattle.engine.proofs.host.reroute_print.Statement.{statement}
 use Rattle.engine.proofs.host.reroute_print.Tie as tie
 
@@ -9,10 +9,10 @@ returns : tie.Need-returns
 returns c =
     let printed : tie.After-print = search in
     let is = printed .print .ensures in (
-      ap (λ (w : Written). w .number) (is .0),
+      ap (λ (w : Wrote). w .number) (is .0),
       (
-        ap (λ (w : Written). w .second) (is .0),
-        (ap (λ (w : Written). w .written) (is .0), is .1),
+        ap (λ (w : Wrote). w .second) (is .0),
+        (ap (λ (w : Wrote). w .written) (is .0), is .1),
       ),
     )
 

@@ -15,5 +15,5 @@ returns-2 : tie.Need-returns-2
 returns-2 c = (search (needs, printed-long), (search needs, search (needs, out-long)))
 
 pub print-spec : {M : Type 1} → statement M
-print-spec = tie.close (tie.spec returns (λ c κs. search needs) write-listing-requires (λ c. search needs)
-    (λ c. search needs) returns-2)
+print-spec = tie.close (tie.spec (λ c κs. search needs) returns (λ c κs. search needs) write-listing-requires
+    (λ c. search needs) (λ c. search needs) returns-2)
