@@ -2,7 +2,6 @@
 use crate::Judged;
 use crate::Placed;
 use route::Marking;
-use route::flat;
 ghost use mathlib.Core.Path.{_≡_};
 ghost use mathlib.Core.Bool.{cond};
 ghost use mathlib.Core.List.{List, map};
@@ -10,7 +9,7 @@ ghost use Prim.Native.Nat.{ℕ, suc, _≤_, _<_};
 ghost use lib.ListN.{length, getD};
 ghost use Rattle.mask.specs.Mask.{has, count};
 ghost use Rattle.route.specs.declared.Step.{Step};
-ghost use Rattle.route.specs.Flat.{stepsIn};
+ghost use Rattle.flat.specs.Flat.{stepsIn};
 ghost use Rattle.slice.specs.Slice.{variables};
 ghost use Rattle.precedence.specs.Order.{inTurn};
 ghost use Rattle.precedence.specs.Table.{table};

@@ -11,12 +11,10 @@
 //
 // An answer is all its numbers, and every slice that was lent as it then stands. The second program says the same of
 // scripts (reference/src/script.rs).
-use drive_answers::out;
 use drive_script::ends;
 use drive_script::numbers;
 
 mod operations;
-mod over_sheets;
 
 // Each operation in turn. One takes at least a number, so there are no more turns than numbers.
 fn answer_all(nums: &[u64], o: &mut [u8; 65536]) {
@@ -26,14 +24,14 @@ fn answer_all(nums: &[u64], o: &mut [u8; 65536]) {
     while 0 < turns {
         let end = ends::operation(nums, at);
         if end == ends::STOP {
-            out::flush(o, n);
+            drive_out::flush(o, n);
             return;
         }
         n = operations::answer(nums, at, o, n);
         at = end;
         turns -= 1;
     }
-    out::flush(o, n);
+    drive_out::flush(o, n);
 }
 
 fn main() {

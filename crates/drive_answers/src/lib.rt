@@ -1,5 +1,6 @@
 // What an operation answers, as numbers. They are gathered in a buffer, and n of its bytes are in use.
 use answering::Judged;
+use drive_out::runs;
 use facts::Sheet;
 use out_slice::Wrote;
 use reader::Counts;
@@ -9,39 +10,36 @@ use route::Step;
 use slice::Sliced;
 ghost use Prim.Native.Nat.{_≤_};
 
-pub mod out;
-pub mod runs;
-
 // An answer that is a refusal or a marking.
 pub fn marked(o: &mut [u8; 65536], n: usize, first: u32, second: u64, m: Marking) -> usize {
-    out::numbers(o, n, &[first as u64, second, m.tokens])
+    drive_out::numbers(o, n, &[first as u64, second, m.tokens])
 }
 
 pub fn sliced(o: &mut [u8; 65536], n: usize, r: Sliced) -> usize {
-    let m = out::numbers(o, n, &[r.number as u64, r.second, r.kept]);
+    let m = drive_out::numbers(o, n, &[r.number as u64, r.second, r.kept]);
     let table = r.table;
-    out::numbers(o, m, &table)
+    drive_out::numbers(o, m, &table)
 }
 
 fn figures(o: &mut [u8; 65536], n: usize, r: Judged) -> usize {
     let dropped = r.dropped as u64;
     let l = [r.number as u64, r.second, r.kept, dropped, r.len as u64];
-    out::numbers(o, n, &l)
+    drive_out::numbers(o, n, &l)
 }
 
 // The marking, the rows and the writers.
 fn after(o: &mut [u8; 65536], n: usize, r: Judged) -> usize {
-    let mut m = out::number(o, n, r.marking.tokens);
+    let mut m = drive_out::number(o, n, r.marking.tokens);
     let rows = r.after;
-    m = out::numbers(o, m, &rows);
+    m = drive_out::numbers(o, m, &rows);
     let writers = r.writers;
-    out::bytes(o, m, &writers)
+    drive_out::bytes(o, m, &writers)
 }
 
 pub fn judged(o: &mut [u8; 65536], n: usize, r: Judged, work: &[u8]) -> usize {
     let mut m = figures(o, n, r);
     let order = r.order;
-    m = out::bytes(o, m, &order);
+    m = drive_out::bytes(o, m, &order);
     m = after(o, m, r);
     runs::bytes(o, m, work)
 }
@@ -49,11 +47,11 @@ pub fn judged(o: &mut [u8; 65536], n: usize, r: Judged, work: &[u8]) -> usize {
 fn record(o: &mut [u8; 65536], n: usize, s: Step) -> usize {
     let reads = s.reads as u64;
     let l = [s.name as u64, s.ins, s.outs, reads, s.writes as u64];
-    out::numbers(o, n, &l)
+    drive_out::numbers(o, n, &l)
 }
 
 fn route(o: &mut [u8; 65536], n: usize, r: Route) -> usize {
-    let mut m = out::numbers(o, n, &[r.places, r.len as u64]);
+    let mut m = drive_out::numbers(o, n, &[r.places, r.len as u64]);
     let mut i = 0;
     while i < 64 {
         let s = r.steps[i];
@@ -64,12 +62,12 @@ fn route(o: &mut [u8; 65536], n: usize, r: Route) -> usize {
 }
 
 fn names(o: &mut [u8; 65536], n: usize, len: usize, done: [u32; 64]) -> usize {
-    let m = out::number(o, n, len as u64);
-    out::names(o, m, &done)
+    let m = drive_out::number(o, n, len as u64);
+    drive_out::names(o, m, &done)
 }
 
 pub fn sheet(o: &mut [u8; 65536], n: usize, s: Sheet) -> usize {
-    let mut m = out::numbers(o, n, &[s.number as u64, s.second]);
+    let mut m = drive_out::numbers(o, n, &[s.number as u64, s.second]);
     let old = s.old;
     m = route(o, m, old);
     let new = s.new;
@@ -79,7 +77,7 @@ pub fn sheet(o: &mut [u8; 65536], n: usize, s: Sheet) -> usize {
 }
 
 pub fn wrote(o: &mut [u8; 65536], n: usize, r: Wrote, s: &[u8]) -> usize {
-    let m = out::numbers(o, n, &[r.number as u64, r.second, r.written]);
+    let m = drive_out::numbers(o, n, &[r.number as u64, r.second, r.written]);
     runs::bytes(o, m, s)
 }
 
@@ -91,15 +89,15 @@ pub fn printed(o: &mut [u8; 65536], n: usize, r: Wrote, work: &[u8], s: &[u8]) -
 pub fn counts(o: &mut [u8; 65536], n: usize, c: Counts) -> usize {
     let old = c.old_len as u64;
     let new = c.new_len as u64;
-    let m = out::numbers(o, n, &[c.number as u64, c.second, c.old_places, old]);
-    out::numbers(o, m, &[c.new_places, new, c.done_len as u64])
+    let m = drive_out::numbers(o, n, &[c.number as u64, c.second, c.old_places, old]);
+    drive_out::numbers(o, m, &[c.new_places, new, c.done_len as u64])
 }
 
 // A lent list afterwards: its length, then each record.
 pub fn records(o: &mut [u8; 65536], n: usize, l: [Step; 100], len: usize) -> usize
     requires { ⌜ len ≤ 100 ⌝ }
 {
-    let mut m = out::number(o, n, len as u64);
+    let mut m = drive_out::number(o, n, len as u64);
     let mut i = 0;
     while i < len {
         let s = l[i];

@@ -65,14 +65,14 @@ fn counted(nums: &[u64], at: usize, limit: u64, e: Entry) -> usize {
 }
 
 // A place count, any `len`, and at most 64 records.
-pub(crate) fn route(nums: &[u64], at: usize) -> usize {
+pub fn route(nums: &[u64], at: usize) -> usize {
     let places = word(nums, at);
     let len = any(nums, places);
     counted(nums, len, 64, Entry::Record)
 }
 
 // A place count and a lent list.
-pub(crate) fn list(nums: &[u64], at: usize) -> usize {
+pub fn list(nums: &[u64], at: usize) -> usize {
     let places = word(nums, at);
     counted(nums, places, LENT, Entry::Record)
 }

@@ -1,4 +1,3 @@
-// A script of operations: its numbers, where an operation's arguments end, and the arguments as records and bytes.
+// A script of operations: its numbers, and where an operation's arguments end.
 pub mod ends;
-pub mod load;
 pub mod numbers;

@@ -4,7 +4,7 @@ use Rattle.mask.specs.Mask.{has, membersFrom, members, collect, count}
 use Rattle.route.specs.Steps.{stepsOf, union, names, lookup}
 use Rattle.route.specs.Firing.{canFire, fire, ifFires, start}
 use Rattle.refusal.specs.Rows.{unless, first}
-use Rattle.route.specs.Net.{netRow}
+use Rattle.opening.specs.Net.{netRow}
 use Rattle.version.specs.Limits.{nameFits}
 use Rattle.job.specs.Lines.{placesFit, stepFits, variableList, placeList, listsFit, among, stepRow, stepRows, routeRows}
 use Rattle.job.specs.Lines.{doneRow, doneRows, lineRows, checked}

@@ -9,9 +9,9 @@ use Rattle.refusal.specs.Rows.{first}
 use Rattle.refusal.specs.declared.Outcome.{Outcome}
 use Rattle.refusal.proofs.Rows.{rows-pass, rows-refuse, first-alone}
 use Rattle.route.specs.Firing.{start}
-use Rattle.route.specs.Net.{netRow, opened}
+use Rattle.opening.specs.Net.{netRow, opened}
 use Rattle.route.specs.declared.Step.{Step}
-use Rattle.route.specs.declared.Opened.{Opened}
+use Rattle.opening.specs.declared.Opened.{Opened}
 use Rattle.job.specs.Lines.{routeRows}
 use Rattle.job.specs.Alone.{aloneRows, openedAlone}
 

@@ -14,7 +14,7 @@ use Rattle.refusal.specs.Rows.{refuse, unless, first}
 use Rattle.refusal.specs.declared.Outcome.{Outcome}
 use Rattle.refusal.proofs.Rows.{rows-pass, rows-refuse, row-refuses, ends-refused}
 use Rattle.route.specs.Steps.{blank}
-use Rattle.route.specs.Flat.{Laid}
+use Rattle.flat.specs.Flat.{Laid}
 use Rattle.route.specs.declared.Step.{Step}
 use Rattle.job.specs.Job.{Job, flatJob, newLine}
 use Rattle.job.specs.Lines.{placesFit, stepRow, stepRows, routeRows, lineRows, checked}

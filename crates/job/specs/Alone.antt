@@ -6,9 +6,9 @@ use lib.Dec.{eqb}
 use Rattle.refusal.specs.declared.Outcome.{Outcome}
 use Rattle.refusal.specs.Rows.{first}
 use Rattle.route.specs.Firing.{start}
-use Rattle.route.specs.Net.{netRow}
+use Rattle.opening.specs.Net.{netRow}
 use Rattle.route.specs.declared.Step.{Step}
-use Rattle.route.specs.declared.Opened.{Opened}
+use Rattle.opening.specs.declared.Opened.{Opened}
 use Rattle.job.specs.Lines.{routeRows}
 
 -- the head is on line 1

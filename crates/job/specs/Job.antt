@@ -3,7 +3,7 @@ use mathlib.Core.List.{List}
 use Prim.Native.Nat.{ℕ, _+_}
 use lib.ListN.{length}
 use Rattle.route.specs.Steps.{stepsOf}
-use Rattle.route.specs.Flat.{stepsIn}
+use Rattle.flat.specs.Flat.{stepsIn}
 use Rattle.route.specs.Firing.{start}
 use Rattle.route.specs.declared.Step.{Step}
 use Rattle.route.specs.declared.Route.{Route}

@@ -10,7 +10,7 @@ use Rattle.mask.specs.Mask.{below, within, count}
 use Rattle.refusal.specs.Rows.{unless, first}
 use Rattle.version.specs.Limits.{scope, nameFits}
 use Rattle.version.specs.declared.Version.{Version}
-use Rattle.route.specs.Net.{netRow}
+use Rattle.opening.specs.Net.{netRow}
 use Rattle.route.specs.declared.Step.{Step}
 use Rattle.refusal.specs.declared.Outcome.{Outcome}
 use Rattle.job.specs.Job.{Job, afterSteps, newLine, jobLine}

@@ -5,7 +5,7 @@ use mathlib.Core.Bool.{false, cond, and-false}
 use mathlib.Core.List.{List}
 use Prim.Native.Nat.{ℕ}
 use lib.Dec.{eqb, leb}
-use Rattle.route.specs.Flat.{Laid}
+use Rattle.flat.specs.Flat.{Laid}
 use Rattle.job.specs.Job.{Job}
 use Rattle.running.specs.Run.{ran}
 use Rattle.running.specs.declared.Ran.{Ran}

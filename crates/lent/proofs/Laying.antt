@@ -39,7 +39,7 @@ use denote.Triple.Call.{calls-at}
 use denote.Triple.Spec.{tripleOf}
 use denote.Triple.Walked.{says}
 use Rattle.route.specs.declared.Step.{Step}
-use Rattle.route.specs.Flat.{Laid}
+use Rattle.flat.specs.Flat.{Laid}
 use Rattle.route.proofs.Step as St
 use Rattle.records.proofs.Called.{told}
 use Rattle.records.proofs.Locals.{value, sized, slice-sized, all-locals, all-freed, held, sets, points-to}

@@ -13,11 +13,11 @@ use borrow.Author.Tests.{eqb-true, eqb-false}
 use Rattle.route.specs.Steps.{blank, names}
 use Rattle.lookup.specs.inner.Position.{position}
 use Rattle.lookup.specs.inner.Hints.{Hinted}
-use Rattle.route.specs.Flat.{stepsIn}
+use Rattle.flat.specs.Flat.{stepsIn}
 use Rattle.route.specs.declared.Step.{Step}
 use Rattle.lookup.specs.declared.Found.the-variants.{At, Nothing}
 use Rattle.route.proofs.StepList.{length-names, getD-names}
-use Rattle.route.proofs.FlatSteps.{flat-names}
+use Rattle.flat.proofs.FlatSteps.{flat-names}
 use Rattle.lookup.proofs.Position.{moved, moved-none, position-hit, position-miss, position-end}
 
 -- ---- gathering: no names, one name more

@@ -1,5 +1,4 @@
 // Look-up by name in a list of steps.
-use route::flat;
 ghost use mathlib.Core.Path.{_≡_};
 ghost use mathlib.Core.List.{List, [], _∷_, _++_};
 ghost use Prim.Native.Nat.{ℕ, _≤_, _<_};
@@ -7,7 +6,7 @@ ghost use lib.ListN.{length};
 ghost use Rattle.route.specs.Steps.{names};
 ghost use Rattle.lookup.specs.inner.Position.{position};
 ghost use Rattle.lookup.specs.inner.Hints.{Hinted};
-ghost use Rattle.route.specs.Flat.{stepsIn};
+ghost use Rattle.flat.specs.Flat.{stepsIn};
 
 // Where a name stands.
 pub enum Found {

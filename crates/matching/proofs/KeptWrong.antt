@@ -15,7 +15,7 @@ use Rattle.mask.proofs.Laws.{has-zero, has-without, member-of}
 use Rattle.mask.proofs.Lowest.{lowest-le, lowest-in}
 use Rattle.mask.proofs.Truth.{split, both}
 use Rattle.route.specs.Steps.{blank}
-use Rattle.route.specs.Flat.{stepsIn}
+use Rattle.flat.specs.Flat.{stepsIn}
 use Rattle.route.specs.declared.Step.{Step}
 use Rattle.refusal.specs.Rows.{pass, refuse, first}
 use Rattle.refusal.specs.declared.Outcome.{Outcome}

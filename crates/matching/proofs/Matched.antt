@@ -9,7 +9,7 @@ use native.Mathlib.Omega.{arith}
 use lib.ListN.{length, getD}
 use borrow.Author.Tests.{ne-eqb}
 use Rattle.route.specs.Steps.{blank, names, lookup}
-use Rattle.route.specs.Flat.{stepsIn}
+use Rattle.flat.specs.Flat.{stepsIn}
 use Rattle.route.specs.declared.Step.{Step}
 use Rattle.route.proofs.StepList.{lookup-name, length-names, getD-names}
 use Rattle.running.proofs.Performed.{length-performed, performed-at}

@@ -11,7 +11,7 @@ use Rattle.mask.specs.Mask.{has}
 use Rattle.refusal.specs.Rows.{refuse, first}
 use Rattle.refusal.specs.declared.Outcome.{Outcome}
 use Rattle.refusal.proofs.Rows.{cond-zero-elim}
-use Rattle.route.specs.Flat.{stepsIn, Holds}
+use Rattle.flat.specs.Flat.{stepsIn, Holds}
 use Rattle.route.specs.declared.Step.{Step}
 use Rattle.job.specs.Job.{Job, flatJob, jobLine, newStart}
 use Rattle.job.specs.Lines.{lineRows, LinesPass}

@@ -13,7 +13,7 @@ use borrow.Author.Tests.{eq-eqb, ne-eqb, not-true, not-false}
 use Rattle.mask.specs.Mask.{bit, collect}
 use Rattle.mask.proofs.Laws.{collect-hit, collect-miss}
 use Rattle.route.specs.Steps.{blank}
-use Rattle.route.specs.Flat.{stepsIn}
+use Rattle.flat.specs.Flat.{stepsIn}
 use Rattle.route.specs.declared.Step.{Step}
 use Rattle.matching.specs.Straight.{sameData, sameStep}
 use Rattle.matching.specs.inner.Matches.{MatchesOf, present, sameMask}

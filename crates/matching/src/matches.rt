@@ -14,7 +14,7 @@ use slice::variables::variables_of;
 ghost use mathlib.Core.Path.{_≡_};
 ghost use Prim.Native.Nat.{_≤_};
 ghost use lib.ListN.{length};
-ghost use Rattle.route.specs.Flat.{stepsIn};
+ghost use Rattle.flat.specs.Flat.{stepsIn};
 ghost use Rattle.job.specs.Job.{flatJob};
 ghost use Rattle.job.specs.Lines.{LinesPass};
 ghost use Rattle.matching.specs.inner.Matched.{PreparedOf};

@@ -2,7 +2,6 @@
 use crate::End;
 use refusal::Outcome;
 use route::Route;
-use route::flat;
 ghost use mathlib.Core.Path.{_≡_};
 ghost use mathlib.Core.List.{List};
 ghost use mathlib.Core.Bool.{true, _||_};
@@ -12,7 +11,7 @@ ghost use lib.ListN.{length};
 ghost use Rattle.mask.specs.Mask.{has, members, count};
 ghost use Rattle.refusal.specs.Rows.{first};
 ghost use Rattle.route.specs.declared.Step.{Step};
-ghost use Rattle.route.specs.Flat.{stepsIn};
+ghost use Rattle.flat.specs.Flat.{stepsIn};
 ghost use Rattle.matching.specs.Fit.{keptOf};
 ghost use Rattle.matching.specs.KeptRows.{keptLines, keptRows};
 ghost use Rattle.matching.specs.inner.Matched.{straightEnd};

@@ -1,12 +1,11 @@
 // Which occurrences the new route has with the same reads and writes.
 use route::Step;
-use route::flat;
 ghost use mathlib.Core.Path.{_≡_};
 ghost use mathlib.Core.List.{List};
 ghost use Prim.Native.Nat.{_≤_};
 ghost use lib.ListN.{length};
 ghost use Rattle.route.specs.declared.Step.{Step};
-ghost use Rattle.route.specs.Flat.{stepsIn};
+ghost use Rattle.flat.specs.Flat.{stepsIn};
 ghost use Rattle.matching.specs.Straight.{sameData};
 ghost use Rattle.matching.specs.inner.Matches.{MatchesOf, present, sameMask};
 

@@ -5,10 +5,10 @@ use Prim.Native.Nat.{ℕ, _*_, _-_, _≤_}
 use native.Mathlib.Omega.{arith}
 use lib.ListN.{length, take, replicate, length-append, length-replicate, length-map}
 use Rattle.route.specs.Steps.{blank, stepsOf}
-use Rattle.route.specs.Flat.{stepsIn}
+use Rattle.flat.specs.Flat.{stepsIn}
 use Rattle.route.specs.declared.Step.{Step}
 use Rattle.route.specs.declared.Route.{Route}
-use Rattle.route.proofs.FlatSteps.{length-flat, flat-take}
+use Rattle.flat.proofs.FlatSteps.{length-flat, flat-take}
 use Rattle.job.specs.Job.{flatJob}
 use Rattle.job.specs.Lines.{LinesPass}
 use Rattle.version.specs.Limits.{scope}

@@ -2,14 +2,13 @@
 use precedence::table_of;
 use refusal::Outcome;
 use route::Marking;
-use route::flat;
 ghost use mathlib.Core.Path.{_≡_};
 ghost use mathlib.Core.Bool.{true, not, _&&_};
 ghost use mathlib.Core.List.{List, map};
 ghost use Prim.Native.Nat.{ℕ, _-_, _≤_, _<_};
 ghost use lib.ListN.{length};
 ghost use Rattle.mask.specs.Mask.{has};
-ghost use Rattle.route.specs.Flat.{stepsIn};
+ghost use Rattle.flat.specs.Flat.{stepsIn};
 ghost use Rattle.route.specs.declared.Step.{Step};
 ghost use Rattle.precedence.specs.Table.{table};
 ghost use Rattle.order_entries.specs.Entries.{tryStopped, isKept, listRow, tryFrom, tryEntries};

@@ -1,10 +1,9 @@
 // The precedence table, by variable: the earlier writers and the earlier readers of each.
-use route::flat;
 ghost use mathlib.Core.Path.{_≡_};
 ghost use Prim.Native.Nat.{ℕ, _≤_};
 ghost use lib.ListN.{length};
 ghost use lib.Bits.{bitOr};
-ghost use Rattle.route.specs.Flat.{stepsIn};
+ghost use Rattle.flat.specs.Flat.{stepsIn};
 ghost use Rattle.precedence.specs.inner.ByVariable.{ByVariable, meeting, Gathers, Joins};
 ghost use Rattle.precedence.specs.Table.{table};
 

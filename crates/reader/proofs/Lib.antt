@@ -1,7 +1,3 @@
--- Laws on reading: from line to line, and the whole sheet.
-pub mod PrefixStep
-pub mod HeadLines
-pub mod StepLines
-pub mod DoneLines
+-- Laws on reading a whole sheet.
 pub mod WholeSheet
 pub mod StepsOut

@@ -8,10 +8,10 @@ use native.Mathlib.Numerals.{add-one}
 use lib.ListN.{length, getD, take, set, length-set, length-replicate}
 use lib.Seq.{take-suc, take-suc-set, take-all}
 use Rattle.route.specs.Steps.{blank, noRoute}
-use Rattle.route.specs.Flat.{stepsIn}
+use Rattle.flat.specs.Flat.{stepsIn}
 use Rattle.route.specs.declared.Step.{Step}
 use Rattle.route.specs.declared.Route.{Route}
-use Rattle.route.proofs.FlatSteps.{length-flat}
+use Rattle.flat.proofs.FlatSteps.{length-flat}
 use Rattle.reader.specs.inner.Read.{routeIn}
 
 pub record Copied (places len : ℕ) (l : List Step) (r : Route) (i : ℕ) : Type 0 where

@@ -10,7 +10,7 @@ use lib.ListN.{length, take, drop, replicate, length-drop, drop-of-length-le}
 use lib.Seq.{take-all}
 use borrow.Author.Tests.{eq-eqb, ne-eqb, not-true, not-false}
 use Rattle.route.specs.Steps.{blank}
-use Rattle.route.specs.Flat.{stepsIn}
+use Rattle.flat.specs.Flat.{stepsIn}
 use Rattle.route.specs.declared.Step.{Step}
 use Rattle.route.specs.declared.Route.{Route}
 use Rattle.version.specs.declared.Version.{Version}
@@ -22,15 +22,15 @@ use Rattle.facts.specs.JobPart.{afterLines, jobPart, PastLines}
 use Rattle.facts.specs.declared.Sheet.{Sheet}
 use Rattle.tokens.specs.inner.Tokens.{Broken}
 use Rattle.line_reader.specs.inner.Lines.{hasSteps}
-use Rattle.reader.specs.inner.Prefix.{stateOf, Prefix, Upto, passed, withRoute, withDones, OldOn, NewOn, JobOn}
-use Rattle.reader.specs.inner.Prefix.{StepsOn, DonesOn}
+use Rattle.part_reader.specs.inner.Prefix.{stateOf, Prefix, Upto, passed, withRoute, withDones, OldOn, NewOn, JobOn}
+use Rattle.part_reader.specs.inner.Prefix.{StepsOn, DonesOn}
 use Rattle.reader.specs.inner.Read.{ReadInto, ReadTo, routeIn}
-use Rattle.reader.specs.declared.Pass.{Pass}
-use Rattle.reader.specs.declared.Head.{Head}
-use Rattle.reader.specs.declared.Filled.{Filled}
+use Rattle.part_reader.specs.declared.Pass.{Pass}
+use Rattle.part_reader.specs.declared.Head.{Head}
+use Rattle.part_reader.specs.declared.Filled.{Filled}
 use Rattle.reader.specs.Refused.{noCounts}
 use Rattle.reader.specs.declared.Counts.{Counts}
-use Rattle.reader.proofs.PrefixStep.{settled-yes, settled-no, whole-state}
+use Rattle.part_reader.proofs.PrefixStep.{settled-yes, settled-no, whole-state}
 
 -- ---- where the bytes end
 

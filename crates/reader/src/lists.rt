@@ -1,6 +1,6 @@
 // Reading a sheet into lent lists.
 use crate::Counts;
-use crate::parts;
+use part_reader::parts;
 use version::Version;
 ghost use mathlib.Core.Path.{_≡_};
 ghost use lib.ListN.{replicate};

@@ -2,9 +2,8 @@
 use crate::lists::read_lists;
 use facts::Sheet;
 use route::Route;
-use route::flat;
 ghost use mathlib.Core.Path.{_≡_};
-ghost use Rattle.route.specs.Flat.{stepsIn};
+ghost use Rattle.flat.specs.Flat.{stepsIn};
 ghost use Rattle.facts.specs.Facts.{readOf};
 ghost use Rattle.reader.specs.inner.Read.{routeIn};
 

@@ -7,10 +7,10 @@ use native.Mathlib.Numerals.{add-one}
 use lib.ListN.{length, take, getD, set}
 use lib.Seq.{take-all}
 use Rattle.route.specs.Steps.{blank}
-use Rattle.route.specs.Flat.{stepsIn, Laid}
+use Rattle.flat.specs.Flat.{stepsIn, Laid}
 use Rattle.route.specs.declared.Step.{Step}
-use Rattle.route.proofs.FlatSteps.{length-flat, flat-take}
-use Rattle.route.proofs.LaidSteps.{laid-more}
+use Rattle.flat.proofs.FlatSteps.{length-flat, flat-take}
+use Rattle.flat.proofs.LaidSteps.{laid-more}
 
 -- the numbers after i turns: l is laid, w stood there before
 pub record Turned (l : List Step) (w : List ℕ) (i : ℕ) : Type 0 where

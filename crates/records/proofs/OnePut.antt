@@ -1,4 +1,4 @@
--- A call of `route::flat::put`: numbers in a row are lent for the call, and come back with a step put away at i.
+-- A call of `flat::put`: numbers in a row are lent for the call, and come back with a step put away at i.
 use mathlib.Core.Path.{_≡_, refl}
 use Prim.Native.Nat.{ℕ, _<_, _^_}
 use mathlib.Core.List.{List, [], _∷_}
@@ -31,10 +31,10 @@ use denote.Triple.Statement.{Contract, Triple}
 use denote.Triple.Call.{calls-at}
 use denote.Triple.Spec.{tripleOf}
 use denote.Triple.Walked.{says, needs}
-use Rattle.route.specs.Flat.{stepsIn}
+use Rattle.flat.specs.Flat.{stepsIn}
 use Rattle.route.specs.declared.Step.{Step}
-use Rattle.route.proofs.flat.put as put′
-use Rattle.route.proofs.flat.put.Symbol.{name as #put}
+use Rattle.flat.proofs.put as put′
+use Rattle.flat.proofs.put.Symbol.{name as #put}
 use Rattle.records.proofs.Record.{S, makes}
 use Rattle.records.proofs.Called.{told}
 use Rattle.records.proofs.LentRow.{lentRow, mutRow, lends-mut, mut-back}

@@ -1,4 +1,4 @@
--- A call that copies one record out of a lent list, as `record_at` does from records and `route::flat::step_at` from
+-- A call that copies one record out of a lent list, as `record_at` does from records and `flat::step_at` from
 -- numbers: the lifetime's token comes back, and the record is there.
 use mathlib.Core.Path.{_≡_, refl, subst}
 use Prim.Native.Nat.{ℕ, _<_, _^_}

@@ -1,12 +1,12 @@
 // Lent lists of step records.
+use flat::put;
+use flat::step_at;
 use route::Step;
-use route::flat::put;
-use route::flat::step_at;
 ghost use mathlib.Core.Path.{_≡_};
 ghost use Prim.Native.Nat.{_≤_};
 ghost use lib.ListN.{length, getD};
 ghost use Rattle.route.specs.Steps.{blank};
-ghost use Rattle.route.specs.Flat.{stepsIn, Laid};
+ghost use Rattle.flat.specs.Flat.{stepsIn, Laid};
 ghost use Rattle.records.specs.Overlaid.{overlaid};
 
 // Lays a lent list's records as numbers, at most 65 of them, since row 4 refuses the 65th; how many numbers there are.

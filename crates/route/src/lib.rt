@@ -1,10 +1,5 @@
-// A route by value, its marking, and the rows that speak of a route as a whole.
-use refusal::Outcome;
-
+// A route by value, its steps and its marking.
 pub mod firing;
-pub mod flat;
-pub mod laying;
-pub mod opening;
 pub mod steps;
 
 // Places and variables are bit masks: place p at bit p.
@@ -31,17 +26,5 @@ pub struct Marking {
 pub struct Fired {
     pub number: u32,
     pub second: u64,
-    pub marking: Marking,
-}
-
-// The places that some step takes from, and those that some step puts to.
-pub struct Ends {
-    pub ins: u64,
-    pub outs: u64,
-}
-
-// What rows 6 and 7 say of a route, and its start.
-pub struct Opened {
-    pub outcome: Outcome,
     pub marking: Marking,
 }

@@ -4,7 +4,7 @@ use mathlib.Core.Bool.{false}
 use mathlib.Core.List.{List}
 use Prim.Native.Nat.{ℕ}
 use lib.Dec.{eqb}
-use Rattle.route.specs.Flat.{Laid}
+use Rattle.flat.specs.Flat.{Laid}
 use Rattle.job.specs.Job.{Job}
 use Rattle.job.proofs.LongLists.{Refused, checked-alike, checked-off, laidJob, same-laid}
 use Rattle.running.specs.Run.{ran}

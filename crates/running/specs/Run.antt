@@ -7,9 +7,9 @@ use Prim.Native.Nat.{ℕ, _+_}
 use lib.Dec.{eqb}
 use Rattle.refusal.specs.Rows.{refuse, first}
 use Rattle.route.specs.Steps.{blank, lookup}
-use Rattle.route.specs.Flat.{Holds}
+use Rattle.flat.specs.Flat.{Holds}
 use Rattle.route.specs.Firing.{start, ifFires}
-use Rattle.route.specs.Net.{netRow}
+use Rattle.opening.specs.Net.{netRow}
 use Rattle.route.specs.declared.Step.{Step}
 use Rattle.job.specs.Job.{Job, afterSteps, jobLine, oldStart, newStart}
 use Rattle.job.specs.Lines.{checked}

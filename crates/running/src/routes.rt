@@ -1,8 +1,8 @@
 // The operation run, on records by value.
 use crate::Ran;
 use crate::lists::run_lists;
+use flat::laying::lay;
 use route::Route;
-use route::laying::lay;
 ghost use mathlib.Core.Path.{_≡_};
 ghost use Rattle.job.specs.Job.{jobOf};
 ghost use Rattle.running.specs.Run.{ran};

@@ -1,7 +1,7 @@
 // The route parts of 01's examples.
-use crate::say;
 use samples::letters;
 use samples::letters::Sample;
+use show_ran::say;
 
 fn say_sample(label: &[u8], x: Sample) {
     let done = x.done;

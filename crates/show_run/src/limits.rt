@@ -1,8 +1,8 @@
 // 64 places and 65, 64 steps and 65, 64 done names and 65.
-use crate::say;
 use route::Route;
 use samples::chains;
 use samples::letters;
+use show_ran::say;
 
 fn say_places(label: &[u8], r: Route) {
     say(label, r, r, &[100, 101]);

@@ -1,32 +1,10 @@
 // Prints run's answers on records: the route parts of 01's examples, the limits, and a wrong record for each row; then
 // fire's. Each line is a label, the number, the second number and the marking.
-use route::Route;
-use samples::letters as routes;
-use samples::lines;
+use show_ran::faults;
 
-mod faults;
 mod fires;
 mod letters;
 mod limits;
-
-fn say(label: &[u8], old: Route, new: Route, done: &[u32]) {
-    let r = running::routes::run(old, new, done);
-    lines::answer(label, r.number, r.second, r.marking);
-}
-
-// Nothing done.
-fn say_bare(label: &[u8], old: Route, new: Route) {
-    say(label, old, new, &[]);
-}
-
-// The routes of example A, and one name done.
-fn say_one(label: &[u8], a: u32) {
-    say(label, routes::a_old(), routes::a_new(), &[a]);
-}
-
-fn say_two(label: &[u8], a: u32, b: u32) {
-    say(label, routes::a_old(), routes::a_new(), &[a, b]);
-}
 
 fn main() {
     letters::show();

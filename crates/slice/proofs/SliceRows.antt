@@ -9,7 +9,7 @@ use lib.Dec.{eqb}
 use lib.ListN.{length, take, length-take}
 use Rattle.refusal.specs.Rows.{first}
 use Rattle.refusal.specs.declared.Outcome.{Outcome}
-use Rattle.route.specs.Flat.{stepsIn, Laid}
+use Rattle.flat.specs.Flat.{stepsIn, Laid}
 use Rattle.job.specs.Job.{Job}
 use Rattle.job.specs.Lines.{lineRows, LinesPass}
 use Rattle.running.specs.Run.{ran, performed, BegunOf}

@@ -2,10 +2,10 @@
 use crate::Sliced;
 use crate::sweeping::keep;
 use crate::variables::variables_of;
+use flat::laying::lay;
 use job::checks::check_lines;
 use precedence::table_of;
 use route::Route;
-use route::laying::lay;
 use running::lists::begin;
 ghost use mathlib.Core.Path.{_≡_};
 ghost use Rattle.job.specs.Job.{jobOf, flatJob};

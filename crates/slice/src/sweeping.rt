@@ -1,9 +1,8 @@
 // Which of the steps done are kept: one sweep from the last to the first.
-use route::flat;
 ghost use mathlib.Core.Path.{_≡_};
 ghost use Prim.Native.Nat.{_≤_};
 ghost use lib.ListN.{length};
-ghost use Rattle.route.specs.Flat.{stepsIn};
+ghost use Rattle.flat.specs.Flat.{stepsIn};
 ghost use Rattle.slice.specs.Slice.{keptMask};
 
 pub fn keep(occurrences: &[u64], vars: u32) -> u64

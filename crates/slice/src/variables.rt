@@ -1,7 +1,6 @@
 // The variables of a route.
-use route::flat;
 ghost use mathlib.Core.Path.{_≡_};
-ghost use Rattle.route.specs.Flat.{stepsIn};
+ghost use Rattle.flat.specs.Flat.{stepsIn};
 ghost use Rattle.slice.specs.Slice.{variables};
 
 // All that the steps read or write.

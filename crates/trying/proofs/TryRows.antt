@@ -8,7 +8,7 @@ use lib.Dec.{eqb}
 use lib.ListN.{length}
 use borrow.Author.Tests.{not-true, not-false}
 use Rattle.refusal.specs.Rows.{refuse, first}
-use Rattle.route.specs.Flat.{Laid}
+use Rattle.flat.specs.Flat.{Laid}
 use Rattle.route.specs.declared.Step.{Step}
 use Rattle.route.specs.declared.Marking.{Marking}
 use Rattle.refusal.specs.declared.Outcome.{Outcome}

@@ -1,4 +1,5 @@
 // The operation try: an order that somebody hands in.
+use flat::laying::lay;
 use job::checks::check_lines;
 use matching::End;
 use matching::Prepared;
@@ -6,15 +7,13 @@ use matching::matches::prepare;
 use order_entries::Tried;
 use order_entries::by_rows;
 use route::Route;
-use route::flat;
-use route::laying::lay;
 ghost use mathlib.Core.Path.{_≡_};
 ghost use mathlib.Core.Bool.{true, cond};
 ghost use mathlib.Core.List.{List, map};
 ghost use Prim.Native.Nat.{ℕ, suc, _≤_, _<_};
 ghost use lib.ListN.{length};
 ghost use Rattle.mask.specs.Mask.{has};
-ghost use Rattle.route.specs.Flat.{stepsIn};
+ghost use Rattle.flat.specs.Flat.{stepsIn};
 ghost use Rattle.route.specs.declared.Step.{Step};
 ghost use Rattle.job.specs.Job.{jobOf, flatJob};
 ghost use Rattle.job.specs.Lines.{LinesPass};

@@ -3,7 +3,7 @@
 use mathlib.Core.Path.{_≡_, _∙_}
 use mathlib.Core.List.{List}
 use Prim.Native.Nat.{ℕ}
-use Rattle.route.specs.Flat.{Laid}
+use Rattle.flat.specs.Flat.{Laid}
 use Rattle.job.specs.Job.{Job}
 use Rattle.job.proofs.LongLists.{Refused, laidJob, same-laid}
 use Rattle.writer.specs.Writes.{wrote, outAfter}

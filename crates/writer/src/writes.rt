@@ -1,8 +1,8 @@
 // Write: rows 4, 2, 3, 5, then 15.
+use flat::laying::lay;
 use layout::Word;
 use out_slice::Wrote;
 use route::Route;
-use route::laying::lay;
 ghost use mathlib.Core.Path.{_≡_};
 ghost use lib.ListN.{length};
 ghost use Rattle.emit.specs.Emit.{Room, Emits};

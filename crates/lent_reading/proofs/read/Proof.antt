@@ -39,9 +39,9 @@ use denote.Triple.Entry.{onEntry}
 use denote.Triple.Spec.{Meets, tripleOf}
 use denote.Triple.Table.{entered, cited}
 use denote.Triple.Walked.{says}
-use Rattle.route.specs.Flat.{stepsIn}
+use Rattle.flat.specs.Flat.{stepsIn}
 use Rattle.route.specs.declared.Step.{Step}
-use Rattle.route.proofs.FlatSteps.{length-flat}
+use Rattle.flat.proofs.FlatSteps.{length-flat}
 use Rattle.route.proofs.Step as St
 use Rattle.facts.specs.Facts.{readOf}
 use Rattle.facts.specs.declared.Sheet.{Sheet}

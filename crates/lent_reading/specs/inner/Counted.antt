@@ -3,7 +3,7 @@ use mathlib.Core.Path.{_≡_}
 use mathlib.Core.List.{List}
 use Prim.Native.Nat.{ℕ, _≤_}
 use lib.ListN.{take}
-use Rattle.route.specs.Flat.{stepsIn}
+use Rattle.flat.specs.Flat.{stepsIn}
 use Rattle.facts.specs.Facts.{readOf}
 use Rattle.reader.specs.declared.Counts.{Counts}
 use Rattle.lent_reading.specs.Reading.{counted}

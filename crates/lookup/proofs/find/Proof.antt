@@ -5,7 +5,7 @@ use lib.ListN.{drop}
 use borrow.Author.Needs.{needs}
 use Rattle.route.specs.Steps.{names}
 use Rattle.lookup.specs.inner.Position.{position}
-use Rattle.route.specs.Flat.{stepsIn}
+use Rattle.flat.specs.Flat.{stepsIn}
 use Rattle.lookup.proofs.Position.{moved, moved-none, find-hit, find-miss, find-end}
 use Rattle.lookup.proofs.find.Statement.{statement}
 use Rattle.lookup.proofs.find.Tie as tie

@@ -2,8 +2,8 @@
 use mathlib.Core.Path.{refl}
 use native.Mathlib.Omega.{arith}
 use borrow.Author.Needs.{needs}
-use Rattle.route.specs.Flat.{stepsIn}
-use Rattle.route.proofs.FlatSteps.{length-flat}
+use Rattle.flat.specs.Flat.{stepsIn}
+use Rattle.flat.proofs.FlatSteps.{length-flat}
 use Rattle.lookup.proofs.DigitHints.{hint-none, hint-few, hint-inside, hint-first}
 use Rattle.lookup.proofs.find_by.Statement.{statement}
 use Rattle.lookup.proofs.find_by.Tie as tie

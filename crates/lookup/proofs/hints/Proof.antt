@@ -3,7 +3,7 @@ use Prim.Native.Nat.{_-_, _≤_}
 use lib.ListN.{take}
 use Rattle.route.specs.Steps.{names}
 use Rattle.lookup.specs.inner.Hints.{Hinted}
-use Rattle.route.specs.Flat.{stepsIn}
+use Rattle.flat.specs.Flat.{stepsIn}
 use borrow.Author.Needs.{needs}
 use Rattle.lookup.proofs.DigitHints.{hinted-none, hinted-on, hinted-all}
 use Rattle.lookup.proofs.hints.Statement.{statement}

@@ -5,7 +5,7 @@ use mathlib.Core.List.{List}
 use mathlib.Core.Option.{Option·getD}
 use Prim.Native.Nat.{ℕ}
 use Rattle.route.specs.Steps.{names}
-use Rattle.route.specs.Flat.{Holds}
+use Rattle.flat.specs.Flat.{Holds}
 use Rattle.route.specs.declared.Step.{Step}
 use Rattle.job.specs.Job.{Job, jobLine, newStart}
 use Rattle.running.specs.Run.{performed, ran}

@@ -9,7 +9,7 @@ use lib.Dec.{eqb}
 use lib.ListN.{length, getD}
 use Rattle.mask.specs.Mask.{collect}
 use Rattle.route.specs.Steps.{blank, names}
-use Rattle.route.specs.Flat.{stepsIn}
+use Rattle.flat.specs.Flat.{stepsIn}
 use Rattle.route.specs.declared.Step.{Step}
 use Rattle.job.specs.Lines.{AllNamed}
 use Rattle.slice.specs.Slice.{variables}

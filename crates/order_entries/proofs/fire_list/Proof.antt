@@ -3,7 +3,7 @@ use Prim.Native.Nat.{_-_, _≤_}
 use native.Mathlib.Omega.{arith}
 use borrow.Author.Needs.{needs}
 use lib.ListN.{length}
-use Rattle.route.specs.Flat.{stepsIn}
+use Rattle.flat.specs.Flat.{stepsIn}
 use Rattle.order_entries.proofs.Entry.{Placed, placed-init, placed-done, entry-first, entry-below}
 use Rattle.order_entries.proofs.Entry.{entry-offset, entry-step, placed-early, placed-stuck, placed-step}
 use Rattle.order_entries.proofs.fire_list.Statement.{statement}

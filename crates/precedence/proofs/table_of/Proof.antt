@@ -10,7 +10,7 @@ use lib.Pow.{pow-pos}
 use lib.ListN.{length, getD, set}
 use Rattle.mask.specs.Mask.{bit}
 use Rattle.route.specs.Steps.{blank}
-use Rattle.route.specs.Flat.{stepsIn}
+use Rattle.flat.specs.Flat.{stepsIn}
 use Rattle.route.specs.declared.Step.{Step}
 use Rattle.precedence.specs.Precedence.{row}
 use Rattle.precedence.specs.Table.{table}

@@ -2,7 +2,7 @@
 use mathlib.Core.Path.{_≡_}
 use mathlib.Core.List.{List}
 use Prim.Native.Nat.{ℕ, _≤_}
-use Rattle.route.specs.Flat.{stepsIn}
+use Rattle.flat.specs.Flat.{stepsIn}
 use Rattle.route.specs.declared.Step.{Step}
 use Rattle.route.specs.declared.Route.{Route}
 use Rattle.version.specs.Limits.{scope}

@@ -45,13 +45,13 @@ use denote.Triple.Statement.{Contract, Triple}
 use denote.Triple.Table.{entered, cited}
 use denote.Triple.Walked.{says, needs}
 use Rattle.route.specs.Steps.{blank}
-use Rattle.route.specs.Flat.{stepsIn}
+use Rattle.flat.specs.Flat.{stepsIn}
 use Rattle.route.specs.declared.Step.{Step}
 use Rattle.route.proofs.Step.Laws as St′
-use Rattle.route.proofs.flat.step_at as step-at′
-use Rattle.route.proofs.flat.step_at.Symbol as step-at-def
-use Rattle.route.proofs.flat.step_at.Symbol.{name as #step-at}
-use Rattle.route.proofs.flat.step_at.Met as step-at-thm
+use Rattle.flat.proofs.step_at as step-at′
+use Rattle.flat.proofs.step_at.Symbol as step-at-def
+use Rattle.flat.proofs.step_at.Symbol.{name as #step-at}
+use Rattle.flat.proofs.step_at.Met as step-at-thm
 use Rattle.records.specs.Overlaid.{overlaid}
 use Rattle.records.proofs.Copied.{copied, length-copied, copied-is}
 use Rattle.records.proofs.Record.{S, word, vals, tells, offset-fits as lies, holds, fails, typed, makes}
@@ -270,5 +270,5 @@ fill-spec 𝓤 H 𝓜 𝓖 𝓡 =
     entered 𝓤 H (tripleOf 𝓤 H (𝓖 .A) fill′.signature (fill′.spec 𝓤 H (𝓖 .A) (𝓜 .mem) (𝓡 .run)))
     (tables 𝓤 H 𝓜 𝓡 code.env .C) (tables 𝓤 H 𝓜 𝓡 code.env .Λ) #records·fill code.function (code.unfolded 𝓤 H 𝓜 𝓡)
     (fill-meets 𝓤 H (𝓖 .A) (givenOf 𝓤 H 𝓜 𝓖) (𝓜 .mem) (𝓡 .run) (tablesOf 𝓤 H 𝓜 (tables 𝓤 H 𝓜 𝓡 code.env))
-    (cited 𝓤 H _ 𝓜 𝓡 code.env step-at-def.name step-at-def.routine code.calls-route·flat·step-at
+    (cited 𝓤 H _ 𝓜 𝓡 code.env step-at-def.name step-at-def.routine code.calls-flat·step-at
     (step-at-thm.met 𝓤 H 𝓜 𝓖 𝓡)))

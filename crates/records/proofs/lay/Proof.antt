@@ -46,12 +46,12 @@ use denote.Triple.Statement.{Contract, Triple}
 use denote.Triple.Table.{entered, cited}
 use denote.Triple.Walked.{says, needs}
 use Rattle.route.specs.Steps.{blank}
-use Rattle.route.specs.Flat.{Laid}
+use Rattle.flat.specs.Flat.{Laid}
 use Rattle.route.specs.declared.Step.{Step}
 use Rattle.route.proofs.Step.Laws as St′
-use Rattle.route.proofs.flat.put.Symbol as put-def
-use Rattle.route.proofs.flat.put.Symbol.{name as #put}
-use Rattle.route.proofs.flat.put.Met as put-thm
+use Rattle.flat.proofs.put.Symbol as put-def
+use Rattle.flat.proofs.put.Symbol.{name as #put}
+use Rattle.flat.proofs.put.Met as put-thm
 use Rattle.records.proofs.LaidRecords.{Turned, turned-init, turned-room, turned-step, turned-done, take-whole}
 use Rattle.records.proofs.Record.{S, word, holds, fails, typed}
 use Rattle.records.proofs.Called.{Known, tells as ends-with, meets}
@@ -284,4 +284,4 @@ lay-spec 𝓤 H 𝓜 𝓖 𝓡 =
     (lay-meets 𝓤 H (𝓖 .A) (givenOf 𝓤 H 𝓜 𝓖) (𝓜 .mem) (𝓡 .run) (tablesOf 𝓤 H 𝓜 (tables 𝓤 H 𝓜 𝓡 code.env))
     (cited 𝓤 H _ 𝓜 𝓡 code.env record-at.name record-at.routine code.calls-records·record-at
     (record-at-thm.met 𝓤 H 𝓜 𝓖 𝓡))
-    (cited 𝓤 H _ 𝓜 𝓡 code.env put-def.name put-def.routine code.calls-route·flat·put (put-thm.met 𝓤 H 𝓜 𝓖 𝓡)))
+    (cited 𝓤 H _ 𝓜 𝓡 code.env put-def.name put-def.routine code.calls-flat·put (put-thm.met 𝓤 H 𝓜 𝓖 𝓡)))

@@ -6,7 +6,7 @@ use lib.ListN.{length, drop}
 use borrow.Author.Needs.{needs}
 use Rattle.emit.proofs.Loops.{Left, left-start}
 use Rattle.route.specs.Steps.{blank}
-use Rattle.route.specs.Flat.{stepsIn}
+use Rattle.flat.specs.Flat.{stepsIn}
 use Rattle.sheet_lines.proofs.EachLine.{formLines, steps-lined, each-room, each-turn, each-end}
 use Rattle.sheet_lines.proofs.step_lines.Statement.{statement}
 use Rattle.sheet_lines.proofs.step_lines.Tie as tie

@@ -1,6 +1,6 @@
 -- `answering::answers::last_writers`: the writers from here on, and the variables that are written nowhere there.
 use borrow.Author.Needs.{needs}
-use Rattle.route.specs.Flat.{stepsIn}
+use Rattle.flat.specs.Flat.{stepsIn}
 use Rattle.answering.proofs.LastWriters.{Wrote, wrote-init, wrote-step, wrote-early, wrote-done}
 use Rattle.answering.proofs.answers.last_writers.Statement.{statement}
 use Rattle.answering.proofs.answers.last_writers.Tie as tie

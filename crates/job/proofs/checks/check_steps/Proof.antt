@@ -7,9 +7,9 @@ use lib.ListN.{take, drop}
 use Rattle.refusal.specs.Rows.{first}
 use Rattle.route.specs.Steps.{names}
 use Rattle.lookup.specs.inner.Hints.{Hinted}
-use Rattle.route.specs.Flat.{stepsIn}
+use Rattle.flat.specs.Flat.{stepsIn}
 use Rattle.route.specs.declared.Step.{Step}
-use Rattle.route.proofs.FlatSteps.{flat-prefix, flat-few, flat-names}
+use Rattle.flat.proofs.FlatSteps.{flat-prefix, flat-few, flat-names}
 use Rattle.lookup.proofs.DigitHints.{hinted-none, hinted-on, hinted-prefix}
 use Rattle.job.specs.Lines.{stepRows}
 use borrow.Author.Needs.{needs}

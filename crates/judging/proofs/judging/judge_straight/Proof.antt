@@ -5,7 +5,7 @@ use borrow.Author.Needs.{needs}
 use lib.ListN.{length}
 use Rattle.mask.specs.Mask.{below}
 use Rattle.mask.proofs.Members.{below-few}
-use Rattle.route.specs.Flat.{stepsIn}
+use Rattle.flat.specs.Flat.{stepsIn}
 use Rattle.precedence.specs.Order.{inTurn}
 use Rattle.answering.specs.Answer.{answer}
 use Rattle.judging.proofs.JudgeRows.{straight-list}

@@ -2,7 +2,7 @@
 use Prim.Native.Nat.{_-_, _≤_}
 use native.Mathlib.Omega.{arith}
 use borrow.Author.Needs.{needs}
-use Rattle.route.specs.Flat.{stepsIn}
+use Rattle.flat.specs.Flat.{stepsIn}
 use Rattle.matching.proofs.SameMask.{SameSoFar, test-at, same-init, same-hit, same-miss, same-done}
 use Rattle.matching.proofs.same.same_mask.Statement.{statement}
 use Rattle.matching.proofs.same.same_mask.Tie as tie

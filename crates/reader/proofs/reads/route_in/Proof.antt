@@ -1,6 +1,6 @@
 -- `reader::reads::route_in`: step by step.
 use Prim.Native.Nat.{_-_}
-use Rattle.route.specs.Flat.{stepsIn}
+use Rattle.flat.specs.Flat.{stepsIn}
 use Rattle.reader.proofs.StepsOut.{Copied, copied-init, copied-step, copied-done, steps-room}
 use borrow.Author.Needs.{needs}
 use Rattle.reader.proofs.reads.route_in.Statement.{statement}

@@ -9,7 +9,7 @@ use lib.Bits.{bitOr}
 use lib.ListN.{length, getD}
 use Rattle.mask.specs.Mask.{bit, without, meets}
 use Rattle.route.specs.Steps.{blank}
-use Rattle.route.specs.Flat.{stepsIn}
+use Rattle.flat.specs.Flat.{stepsIn}
 use Rattle.route.specs.declared.Step.{Step}
 use Rattle.slice.specs.Slice.{Sweep, sweepStep, keptMask}
 use Rattle.slice.proofs.Sweep.{sweepFrom, sweep-end, sweep-on}

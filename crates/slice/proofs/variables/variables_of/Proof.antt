@@ -10,7 +10,7 @@ use lib.Bits.{bitOr, or-zero-l}
 use lib.ListN.{length, drop, getD, drop-of-length-le}
 use lib.Seq.{drop-cons}
 use Rattle.route.specs.Steps.{blank, union}
-use Rattle.route.specs.Flat.{stepsIn}
+use Rattle.flat.specs.Flat.{stepsIn}
 use Rattle.route.specs.declared.Step.{Step}
 use Rattle.route.proofs.StepList.{union-more, union-done}
 use Rattle.slice.specs.Slice.{variables}

@@ -1,0 +1,2 @@
+-- Lists of steps as lists of numbers.
+pub mod Flat

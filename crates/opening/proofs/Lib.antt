@@ -1,0 +1,2 @@
+-- Laws on a route as a whole.
+pub mod NetRows

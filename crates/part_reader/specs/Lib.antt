@@ -1,0 +1,2 @@
+-- What reading a part tells.
+pub mod inner
