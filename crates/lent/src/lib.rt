@@ -82,7 +82,8 @@ pub fn write(
     out: &mut [u8],
 ) -> Wrote
     ensures { λ r. ⌜ (r ≡ wrote
-        (lentJob «old_places» (now (old .entry)) «new_places» (now (new .entry)) (now (done .entry))) (length (now (out .entry))))
+        (lentJob «old_places» (now (old .entry)) «new_places» (now (new .entry)) (now (done .entry)))
+        (length (now (out .entry))))
         × (now (out .exit) ≡ outAfter (lentJob «old_places» (now (old .entry)) «new_places» (now (new .entry)) (now (done .entry))) (now (out .entry))) ⌝ }
 {
     let mut first = [0u64; 260];

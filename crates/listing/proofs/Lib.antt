@@ -1,4 +1,4 @@
--- Laws on the listing: the answers, and how long it is.
+-- Laws on the listing: its parts, and how long it is.
 pub mod Lengths
 pub mod AnyRecord
 pub mod Longest

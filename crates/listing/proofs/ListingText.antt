@@ -1,10 +1,10 @@
--- The whole text, and what writing it answers.
+-- The whole text in the parts that calls write, and the room that it takes.
 -- Assumes nothing.
 use mathlib.Core.Path.{_≡_, sym, ap}
 use mathlib.Core.List.{List, [], _∷_, _++_, append-nil}
 use Prim.Native.Nat.{ℕ, _≤_}
 use native.Mathlib.Omega.{arith}
-use lib.ListN.{length, replicate, length-replicate}
+use lib.ListN.{length}
 use borrow.Author.Tests.{eq-eqb, ne-eqb}
 use Rattle.answering.specs.declared.Judged.{Judged}
 use Rattle.emit.proofs.Chains.{parts, First, Second, Third, Two, Three, first-room, second-room, third-room, two-emits}
@@ -63,7 +63,3 @@ module _ (s t u : List ℕ) where
 pub listing-fits : (a : Judged) (o : List ℕ) → length (listing a) ≤ 7053 → 7053 ≤ length o
     → length (listing a) ≤ length o
 listing-fits a o short long = omega (arith, short, long)
-
--- such is the array that the text is written to apart
-pub apart-long : 7053 ≤ length (replicate {A = ℕ} 7053 0)
-apart-long = omega (arith, length-replicate {A = ℕ} 7053 0)

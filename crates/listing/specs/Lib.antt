@@ -1,2 +1,2 @@
--- The listing of judge's answer, and the operation that writes it.
+-- The listing of judge's answer.
 pub mod Listing

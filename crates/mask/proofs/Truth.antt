@@ -1,7 +1,7 @@
 -- Laws on truth values and tests, as code that tests in turn needs them.
 -- Assumes nothing.
 use mathlib.Core.Path.{_≡_, refl, sym, ap, _∙_}
-use mathlib.Core.Bool.{Bool, true, false, cond, _&&_, _||_}
+use mathlib.Core.Bool.{Bool, true, false, not, cond, _&&_, _||_}
 use Prim.Native.Nat.{ℕ}
 use lib.Dec.{eqb}
 use borrow.Author.Tests.{eqb-true, eqb-false}
@@ -27,6 +27,17 @@ both false y e = (e, cc)
 pub or-then : (x y : Bool) → (x ≡ false → y ≡ true) → (x || y) ≡ true
 or-then true y h = refl
 or-then false y h = h refl
+
+-- a disjunction that fails: its first side does
+pub or-fails : (x y : Bool) → (x || y) ≡ false → x ≡ false
+or-fails true y e = e
+or-fails false y e = refl
+
+-- x and not y fails: where x holds, y does
+pub and-not-elim : (x y : Bool) → (x && not y) ≡ false → x ≡ true → y ≡ true
+and-not-elim true true e h = refl
+and-not-elim true false e h = sym e
+and-not-elim false y e h = cc
 
 -- two tests are equal where each gives the other
 pub bool-ext : (x y : Bool) → (x ≡ true → y ≡ true) → (y ≡ true → x ≡ true) → x ≡ y

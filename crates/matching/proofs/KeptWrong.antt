@@ -13,7 +13,7 @@ use borrow.Author.Tests.{eq-eqb, ne-eqb, lt-ltb}
 use Rattle.mask.specs.Mask.{has, without, members}
 use Rattle.mask.proofs.Laws.{has-zero, has-without, member-of}
 use Rattle.mask.proofs.Lowest.{lowest-le, lowest-in}
-use Rattle.mask.proofs.Truth.{split, both}
+use Rattle.mask.proofs.Truth.{split, both, and-not-elim}
 use Rattle.route.specs.Steps.{blank}
 use Rattle.flat.specs.Flat.{stepsIn}
 use Rattle.route.specs.declared.Step.{Step}
@@ -37,11 +37,6 @@ RowsAre matches kept same line o =
     (new l : List Step) → MatchesOf new l matches → same ≡ sameMask new l
     → o ≡ first (keptLines new l line (members 64 kept))
 
-not-there : (x y : Bool) → x ≡ true → (x && not y) ≡ false → y ≡ true
-not-there true true e f = refl
-not-there true false e f = sym f
-not-there false y e f = cc
-
 only-there : (x y : Bool) → (x && not y) ≡ true → y ≡ false
 only-there true true e = sym e
 only-there true false e = refl
@@ -59,7 +54,7 @@ module _
       → sameStep new (getD l i blank) ≡ true
   right-same new l is i there right =
       both (ltb i (length l)) (sameStep new (getD l i blank))
-      (sym (same-at new l same is i) ∙ not-there (has kept i) (has same i) there (sym (wrong-at i) ∙ right)) .1
+      (sym (same-at new l same is i) ∙ and-not-elim (has kept i) (has same i) (sym (wrong-at i) ∙ right) there) .1
 
   pub wrong-none : wrong ≡ 0 → (o : Outcome) → o ≡ pass → RowsAre matches kept same line o
   wrong-none e o o-is new l is same-is =

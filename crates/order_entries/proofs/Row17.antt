@@ -11,7 +11,7 @@ use lib.ListN.{getD}
 use borrow.Author.Tests.{eqb-true, ne-eqb, le-ltb, not-true}
 use Rattle.mask.specs.Mask.{has, bit, within}
 use Rattle.mask.proofs.Laws.{has-and, has-or, has-bit, within-all, all-within}
-use Rattle.mask.proofs.Truth.{split, both, either, bool-ext}
+use Rattle.mask.proofs.Truth.{split, both, either, bool-ext, or-fails}
 use Rattle.route.specs.Steps.{blank}
 use Rattle.refusal.specs.Rows.{pass, refuse}
 use Rattle.route.specs.declared.Step.{Step}
@@ -54,11 +54,7 @@ module _ (kept : ℕ) (t : ℕ → Bool) where
       ap₂ (λ (x y : Bool). not x && y)
       (h (b - 1) (both (leb 1 b) (has kept (b - 1)) (p .entry) .1) (p .new))
       (come-from (bitOr seen (bit (b - 1))) (at + 1) o (p .rest)
-      (λ j k s. h j k (left (has seen j) (has (bit (b - 1)) j) (sym (has-or seen (bit (b - 1)) j) ∙ s))))
-    where
-      left : (x y : Bool) → (x || y) ≡ false → x ≡ false
-      left true y e = e
-      left false y e = refl
+      (λ j k s. h j k (or-fails (has seen j) (has (bit (b - 1)) j) (sym (has-or seen (bit (b - 1)) j) ∙ s))))
 
   -- a test of those to come, as one on masks: r is the set of those that pass it
   left-test : (r seen at : ℕ) (o : List ℕ) → ((j : ℕ) → has r j ≡ t j) → listRow kept seen at o .number ≡ 0

@@ -1,2 +1,2 @@
 -- Laws on a text in the out slice.
-pub mod WholeText
+pub mod TextInSlice

@@ -28,8 +28,8 @@ use Rattle.tokens.specs.declared.Cursor.{Cursor}
 use Rattle.tokens.specs.declared.Numeral.{Numeral}
 use Rattle.line_reader.specs.inner.Rows.{headRow, newRow, jobRow}
 use Rattle.line_reader.specs.inner.Lines.{headWord, NumberedOn}
-use Rattle.part_reader.specs.inner.Prefix.{backSteps, backDones, oldState, newState, jobState, stateOf, Upto, passed}
-use Rattle.part_reader.specs.inner.Prefix.{brokenAt, Placed, NoStep, bare, OldOn, NewOn, JobOn}
+use Rattle.part_reader.specs.inner.Prefix.{backSteps, backDones, oldState, newState, jobState, stateOf, Upto}
+use Rattle.part_reader.specs.inner.Prefix.{passed, brokenAt, Placed, NoStep, bare, OldOn, NewOn, JobOn}
 use Rattle.part_reader.specs.declared.Pass.{Pass}
 use Rattle.part_reader.specs.declared.Head.{Head}
 use Rattle.line_reader.proofs.LineTexts.{old-spells, new-spells, job-spells}

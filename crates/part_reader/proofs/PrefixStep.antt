@@ -17,8 +17,8 @@ use Rattle.layout.specs.declared.Point.the-variants.{Open}
 use Rattle.facts.specs.Facts.{State, failed, settled, newHead, jobHead, more, moreSteps, moreDones, factsOf}
 use Rattle.facts.specs.declared.Sheet.{Sheet}
 use Rattle.tokens.specs.inner.Tokens.{Reached}
-use Rattle.part_reader.specs.inner.Prefix.{backSteps, backDones, oldState, newState, jobState, stateOf, Prefix, Upto}
-use Rattle.part_reader.specs.inner.Prefix.{passed, brokenAt}
+use Rattle.part_reader.specs.inner.Prefix.{backSteps, backDones, oldState, newState, jobState, stateOf, Prefix}
+use Rattle.part_reader.specs.inner.Prefix.{Upto, passed, brokenAt}
 
 -- ---- an outcome over the facts
 

@@ -1,4 +1,4 @@
-// Reading a sheet part by part: a head, the steps below it, the done lines.
+// One part of a sheet at a time, and where reading stands between two.
 use refusal::Outcome;
 
 pub mod parts;

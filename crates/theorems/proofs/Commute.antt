@@ -1,10 +1,11 @@
 -- Two occurrences that do not clash commute: neither writes what the other reads, so both read the same either way, and
 -- no variable is written by both.
 use mathlib.Core.Path.{_≡_, refl, sym, _∙_, fun-ext}
-use mathlib.Core.Bool.{Bool, true, false, _&&_, _||_, or-true, or-comm}
+use mathlib.Core.Bool.{Bool, true, false, _&&_, or-true, or-comm}
 use Prim.Native.Nat.{ℕ}
 use lib.Bits.{bitOr}
 use Rattle.mask.specs.Mask.{has, meets}
+use Rattle.mask.proofs.Truth.{or-fails}
 use Rattle.mask.proofs.Laws.{has-or, meets-none}
 use Rattle.route.specs.declared.Step.{Step}
 use Rattle.precedence.specs.Precedence.{clash}
@@ -28,10 +29,6 @@ spares s t h = record {
   written = λ v w. free v (has-or (t .reads) (t .writes) v ∙ rw w (or-true (has (t .reads) v)));
 }
   where
-    left : (x y : Bool) → (x || y) ≡ false → x ≡ false
-    left true y e = e
-    left false y e = refl
-
     table : (x y : Bool) → (x && y) ≡ false → y ≡ true → x ≡ false
     table true y e k = sym k ∙ e
     table false y e k = refl
@@ -39,8 +36,8 @@ spares s t h = record {
     free : (v : ℕ) → has (bitOr (t .reads) (t .writes)) v ≡ true → has (s .writes) v ≡ false
     free v = table (has (s .writes) v) (has (bitOr (t .reads) (t .writes)) v)
         (meets-none (s .writes) (bitOr (t .reads) (t .writes))
-        (left (meets (s .writes) (bitOr (t .reads) (t .writes))) (meets (t .writes) (bitOr (s .reads) (s .writes))) h)
-        v)
+        (or-fails (meets (s .writes) (bitOr (t .reads) (t .writes)))
+        (meets (t .writes) (bitOr (s .reads) (s .writes))) h) v)
 
 module _ {T : Type 0} (f : Work T) where
   -- in a variable that s does not write

@@ -22,7 +22,7 @@ use Rattle.answering.specs.Answer.{judgeStopped}
 use Rattle.answering.specs.declared.Judged.{Judged}
 use Rattle.listing_lines.specs.Lines.{line, movedLine, refusedLine}
 use Rattle.listing.specs.Listing.{movedText, listing}
-use Rattle.out_slice.proofs.WholeText.{fits-answer, fits-out}
+use Rattle.out_slice.proofs.TextInSlice.{fits-answer, fits-out}
 use Rattle.ops.specs.Print.{sheetAnswer, listingOf, printed, outPrinted}
 use Rattle.ops.specs.SheetTry.{triedFacts, triedSheet}
 use Rattle.examples.specs.Table.{codes}

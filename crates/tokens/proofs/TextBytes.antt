@@ -139,8 +139,8 @@ text-other s from w i h r far = text-breaks s from w i h r (λ _. far)
 
 -- ---- four bytes at a time
 
-module _ (a b c d a′ b′ c′ d′ : ℕ) (ha : Fits w8 a) (hb : Fits w8 b) (hc : Fits w8 c) (hd : Fits w8 d) (ha′ : Fits w8 a′)
-    (hb′ : Fits w8 b′) (hc′ : Fits w8 c′) (hd′ : Fits w8 d′) where
+module _ (a b c d a′ b′ c′ d′ : ℕ) (ha : Fits w8 a) (hb : Fits w8 b) (hc : Fits w8 c) (hd : Fits w8 d)
+    (ha′ : Fits w8 a′) (hb′ : Fits w8 b′) (hc′ : Fits w8 c′) (hd′ : Fits w8 d′) where
   four-same : a + b * 256 + c * 65536 + d * 16777216 ≡ a′ + b′ * 256 + c′ * 65536 + d′ * 16777216
       → (a ≡ a′) × (b ≡ b′) × (c ≡ c′) × (d ≡ d′)
   four-same e = (omega arith, omega arith, omega arith, omega arith)

@@ -1,4 +1,4 @@
--- What write answers: the rows of the lines first, then 15, then the text.
+-- What write answers: the refusal of a line, or else what is answered of the text; and the room for any text.
 -- Assumes nothing.
 use mathlib.Core.Path.{_≡_, refl, sym, ap, _∙_}
 use mathlib.Core.Bool.{Bool, true, false, not}
@@ -6,7 +6,7 @@ use mathlib.Core.List.{List}
 use Prim.Native.Nat.{ℕ, _≤_}
 use native.Mathlib.Omega.{arith}
 use lib.Dec.{eqb}
-use lib.ListN.{length, replicate, length-replicate}
+use lib.ListN.{length}
 use borrow.Author.Tests.{eq-eqb, not-true}
 use Rattle.mask.proofs.Truth.{cond-yes, cond-no}
 use Rattle.refusal.specs.Rows.{first}
@@ -46,7 +46,3 @@ module _ (j : Job) (pass : LinesPass j) where
 -- a slice with room for any text of a job whose lines pass
 pub text-fits : (j : Job) (o : List ℕ) → LinesPass j → 18136 ≤ length o → length (written j) ≤ length o
 text-fits j o pass long = omega (arith, written-length j (eq-eqb _ 0 pass), long)
-
--- such is the array that the text is written to apart
-pub apart-long : 18136 ≤ length (replicate {A = ℕ} 18136 0)
-apart-long = omega (arith, length-replicate {A = ℕ} 18136 0)

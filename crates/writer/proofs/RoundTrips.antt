@@ -20,7 +20,7 @@ use Rattle.facts.specs.SheetRows.{sheetOf}
 use Rattle.writer.proofs.Inverses.{read-then-write, write-then-read}
 use Rattle.out_slice.specs.OutSlice.{unwritten, wroteText, outWith}
 use Rattle.out_slice.specs.declared.Wrote.{Wrote}
-use Rattle.out_slice.proofs.WholeText.{fits-answer, fits-out, answer-fits}
+use Rattle.out_slice.proofs.TextInSlice.{fits-answer, fits-out, answer-fits}
 use Rattle.writer.proofs.Answers.{text-answer, text-out}
 
 module _ (j : Job) (o : List ℕ) (ok : wrote j (length o) .number ≡ 0) where

@@ -13,23 +13,18 @@ use Rattle.flat.proofs.name_at.Lts as lts
 room : (s : lts.Start reads.Pre reads.Post) → 4 * s .args .i + 3 < length (s .args .steps .now)
 room s = flat-room _ _ (s .pre)
 
--- src/flat.rt:38:12
 mul-result : tie.Need-mul-result
 mul-result c = search (needs, room c)
 
--- src/flat.rt:38:6
 mul-result-2 : tie.Need-mul-result-2
 mul-result-2 c = search (needs, room c)
 
--- src/flat.rt:38:6
 shared-slice-read-result : tie.Need-shared-slice-read-result
 shared-slice-read-result c = search (needs, room (c .before))
 
--- src/flat.rt:38:5
 cast-result : tie.Need-cast-result
 cast-result c = search (needs, room (c .before))
 
--- src/flat.rt:34:1
 returns : tie.Need-returns
 returns c = ap (λ (s : Step). s .name) (sym (flat-at _ _ ((c .before) .pre)))
 

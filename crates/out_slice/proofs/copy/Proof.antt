@@ -1,6 +1,6 @@
 -- `out_slice::copy`: 15 where the slice is too short, and else the text.
 use borrow.Author.Needs.{needs}
-use Rattle.out_slice.proofs.WholeText.{short-answer, short-out, text-room, whole-answer, whole-out}
+use Rattle.out_slice.proofs.TextInSlice.{short-answer, short-out, text-room, whole-answer, whole-out}
 use Rattle.out_slice.proofs.copy.Statement.{statement}
 use Rattle.out_slice.proofs.copy.Tie as tie
 

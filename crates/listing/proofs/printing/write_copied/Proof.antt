@@ -1,7 +1,7 @@
 -- `listing::printing::write_copied`: written apart, and copied where it fits.
 use borrow.Author.Needs.{needs}
-use Rattle.out_slice.proofs.WholeText.{text-room, end-inside, prefix-long, copied-answer, copied-out}
-use Rattle.listing.proofs.ListingText.{listing-fits, apart-long}
+use Rattle.out_slice.proofs.TextInSlice.{text-room, end-inside, prefix-long, copied-answer, copied-out, apart-long}
+use Rattle.listing.proofs.ListingText.{listing-fits}
 use Rattle.listing.proofs.printing.write_copied.Statement.{statement}
 use Rattle.listing.proofs.printing.write_copied.Tie as tie
 

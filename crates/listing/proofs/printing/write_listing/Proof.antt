@@ -1,6 +1,6 @@
 -- `listing::printing::write_listing`: at once where there is room for any listing, and else apart.
 use borrow.Author.Needs.{needs}
-use Rattle.out_slice.proofs.WholeText.{text-room, whole-answer, whole-out}
+use Rattle.out_slice.proofs.TextInSlice.{text-room, whole-answer, whole-out}
 use Rattle.listing.proofs.ListingText.{listing-fits}
 use Rattle.listing.proofs.printing.write_listing.Statement.{statement}
 use Rattle.listing.proofs.printing.write_listing.Tie as tie

@@ -4,9 +4,9 @@ use mathlib.Core.Path.{sym}
 use Prim.Native.Nat.{_-_}
 use native.Mathlib.Omega.{arith}
 use lib.ListN.{length}
-use Rattle.part_reader.proofs.StepLines.{Stepped, stepped-init, stepped-past, stepped-row, stepped-step, step-room}
-use Rattle.part_reader.proofs.StepLines.{hinted-above, part-room, put-room, same-room, line-fits, line-later}
-use Rattle.part_reader.proofs.StepLines.{steps-passes, steps-break, steps-done}
+use Rattle.part_reader.proofs.StepLines.{Stepped, stepped-init, stepped-past, stepped-row, stepped-step}
+use Rattle.part_reader.proofs.StepLines.{step-room, hinted-above, part-room, put-room, same-room}
+use Rattle.part_reader.proofs.StepLines.{line-fits, line-later, steps-passes, steps-break, steps-done}
 use borrow.Author.Needs.{needs}
 use Rattle.part_reader.proofs.parts.steps.Statement.{statement}
 use Rattle.part_reader.proofs.parts.steps.Tie as tie

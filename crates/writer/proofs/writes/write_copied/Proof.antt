@@ -1,7 +1,7 @@
 -- `writer::writes::write_copied`: written apart, and copied where it fits.
 use borrow.Author.Needs.{needs}
-use Rattle.out_slice.proofs.WholeText.{text-room, end-inside, prefix-long, copied-answer, copied-out}
-use Rattle.writer.proofs.Answers.{text-fits, apart-long}
+use Rattle.out_slice.proofs.TextInSlice.{text-room, end-inside, prefix-long, copied-answer, copied-out, apart-long}
+use Rattle.writer.proofs.Answers.{text-fits}
 use Rattle.writer.proofs.writes.write_copied.Statement.{statement}
 use Rattle.writer.proofs.writes.write_copied.Tie as tie
 

@@ -1,7 +1,7 @@
 -- `writer::writes::write_lists`: the lines, then the text, at once where there is room for any.
 use borrow.Author.Needs.{needs}
 use Rattle.running.proofs.RunLine.{lines-pass}
-use Rattle.out_slice.proofs.WholeText.{text-room, whole-answer, whole-out}
+use Rattle.out_slice.proofs.TextInSlice.{text-room, whole-answer, whole-out}
 use Rattle.writer.proofs.Answers.{refused-answer, refused-out, text-answer, text-out, text-fits}
 use Rattle.writer.proofs.writes.write_lists.Statement.{statement}
 use Rattle.writer.proofs.writes.write_lists.Tie as tie

@@ -6,7 +6,7 @@ use mathlib.Core.List.{List, _++_}
 use Prim.Native.Nat.{ℕ, _≤_, _<_}
 use native.Mathlib.Omega.{arith}
 use lib.Dec.{leb}
-use lib.ListN.{length, take, drop}
+use lib.ListN.{length, take, drop, replicate, length-replicate}
 use lib.Seq.{length-take-le}
 use borrow.Author.Tests.{le-leb, lt-leb, leb-true}
 use Rattle.emit.specs.Emit.{Room, Emits}
@@ -65,3 +65,7 @@ module _ (t o p : List ℕ) (end : ℕ) (fits : length t ≤ length o) (w : Emit
 
   pub copied-out : (q out : List ℕ) → q ≡ outWith (take end p) out → q ≡ outWith t out
   copied-out q out e = e ∙ ap (λ (x : List ℕ). outWith x out) (emits-take (text-room t o fits) w)
+
+-- an array to write it to
+pub apart-long : (n : ℕ) → n ≤ length (replicate {A = ℕ} n 0)
+apart-long n = omega (arith, length-replicate {A = ℕ} n 0)
