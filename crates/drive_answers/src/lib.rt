@@ -7,7 +7,7 @@ use reader::Counts;
 use route::Marking;
 use route::Route;
 use route::Step;
-use slice::Sliced;
+use slicing::Sliced;
 ghost use Prim.Native.Nat.{_≤_};
 
 // An answer that is a refusal or a marking.

@@ -22,7 +22,7 @@ fn run(f: Routes, o: &mut [u8; 65536], n: usize) -> usize {
 fn slice(f: Routes, o: &mut [u8; 65536], n: usize) -> usize {
     let done = f.done;
     let k = counts::names(f.len, &done);
-    let r = slice::slicing::slice(f.old, f.new, &done[..k]);
+    let r = slicing::slice(f.old, f.new, &done[..k]);
     drive_answers::sliced(o, n, r)
 }
 

@@ -17,12 +17,13 @@ use Rattle.running.specs.Run.{ran, performed}
 use Rattle.matching.specs.Straight.{runsStraight}
 use Rattle.matching.specs.Fit.{keptOf}
 use Rattle.matching.specs.KeptRows.{keptRows, rowsTo12}
-use Rattle.matching.specs.inner.Matched.{matched, straightEnd, Ready, PreparedOf}
-use Rattle.matching.specs.declared.Prepared.{Prepared}
-use Rattle.matching.proofs.Preparation.{lines-refused, prepared-ran, prepared-ready, prepared-rows, numbers-done}
-use Rattle.matching.proofs.Preparation.{numbers-matched, occurrences-few}
-use Rattle.search.specs.Candidates.{cleared}
-use Rattle.search.proofs.Clear.{cleared-is}
+use Rattle.matching.specs.inner.Matched.{matched, straightEnd}
+use Rattle.preparing.specs.inner.Preparing.{Ready, PreparedOf}
+use Rattle.preparing.specs.declared.Prepared.{Prepared}
+use Rattle.preparing.proofs.Preparation.{lines-refused, prepared-ran, prepared-ready, prepared-rows, numbers-done}
+use Rattle.preparing.proofs.Preparation.{numbers-matched, occurrences-few}
+use Rattle.work_slice.specs.WorkSlice.{cleared}
+use Rattle.work_slice.proofs.Cleared.{cleared-is}
 use Rattle.answering.specs.Answer.{judgeStopped}
 use Rattle.judging.specs.Judge.{judgeRows, judged, searched, workAfter}
 use Rattle.judging.specs.inner.Passing.{Passing}

@@ -23,7 +23,7 @@ use Rattle.matching.specs.KeptRows.{keptRows}
 use Rattle.matching.specs.inner.Matched.{matched, straightEnd}
 use Rattle.matching.specs.declared.End.{End}
 use Rattle.matching.specs.declared.End.the-variants.{At, Stuck}
-use Rattle.matching.specs.declared.Prepared.{Prepared}
+use Rattle.preparing.specs.declared.Prepared.{Prepared}
 use Rattle.matching.proofs.Matched.{length-matched}
 use Rattle.matching.proofs.KeptRows.{limit-holds, members-same}
 use Rattle.answering.specs.Answer.{padded, judgeStopped, answer}

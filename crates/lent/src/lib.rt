@@ -6,11 +6,11 @@ use out_slice::Wrote;
 use records::lay;
 use route::Step;
 use running::Ran;
-use slice::Sliced;
+use slicing::Sliced;
 ghost use mathlib.Core.Path.{_≡_};
 ghost use lib.ListN.{length};
 ghost use Rattle.running.specs.Run.{ran};
-ghost use Rattle.slice.specs.Slicing.{sliced};
+ghost use Rattle.slicing.specs.Slicing.{sliced};
 ghost use Rattle.trying.specs.Try.{tried};
 ghost use Rattle.judging.specs.Judge.{judged, workAfter};
 ghost use Rattle.writer.specs.Writes.{wrote, outAfter};
@@ -35,7 +35,7 @@ pub fn slice(old_places: u64, old: &[Step], new_places: u64, new: &[Step], done:
     let mut after = [0u64; 260];
     let n = lay(old, &mut before);
     let m = lay(new, &mut after);
-    slice::slicing::slice_lists(old_places, &before[..n], new_places, &after[..m], done)
+    slicing::slice_lists(old_places, &before[..n], new_places, &after[..m], done)
 }
 
 pub fn try_order(

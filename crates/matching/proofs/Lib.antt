@@ -4,6 +4,5 @@ pub mod KeptLimit
 pub mod KeptRows
 pub mod KeptWrong
 pub mod Matched
-pub mod Preparation
 pub mod SameMask
 pub mod StraightEnd

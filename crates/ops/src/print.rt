@@ -5,7 +5,7 @@ use judging::judging::judge_checked;
 use listing::printing::write_listing;
 use out_slice::Wrote;
 use reader::lists::read_lists;
-use search::WORK;
+use work_slice::WORK;
 ghost use mathlib.Core.Path.{_≡_};
 ghost use Prim.Native.Nat.{_≤_};
 ghost use lib.ListN.{length};

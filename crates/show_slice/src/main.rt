@@ -23,7 +23,7 @@ fn say_table(table: [u64; 64]) {
 }
 
 fn say(label: &[u8], old: Route, new: Route, done: &[u32]) {
-    let s = slice::slicing::slice(old, new, done);
+    let s = slicing::slice(old, new, done);
     lines::head(label, s.number, s.second);
     lines::number(b" kept ", s.kept);
     lines::end();

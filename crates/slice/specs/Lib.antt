@@ -1,3 +1,2 @@
--- Which occurrences matter, and the operation slice.
+-- Which occurrences matter.
 pub mod Slice
-pub mod Slicing

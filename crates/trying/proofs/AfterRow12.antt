@@ -9,10 +9,10 @@ use lib.ListN.{length, take}
 use Rattle.flat.specs.Flat.{stepsIn}
 use Rattle.route.specs.declared.Step.{Step}
 use Rattle.job.specs.Job.{Job, jobLine, newStart}
-use Rattle.matching.specs.inner.Matched.{Ready, PreparedOf}
-use Rattle.matching.specs.declared.Prepared.{Prepared}
-use Rattle.matching.proofs.Preparation.{doneSteps, prepared-ready, prepared-rows, steps-few, kept-has, kept-done}
-use Rattle.matching.proofs.Preparation.{numbers-done, numbers-matched}
+use Rattle.preparing.specs.inner.Preparing.{Ready, PreparedOf}
+use Rattle.preparing.specs.declared.Prepared.{Prepared}
+use Rattle.preparing.proofs.Preparation.{doneSteps, prepared-ready, prepared-rows, steps-few, kept-has, kept-done}
+use Rattle.preparing.proofs.Preparation.{numbers-done, numbers-matched}
 use Rattle.matching.proofs.KeptRows.{kept-same}
 use Rattle.trying.specs.Try.{tryList, tried}
 use Rattle.trying.specs.inner.TryPrepared.{TryPrepared}

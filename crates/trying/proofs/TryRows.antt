@@ -23,7 +23,7 @@ use Rattle.precedence.specs.Order.{inTurn}
 use Rattle.matching.specs.Straight.{fireAll, runsStraight}
 use Rattle.matching.specs.KeptRows.{keptRows, rowsTo12}
 use Rattle.matching.specs.inner.Matched.{straightEnd}
-use Rattle.matching.specs.declared.Prepared.{Prepared}
+use Rattle.preparing.specs.declared.Prepared.{Prepared}
 use Rattle.matching.specs.declared.End.{End}
 use Rattle.matching.specs.declared.End.the-variants.{At, Stuck}
 use Rattle.order_entries.specs.Entries.{tryStopped, tryEntries}

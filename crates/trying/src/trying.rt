@@ -2,10 +2,10 @@
 use flat::laying::lay;
 use job::checks::check_lines;
 use matching::End;
-use matching::Prepared;
-use matching::matches::prepare;
 use order_entries::Tried;
 use order_entries::by_rows;
+use preparing::Prepared;
+use preparing::prepare;
 use route::Route;
 ghost use mathlib.Core.Path.{_≡_};
 ghost use mathlib.Core.Bool.{true, cond};

@@ -3,9 +3,9 @@ use contract.Running.{givenOf, tables, tablesOf}
 use denote.Struct.Laws as LL
 use denote.Triple.Spec.{tripleOf}
 use denote.Triple.Table.{entered, cited}
-use Rattle.slice.specs.Slicing.{sliced}
-use Rattle.slice.proofs.Sliced as R
-use Rattle.slice.proofs.Sliced.Laws as R′
+use Rattle.slicing.specs.Slicing.{sliced}
+use Rattle.slicing.proofs.Sliced as R
+use Rattle.slicing.proofs.Sliced.Laws as R′
 use Rattle.lent.specs.Lent.{lentJob}
 use Rattle.lent.proofs.slice.Symbol as over-lists
 use Rattle.lent.proofs.slice.Met as over-lists-thm

@@ -12,8 +12,8 @@ use Rattle.slice.specs.Slice.{variables}
 use Rattle.precedence.specs.Order.{inTurn}
 use Rattle.precedence.specs.Table.{table}
 use Rattle.matching.specs.Straight.{fireAll, runsStraight}
-use Rattle.matching.specs.declared.Prepared.{Prepared}
-use Rattle.search.specs.Candidates.{cleared}
+use Rattle.preparing.specs.declared.Prepared.{Prepared}
+use Rattle.work_slice.specs.WorkSlice.{cleared}
 use Rattle.answering.specs.Answer.{answer}
 use Rattle.candidates.specs.FirstFit.{firstFit}
 use Rattle.judging.specs.Judge.{judgeFound, judgeRows}

@@ -8,7 +8,7 @@ use Rattle.slice.specs.Slice.{variables}
 use Rattle.matching.specs.Fit.{keptOf}
 use Rattle.matching.specs.KeptRows.{keptRows}
 use Rattle.matching.specs.inner.Matched.{matched, straightEnd}
-use Rattle.matching.specs.declared.Prepared.{Prepared}
+use Rattle.preparing.specs.declared.Prepared.{Prepared}
 
 -- the steps done are l, and t the new route's steps for them
 pub record Passing (p : Prepared) (l t : List Step) : Type 0 where

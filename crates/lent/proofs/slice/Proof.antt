@@ -1,16 +1,16 @@
--- `slice` meets its contract: both lists are laid and `slice::slicing::slice_lists` is called (OverLists).
+-- `slice` meets its contract: both lists are laid and `slicing::slice_lists` is called (OverLists).
 use mathlib.Core.Path.{refl}
 use contract.Running.{givenOf, tables, tablesOf}
 use denote.Struct.Laws as LL
 use denote.Triple.Spec.{tripleOf}
 use denote.Triple.Table.{entered, cited}
 use Rattle.job.specs.Job.{flatJob}
-use Rattle.slice.specs.Slicing.{sliced}
-use Rattle.slice.proofs.SliceRows.{sliced-laid}
-use Rattle.slice.proofs.Sliced as R
-use Rattle.slice.proofs.Sliced.Laws as R′
-use Rattle.slice.proofs.slicing.slice_lists.Symbol as core
-use Rattle.slice.proofs.slicing.slice_lists.Met as core-thm
+use Rattle.slicing.specs.Slicing.{sliced}
+use Rattle.slicing.proofs.SliceRows.{sliced-laid}
+use Rattle.slicing.proofs.Sliced as R
+use Rattle.slicing.proofs.Sliced.Laws as R′
+use Rattle.slicing.proofs.slice_lists.Symbol as core
+use Rattle.slicing.proofs.slice_lists.Met as core-thm
 use Rattle.records.proofs.lay.Symbol as lay
 use Rattle.records.proofs.lay.Met as lay-thm
 use Rattle.lent.specs.Lent.{lentJob}
@@ -32,4 +32,4 @@ slice-spec 𝓤 H 𝓜 𝓖 𝓡 =
     (λ p a q b d. sliced (flatJob p a q b d))
     (λ p a q b d. sliced (lentJob p a q b d))
     (λ p a q b y d. sliced-laid (lentJob p a q b d) (y .n) (y .a) (y .m) (y .b) (y .laid-a) (y .laid-b))
-    (cited 𝓤 H _ 𝓜 𝓡 code.env core.name core.routine code.calls-slice·slicing·slice-lists (core-thm.met 𝓤 H 𝓜 𝓖 𝓡)))
+    (cited 𝓤 H _ 𝓜 𝓡 code.env core.name core.routine code.calls-slicing·slice-lists (core-thm.met 𝓤 H 𝓜 𝓖 𝓡)))

@@ -12,14 +12,10 @@ use Rattle.route.specs.Steps.{blank, names}
 use Rattle.flat.specs.Flat.{stepsIn}
 use Rattle.route.specs.declared.Step.{Step}
 use Rattle.job.specs.Lines.{AllNamed}
-use Rattle.slice.specs.Slice.{variables}
 use Rattle.matching.specs.Straight.{sameStep}
-use Rattle.matching.specs.Fit.{keptOf}
-use Rattle.matching.specs.KeptRows.{keptRows}
-use Rattle.matching.specs.inner.Matched.{matched, straightEnd}
+use Rattle.matching.specs.inner.Matched.{matched}
 use Rattle.matching.specs.declared.End.{End}
 use Rattle.matching.specs.declared.End.the-variants.{At, Stuck}
-use Rattle.matching.specs.declared.Prepared.{Prepared}
 
 -- the numbers are those of the new route's steps for l. No occurrence has the name 0, so a match that has it isn't
 -- there
@@ -39,12 +35,3 @@ sameMask new l = collect (λ (i : ℕ). sameStep new (getD l i blank)) (length l
 unfoldable pub isAt : End → Bool
 isAt (At m) = true
 isAt Stuck = false
-
--- what is found of the occurrences l and their matches; `line` is that of `(job)`
-pub record Weighed (line from : ℕ) (new l : List Step) (p : Prepared) : Type 0 where
-  pub outcome-is : p .outcome ≡ keptRows line from new l
-  pub line-is : p .line ≡ line
-  pub start-is : p .start .tokens ≡ from
-  pub straight-is : p .straight ≡ straightEnd from new l
-  pub kept-is : p .kept ≡ keptOf new l
-  pub vars-are : p .vars ≡ variables new

@@ -4,7 +4,7 @@ use mathlib.Core.List.{List}
 use Prim.Native.Nat.{ℕ}
 use Rattle.route.specs.declared.Step.{Step}
 use Rattle.matching.specs.inner.Matched.{straightEnd}
-use Rattle.matching.specs.declared.Prepared.{Prepared}
+use Rattle.preparing.specs.declared.Prepared.{Prepared}
 use Rattle.order_entries.specs.inner.Replayable.{Replayable}
 
 -- what stands of a job that no row to 12 refuses: l are the steps done, from the new start

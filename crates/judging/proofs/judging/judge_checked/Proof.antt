@@ -1,6 +1,6 @@
 -- `judging::judging::judge_checked`: the rows to 12 as the prepared job has them, and what follows.
 use borrow.Author.Needs.{needs}
-use Rattle.matching.proofs.Preparation.{numbers-room, numbers-count}
+use Rattle.preparing.proofs.Preparation.{numbers-room, numbers-count}
 use Rattle.judging.proofs.JudgeOperation.{judged-refused, work-refused, prepared-passing, judged-prepared}
 use Rattle.judging.proofs.JudgeOperation.{work-prepared}
 use Rattle.judging.proofs.judging.judge_checked.Statement.{statement}

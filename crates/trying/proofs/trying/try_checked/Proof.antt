@@ -1,7 +1,7 @@
 -- `trying::trying::try_checked`: the rows to 12, and else the list.
 use borrow.Author.Needs.{needs}
 use Rattle.trying.proofs.TryRows.{tried-refused}
-use Rattle.matching.proofs.Preparation.{numbers-room, numbers-count, occurrences-few, kept-matched}
+use Rattle.preparing.proofs.Preparation.{numbers-room, numbers-count, occurrences-few, kept-matched}
 use Rattle.trying.proofs.AfterRow12.{tried-prepared}
 use Rattle.trying.proofs.trying.try_checked.Statement.{statement}
 use Rattle.trying.proofs.trying.try_checked.Tie as tie

@@ -1,0 +1,2 @@
+-- Laws on what try and judge start from.
+pub mod Preparation

@@ -1,0 +1,2 @@
+-- What try and judge start from.
+pub mod inner

@@ -1,0 +1,2 @@
+-- Laws on the operation slice.
+pub mod SliceRows

@@ -1,0 +1,2 @@
+-- The operation slice.
+pub mod Slicing

@@ -1,0 +1,3 @@
+-- The work slice.
+pub mod WorkSlice
+pub mod inner
