@@ -38,10 +38,10 @@ use Rattle.records.proofs.Locals.{slice-sized}
 use Rattle.records.proofs.Called.{Known, tells, meets}
 use Rattle.records.proofs.Record.{S, vals, tells as tells-S}
 use Rattle.records.proofs.LentBoth.{Lending, Returned}
-use Rattle.lent.proofs.Slices.{Slice, many, spells, tell, same, alone, behind, alone-kept, behind-kept, Alone, AloneOut}
-use Rattle.lent.proofs.Slices.{alone-vals}
-use Rattle.lent.proofs.HandedOn.{lists, Says, Fact, facts, behind-both, passed, Last, returned, to, met, comes-back}
-use Rattle.lent.proofs.OverLists.{Lists, done, order, bytes, done-fact, order-fact, bytes-fact}
+use Rattle.walks.proofs.Slices.{Slice, many, spells, tell, same, alone, behind, alone-kept, behind-kept, Alone, AloneOut}
+use Rattle.walks.proofs.Slices.{alone-vals}
+use Rattle.walks.proofs.HandedOn.{lists, Says, Fact, facts, behind-both, passed, Last, returned, to, met, comes-back}
+use Rattle.walks.proofs.OverLists.{Lists, done, order, bytes, done-fact, order-fact, bytes-fact}
 use Rattle.arrays.proofs.Walks.{val, Walk, body-one, body-two, body-mut, calls-one, calls-two, calls-mut}
 use Rattle.arrays.proofs.Walks.{hundreds}
 

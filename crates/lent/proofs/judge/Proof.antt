@@ -18,7 +18,7 @@ use Rattle.judging.proofs.judging.judge_lists.Met as core-thm
 use Rattle.records.proofs.lay.Symbol as lay
 use Rattle.records.proofs.lay.Met as lay-thm
 use Rattle.lent.specs.Lent.{lentJob}
-use Rattle.lent.proofs.OverLists.{with-bytes}
+use Rattle.walks.proofs.OverLists.{with-bytes}
 use Rattle.lent.proofs.judge.Key.{name as #lent·judge}
 use Rattle.lent.proofs.judge as judge
 use Rattle.lent.proofs.judge.Statement as stated

@@ -14,7 +14,7 @@ use Rattle.running.proofs.lists.run_lists.Met as core-thm
 use Rattle.records.proofs.lay.Symbol as lay
 use Rattle.records.proofs.lay.Met as lay-thm
 use Rattle.lent.specs.Lent.{lentJob}
-use Rattle.lent.proofs.OverLists.{with-done}
+use Rattle.walks.proofs.OverLists.{with-done}
 use Rattle.lent.proofs.run.Key.{name as #lent·run}
 use Rattle.lent.proofs.run as run
 use Rattle.lent.proofs.run.Statement as stated

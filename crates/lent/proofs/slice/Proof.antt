@@ -14,7 +14,7 @@ use Rattle.slicing.proofs.slice_lists.Met as core-thm
 use Rattle.records.proofs.lay.Symbol as lay
 use Rattle.records.proofs.lay.Met as lay-thm
 use Rattle.lent.specs.Lent.{lentJob}
-use Rattle.lent.proofs.OverLists.{with-done}
+use Rattle.walks.proofs.OverLists.{with-done}
 use Rattle.lent.proofs.slice.Key.{name as #lent·slice}
 use Rattle.lent.proofs.slice as slice
 use Rattle.lent.proofs.slice.Statement as stated

@@ -14,7 +14,7 @@ use Rattle.trying.proofs.trying.try_lists.Met as core-thm
 use Rattle.records.proofs.lay.Symbol as lay
 use Rattle.records.proofs.lay.Met as lay-thm
 use Rattle.lent.specs.Lent.{lentJob}
-use Rattle.lent.proofs.OverLists.{with-order}
+use Rattle.walks.proofs.OverLists.{with-order}
 use Rattle.lent.proofs.try_order.Key.{name as #lent·try-order}
 use Rattle.lent.proofs.try_order as try-order
 use Rattle.lent.proofs.try_order.Statement as stated

@@ -16,7 +16,7 @@ use Rattle.writer.proofs.writes.write_lists.Met as core-thm
 use Rattle.records.proofs.lay.Symbol as lay
 use Rattle.records.proofs.lay.Met as lay-thm
 use Rattle.lent.specs.Lent.{lentJob}
-use Rattle.lent.proofs.OverLists.{with-bytes}
+use Rattle.walks.proofs.OverLists.{with-bytes}
 use Rattle.lent.proofs.write.Key.{name as #lent·write}
 use Rattle.lent.proofs.write as write
 use Rattle.lent.proofs.write.Statement as stated

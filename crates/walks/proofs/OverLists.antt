@@ -40,12 +40,12 @@ use Rattle.records.proofs.Locals.{slice-sized}
 use Rattle.records.proofs.Called.{Known, tells, meets}
 use Rattle.records.proofs.LentBoth.{Lending, Returned}
 use Rattle.records.proofs.lay.Symbol.{name as #lay}
-use Rattle.lent.proofs.Slices.{Slice, shr, mut, many, spells, tell, past, behind, behind-kept, Behind}
-use Rattle.lent.proofs.Slices.{behind-vals}
-use Rattle.lent.proofs.HandedOn.{lists, Says, says, Fact, facts, behind-both, passed, Last, returned, to, met}
-use Rattle.lent.proofs.HandedOn.{comes-back}
-use Rattle.lent.proofs.Laying.{Lent, val, numbers, Lay, Which, old, new, pick, Choice, Reads, reads, choice}
-use Rattle.lent.proofs.Laying.{Laying, Walk, body-one, body-two, body-mut, calls-one, calls-two, calls-mut}
+use Rattle.walks.proofs.Slices.{Slice, shr, mut, many, spells, tell, past, behind, behind-kept, Behind}
+use Rattle.walks.proofs.Slices.{behind-vals}
+use Rattle.walks.proofs.HandedOn.{lists, Says, says, Fact, facts, behind-both, passed, Last, returned, to, met}
+use Rattle.walks.proofs.HandedOn.{comes-back}
+use Rattle.walks.proofs.Laying.{Lent, val, numbers, Lay, Which, old, new, pick, Choice, Reads, reads, choice}
+use Rattle.walks.proofs.Laying.{Laying, Walk, body-one, body-two, body-mut, calls-one, calls-two, calls-mut}
 
 module _ (R : RattleType) (l : List Slice) {M : Type 1} (𝓤 : URA M) (H : Heap 𝓤) (A : Atoms 𝓤) (W : Given 𝓤 H A)
     (τ : Ty) (typed : (r : R .Denot) (v : Val) → Is R r (v ∷ []) → T (hasTy τ v) × WT v) (s : Says u64 tt R l 𝓤)

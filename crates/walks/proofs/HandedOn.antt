@@ -32,8 +32,8 @@ use Rattle.records.proofs.Called.{Known, told}
 use Rattle.records.proofs.InArray.{Elements, X}
 use Rattle.records.proofs.LentRow.{lentRow}
 use Rattle.records.proofs.LentBoth.{Lending, Passed}
-use Rattle.lent.proofs.Slices.{Slice, many, slots, keeps, rows, spells, on, on-vals, flat-on, back, owns-on}
-use Rattle.lent.proofs.Slices.{lasts-back, past, behind, behind-kept, Behind, BehindOut}
+use Rattle.walks.proofs.Slices.{Slice, many, slots, keeps, rows, spells, on, on-vals, flat-on, back, owns-on}
+use Rattle.walks.proofs.Slices.{lasts-back, past, behind, behind-kept, Behind, BehindOut}
 
 module _ (T : RattleType) (one : One (T .mir)) (R : RattleType) (l : List Slice) where
   abbrev places : Slot (suc (suc (many l)))
