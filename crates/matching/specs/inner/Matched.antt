@@ -1,4 +1,4 @@
--- An inner promise: what try and judge start from, over lists of numbers.
+-- Inner promises: the new route's steps for the occurrences, and where the straight list ends.
 use mathlib.Core.Bool.{cond}
 use mathlib.Core.List.{List}
 use mathlib.Core.Option.{Option·getD}
