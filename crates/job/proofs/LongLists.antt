@@ -14,9 +14,12 @@ use Rattle.refusal.specs.Rows.{refuse, unless, first}
 use Rattle.refusal.specs.declared.Outcome.{Outcome}
 use Rattle.refusal.proofs.Rows.{rows-pass, rows-refuse, row-refuses, ends-refused}
 use Rattle.route.specs.Steps.{blank}
-use Rattle.flat.specs.Flat.{Laid}
+use Rattle.flat.specs.Flat.{stepsIn, Laid}
+use Rattle.opening.specs.Net.{netRow}
+use Rattle.opening.specs.declared.Opened.{Opened}
 use Rattle.route.specs.declared.Step.{Step}
 use Rattle.job.specs.Job.{Job, flatJob, newLine}
+use Rattle.job.specs.Alone.{aloneRows, openedAlone}
 use Rattle.job.specs.Lines.{placesFit, stepRow, stepRows, routeRows, lineRows, checked}
 
 -- the job with other lists of steps
@@ -191,3 +194,29 @@ module _ (j : Job) (n : ℕ) (a : List ℕ) (m : ℕ) (b : List ℕ) (p : Laid (
   pub same-laid : {X : Type 0} (f : Job → X) → ((j k : Job) → Refused j k → f j ≡ f k) → f laidJob ≡ f j
   same-laid f by =
       ap₂ (λ (x y : List Step). f (withSteps j x y)) (p .steps-are) (q .steps-are) ∙ sym (same-short j f by)
+
+-- ---- one route by itself, laid as numbers
+
+alone-cut : (places : ℕ) (l : List Step) → first (aloneRows places (take 65 l)) ≡ first (aloneRows places l)
+unfolding aloneRows
+alone-cut places l = go (ltb 64 (length l)) refl
+  where
+    go : (t : Bool) → ltb 64 (length l) ≡ t
+        → first (routeRows 1 places (take 65 l) ++ (netRow 1 places (take 65 l) ∷ []))
+        ≡ first (routeRows 1 places l ++ (netRow 1 places l ∷ []))
+    go true e =
+        let over = ltb-true 64 (length l) e in
+        front-alike (overRows 1 places (take 64 l)) (routeRows 1 places (take 65 l)) (routeRows 1 places l) _ _
+        (cut-over 1 places l over) (route-over 1 places l over) (over-refused 1 places _) .0
+    go false e =
+        let few : length l ≤ 64 = ltb-false 64 (length l) e in
+        ap (λ (x : List Step). first (routeRows 1 places x ++ (netRow 1 places x ∷ [])))
+        (take-all 65 l (omega arith))
+
+pub alone-laid : (places : ℕ) (l : List Step) (n : ℕ) (w : List ℕ) → Laid l n w → (o : Opened)
+    → o ≡ openedAlone places (stepsIn (take n w)) → o .outcome ≡ first (aloneRows places l)
+unfolding openedAlone
+alone-laid places l n w laid o is =
+    ap (λ (x : Opened). x .outcome) is
+    ∙ ap (λ (x : List Step). first (aloneRows places x)) (laid .steps-are)
+    ∙ alone-cut places l

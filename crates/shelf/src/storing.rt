@@ -1,0 +1,82 @@
+// The operation put: a bad shelf, the number, a full shelf, the rows of the route; then one edition more.
+use crate::Edition;
+use crate::Shelf;
+use crate::Stored;
+use crate::editions::is_good;
+use crate::editions::last_of;
+use crate::editions::number_fits;
+use crate::editions::numbers_in;
+use flat::laying::lay;
+use job::checks::check_alone;
+use refusal::Outcome;
+use route::Route;
+ghost use mathlib.Core.Path.{_≡_};
+ghost use Prim.Native.Nat.{_<_};
+ghost use Rattle.refusal.specs.Rows.{first};
+ghost use Rattle.route.specs.Steps.{stepsOf};
+ghost use Rattle.job.specs.Alone.{aloneRows};
+ghost use Rattle.shelf.specs.Put.{shelfRows, withEdition, handed, stored};
+
+// The rows of the shelf and of the number.
+fn check_number(s: Shelf, number: u32) -> Outcome
+    ensures { λ r. ⌜ r ≡ first (shelfRows s number) ⌝ }
+{
+    let len = s.len;
+    let numbers = numbers_in(s);
+    if !is_good(len, &numbers) {
+        return Outcome::refuse(21, 1);
+    }
+    if !number_fits(last_of(&numbers[..len]), number) {
+        return Outcome::refuse(20, 0);
+    }
+    if Shelf::EDITIONS <= len {
+        return Outcome::refuse(21, 0);
+    }
+    Outcome::pass()
+}
+
+// The rows of the route, as an old route's.
+fn check_edition(r: Route) -> Outcome
+    ensures { λ o. ⌜ o ≡ first (aloneRows (r .places) (stepsOf r)) ⌝ }
+{
+    let mut a = [0u64; 260];
+    let n = lay(r, &mut a);
+    let opened = check_alone(r.places, &a[..n]);
+    opened.outcome
+}
+
+fn handed(o: Outcome, shelf: Shelf) -> Stored
+    ensures { λ r. ⌜ r ≡ handed o shelf ⌝ }
+{
+    Stored {
+        number: o.number,
+        second: o.second,
+        shelf,
+    }
+}
+
+// One edition more, where there is room.
+fn with_edition(s: Shelf, number: u32, route: Route) -> Shelf
+    requires { ⌜ s .len < 8 ⌝ }
+    ensures { λ r. ⌜ r ≡ withEdition s number route ⌝ }
+{
+    let mut shelf = s;
+    let len = s.len;
+    shelf.editions[len] = Edition { number, route };
+    shelf.len = len + 1;
+    shelf
+}
+
+pub fn put(s: Shelf, number: u32, route: Route) -> Stored
+    ensures { λ r. ⌜ r ≡ stored s number route ⌝ }
+{
+    let o = check_number(s, number);
+    if !o.passed() {
+        return handed(o, s);
+    }
+    let o = check_edition(route);
+    if !o.passed() {
+        return handed(o, s);
+    }
+    handed(o, with_edition(s, number, route))
+}
