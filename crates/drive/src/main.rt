@@ -8,11 +8,14 @@
 //     6, 7, 9, 10        read, the job part, print and try over a sheet; then both slices, or the order
 //     12, 13, 14, 15, 18 as 2 to 5 and 8, over lent lists
 //     16                 read into lent lists of three lengths
+//     20, 21, 22         over the shelf in hand, the empty one at first: a whole shelf handed in; put, a number and a
+//                        route; judge, the edition, the target, a done list and the work slice
 //
-// An answer is all its numbers, and every slice that was lent as it then stands. The second program says the same of
+// An answer is all its numbers, and every slice that was lent, and the shelf, as it then stands. The second program says the same of
 // scripts (reference/src/script.rs).
 use drive_script::ends;
 use drive_script::numbers;
+use shelf::Shelf;
 
 mod operations;
 
@@ -20,6 +23,7 @@ mod operations;
 fn answer_all(nums: &[u64], o: &mut [u8; 65536]) {
     let mut at = 0;
     let mut n = 0;
+    let mut shelf = Shelf::empty();
     let mut turns = nums.len();
     while 0 < turns {
         let end = ends::operation(nums, at);
@@ -27,7 +31,9 @@ fn answer_all(nums: &[u64], o: &mut [u8; 65536]) {
             drive_out::flush(o, n);
             return;
         }
-        n = operations::answer(nums, at, o, n);
+        let t = operations::turn(shelf, nums, at, o, n);
+        n = drive_out::end(o, t.n);
+        shelf = t.shelf;
         at = end;
         turns -= 1;
     }

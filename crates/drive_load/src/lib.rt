@@ -42,7 +42,7 @@ pub fn length(nums: &[u64], at: usize, bound: usize) -> usize
     counts::least(numbers::at(nums, at, 0) as usize, bound)
 }
 
-fn word(nums: &[u64], at: usize, k: usize) -> u32 {
+pub fn word(nums: &[u64], at: usize, k: usize) -> u32 {
     low32(numbers::at(nums, at, k))
 }
 
@@ -60,7 +60,7 @@ pub fn record(nums: &[u64], at: usize, k: usize) -> Step
 }
 
 // A route by value: the place count, any `len`, and records counted.
-fn route(nums: &[u64], at: usize) -> Route {
+pub fn route(nums: &[u64], at: usize) -> Route {
     let mut steps = [Step::BLANK; 64];
     let from = std::num::wrapping_add_usize(at, 2);
     let count = length(nums, from, 64);
@@ -88,7 +88,7 @@ fn records(nums: &[u64], at: usize) -> [Step; 100] {
     list
 }
 
-fn names(nums: &[u64], at: usize) -> [u32; 100] {
+pub fn names(nums: &[u64], at: usize) -> [u32; 100] {
     let mut list = [0u32; 100];
     let count = length(nums, at, 100);
     let mut i = 0;

@@ -34,6 +34,20 @@ fn add(o: &mut [u8; 65536], r: Run, value: u64) -> Run {
     }
 }
 
+pub fn numbers(o: &mut [u8; 65536], n: usize, l: &[u64]) -> usize {
+    let mut r = Run {
+        n: number(o, n, l.len() as u64),
+        count: 0,
+        value: 0,
+    };
+    let mut i = 0;
+    while i < l.len() {
+        r = add(o, r, l[i]);
+        i += 1;
+    }
+    close(o, r)
+}
+
 pub fn bytes(o: &mut [u8; 65536], n: usize, l: &[u8]) -> usize {
     let mut r = Run {
         n: number(o, n, l.len() as u64),

@@ -85,6 +85,26 @@ pub fn bytes(nums: &[u64], at: usize) -> usize {
     counted(nums, at, SLICE, Entry::Byte)
 }
 
+// An edition's number and its route.
+pub fn edition(nums: &[u64], at: usize) -> usize {
+    route(nums, word(nums, at))
+}
+
+// Any `len`, and at most eight editions counted.
+fn shelf(nums: &[u64], at: usize) -> usize {
+    let len = any(nums, at);
+    let mut end = most(nums, len, 8);
+    let mut left = numbers::at(nums, len, 0);
+    if end == STOP {
+        return STOP;
+    }
+    while 0 < left {
+        end = edition(nums, end);
+        left -= 1;
+    }
+    end
+}
+
 // The length of a slice, and the byte that it is full of.
 pub fn fill(nums: &[u64], at: usize) -> usize {
     let length = most(nums, at, SLICE);
@@ -143,6 +163,15 @@ fn over_sheet(op: u64, nums: &[u64], at: usize) -> usize {
     }
 }
 
+// The arguments of operations over the shelf in hand.
+fn over_shelf(op: u64, nums: &[u64], at: usize) -> usize {
+    match op {
+        20 => shelf(nums, at),
+        21 => edition(nums, at),
+        _ => fill(nums, names(nums, word(nums, word(nums, at)))),
+    }
+}
+
 // An operation's number and its arguments.
 pub fn operation(nums: &[u64], at: usize) -> usize {
     let next = any(nums, at);
@@ -152,6 +181,7 @@ pub fn operation(nums: &[u64], at: usize) -> usize {
         2 | 3 | 4 | 5 | 8 => over_routes(op, nums, next),
         6 | 7 | 9 | 10 | 16 => over_sheet(op, nums, next),
         12 | 13 | 14 | 15 | 18 => over_lists(op, nums, next),
+        20 | 21 | 22 => over_shelf(op, nums, next),
         _ => STOP,
     }
 }

@@ -28,4 +28,5 @@ pub mod LastWriter
 pub mod Shown
 pub mod Printed
 pub mod RoundTrip
+pub mod Editions
 pub mod Main

@@ -5,3 +5,4 @@ pub mod Given
 pub mod Sheets
 pub mod Shows
 pub mod RoundTrip
+pub mod Editions

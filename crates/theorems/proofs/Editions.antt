@@ -1,0 +1,146 @@
+-- The shelf of editions: what put leaves on it, and that judge between two editions is judge for their routes. A good
+-- shelf's numbers rise, so each edition is the first of its number.
+use mathlib.Core.Path.{_≡_, refl, sym, ap, ap₂, _∙_}
+use mathlib.Core.Bool.{Bool, true, false, cond, _&&_}
+use mathlib.Core.List.{List, [], _∷_, _++_, map}
+use mathlib.Core.Option.{Option, none, some}
+use Prim.Native.Nat.{ℕ, zero, suc, _+_, _-_, _≤_, _<_}
+use native.Mathlib.Omega.{arith}
+use native.Mathlib.Numerals.{add-one}
+use borrow.Author.Tests.{eq-eqb, ne-eqb, eqb-true, le-leb, lt-ltb, ltb-true}
+use lib.Dec.{eqb, ltb, leb}
+use lib.ListN.{length, take, drop, getD, set, length-append}
+use lib.Seq.{take-suc-set, take-append-seam}
+use Rattle.mask.proofs.Truth.{both, cond-yes, cond-no}
+use Rattle.refusal.specs.Rows.{pass, first}
+use Rattle.refusal.specs.declared.Outcome.{Outcome}
+use Rattle.refusal.proofs.Rows.{cond-zero, cond-zero-elim, rows-passed}
+use Rattle.route.specs.Steps.{stepsOf}
+use Rattle.route.specs.declared.Route.{Route}
+use Rattle.job.specs.Alone.{aloneRows}
+use Rattle.shelf.specs.Shelf.{noEdition, editionsOf, numbersIn, lastOf, numberFits, rise, goodShelf, routeOf}
+use Rattle.shelf.specs.Put.{shelfRows, putRow, withEdition, handed, stored}
+use Rattle.shelf.specs.declared.Edition.{Edition}
+use Rattle.shelf.specs.declared.Shelf.{Shelf}
+use Rattle.shelf.specs.declared.Stored.{Stored}
+use Rattle.shelf.proofs.Numbers.{number-at, length-numbers}
+use Rattle.shelf.proofs.PutRows.{shelf-passes}
+use Rattle.theorems.specs.Editions.{Eight, UnusedBlank}
+
+-- ---- numbers that rise
+
+rise-more : (l : List ℕ) (last n : ℕ) → rise last l ≡ true → numberFits (lastOf last l) n ≡ true
+    → rise last (l ++ (n ∷ [])) ≡ true
+unfolding rise lastOf
+rise-more [] last n up fits = ap (λ (t : Bool). t && true) fits
+rise-more (x ∷ l) last n up fits =
+    let (own, rest) = both (numberFits last x) (rise x l) up in
+    ap₂ (λ (t u : Bool). t && u) own (rise-more l x n rest fits)
+
+fits-above : (last n : ℕ) → numberFits last n ≡ true → last < n
+unfolding numberFits
+fits-above last n e = ltb-true last n (both _ _ e .0)
+
+-- each is above those before it
+rise-above : (l : List ℕ) (last i : ℕ) → rise last l ≡ true → i < length l → last < getD l i 0
+unfolding rise
+rise-above [] last i up h = absurd (omega (arith, h))
+rise-above (x ∷ l) last zero up h = fits-above last x (both (numberFits last x) (rise x l) up .0)
+rise-above (x ∷ l) last (suc i) up h =
+    let (own, rest) = both (numberFits last x) (rise x l) up in
+    omega (arith, fits-above last x own, rise-above l x i rest (omega (arith, h)))
+
+-- ---- editions found by their numbers
+
+numbers-more : (l : List Edition) (e : Edition) → numbersIn (l ++ (e ∷ [])) ≡ numbersIn l ++ (e .number ∷ [])
+unfolding numbersIn
+numbers-more [] e = refl
+numbers-more (x ∷ l) e = ap (λ (k : List ℕ). x .number ∷ k) (numbers-more l e)
+
+found-first : (l : List Edition) (last i : ℕ) → rise last (numbersIn l) ≡ true → i < length l
+    → routeOf (getD l i noEdition .number) l ≡ some (getD l i noEdition .route)
+unfolding rise numbersIn routeOf
+found-first [] last i up h = absurd (omega (arith, h))
+found-first (e ∷ l) last zero up h = sym (cond-yes _ _ refl (eq-eqb (e .number) (e .number) refl))
+found-first (e ∷ l) last (suc i) up h =
+    let (own, rest) = both (numberFits last (e .number)) (rise (e .number) (numbersIn l)) up in
+    let inside : i < length l = omega (arith, h) in
+    let above : e .number < getD l i noEdition .number = omega (
+      arith,
+      rise-above (numbersIn l) (e .number) i rest (omega (arith, length-numbers l)),
+      number-at l i noEdition inside,
+    ) in
+    sym (cond-no _ _ refl (ne-eqb (e .number) _ (λ p. omega (arith, p, above))))
+    ∙ found-first l (e .number) i rest inside
+
+found-still : (l k : List Edition) (n : ℕ) (r : Route) → routeOf n l ≡ some r → routeOf n (l ++ k) ≡ some r
+unfolding routeOf
+found-still [] k n r e = cc
+found-still (x ∷ l) k n r e = go (eqb (x .number) n) e (found-still l k n r)
+  where
+    go : (t : Bool) → cond t (some (x .route)) (routeOf n l) ≡ some r
+        → (routeOf n l ≡ some r → routeOf n (l ++ k) ≡ some r)
+        → cond t (some (x .route)) (routeOf n (l ++ k)) ≡ some r
+    go true p ih = p
+    go false p ih = ih p
+
+-- ---- a shelf with one edition more
+
+module _ (s : Shelf) (n : ℕ) (r : Route) (eight : Eight s) (room : s .len < 8) where
+  abbrev new : Edition
+  new = record { number = n; route = r }
+
+  editions-more : editionsOf (withEdition s n r) ≡ editionsOf s ++ (new ∷ [])
+  unfolding withEdition
+  editions-more =
+      ap (λ (m : ℕ). take m (set (s .editions) (s .len) new)) (add-one (s .len))
+      ∙ take-suc-set (s .editions) (s .len) new (omega (arith, eight))
+
+  rises-more : rise 0 (numbersIn (editionsOf s)) ≡ true → numberFits (lastOf 0 (numbersIn (editionsOf s))) n ≡ true
+      → rise 0 (numbersIn (editionsOf (withEdition s n r))) ≡ true
+  rises-more up fits =
+      ap (λ (l : List Edition). rise 0 (numbersIn l)) editions-more
+      ∙ ap (rise 0) (numbers-more (editionsOf s) new)
+      ∙ rise-more (numbersIn (editionsOf s)) 0 n up fits
+
+  few-more : leb (withEdition s n r .len) 8 ≡ true
+  unfolding withEdition
+  few-more = le-leb (s .len + 1) 8 (omega arith)
+
+  good-more : goodShelf s ≡ true → numberFits (lastOf 0 (numbersIn (editionsOf s))) n ≡ true
+      → goodShelf (withEdition s n r) ≡ true
+  unfolding goodShelf
+  good-more good fits = ap₂ (λ (t u : Bool). t && u) few-more (rises-more (both (leb (s .len) 8) _ good .1) fits)
+
+-- ---- what put leaves
+
+module _ (s : Shelf) (n : ℕ) (r : Route) where
+  -- a success, and what its rows say
+  module _ (success : stored s n r .number ≡ 0) where
+    answer : (putRow s n r .number ≡ 0) × (stored s n r ≡ handed pass (withEdition s n r))
+    unfolding stored
+    answer = cond-zero-elim (λ (x : Stored). x .number) (putRow s n r .number) _ _ refl success
+
+    pub shelf-is : stored s n r .shelf ≡ withEdition s n r
+    shelf-is = ap (λ (x : Stored). x .shelf) (answer .1)
+
+    passes : (goodShelf s ≡ true) × ((numberFits (lastOf 0 (numbersIn (editionsOf s))) n ≡ true) × (s .len < 8))
+    unfolding putRow
+    passes = shelf-passes s n (rows-passed (shelfRows s n) _ (eq-eqb _ 0 (answer .0)) .0)
+
+    module _ (eight : Eight s) where
+      pub put-adds : editionsOf (stored s n r .shelf) ≡ editionsOf s ++ (record { number = n; route = r } ∷ [])
+      put-adds = ap editionsOf shelf-is ∙ editions-more s n r eight (passes .1 .1)
+
+      pub put-good : goodShelf (stored s n r .shelf) ≡ true
+      put-good = ap goodShelf shelf-is ∙ good-more s n r eight (passes .1 .1) (passes .0) (passes .1 .0)
+
+  pub put-refuses : (stored s n r .number ≡ 0 → ⊥) → stored s n r .shelf ≡ s
+  unfolding stored
+  put-refuses fails = go (eqb (putRow s n r .number) 0) refl fails
+    where
+      go : (t : Bool) → eqb (putRow s n r .number) 0 ≡ t
+          → (cond t (handed pass (withEdition s n r)) (handed (putRow s n r) s) .number ≡ 0 → ⊥)
+          → cond t (handed pass (withEdition s n r)) (handed (putRow s n r) s) .shelf ≡ s
+      go true e f = absurd (f refl)
+      go false e f = refl
