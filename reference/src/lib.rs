@@ -1,6 +1,7 @@
-//! The second program for the route mover, written from 01 alone: plain, slow
-//! where that is clearer, with 01's words. Operations take the facts of a sheet
-//! (`sheet::Sheet`) or its bytes; a refusal is 01's number and second number.
+//! The second program for the route mover, written from 01 and 02 alone: plain,
+//! slow where that is clearer, with their words. Operations take the facts of a
+//! sheet (`sheet::Sheet`), its bytes or a shelf; a refusal is a number and a
+//! second number of theirs.
 
 pub mod fit;
 pub mod job;
@@ -16,5 +17,6 @@ pub mod refusal;
 pub mod script;
 pub mod search;
 pub mod sheet;
+pub mod shelf;
 pub mod slice;
 pub mod values;

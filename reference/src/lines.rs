@@ -14,11 +14,7 @@ pub const MOST_ENTRIES: usize = 8;
 /// Looks at every line of the sheet of these facts.
 pub fn check(sheet: &Sheet) -> Result<(), Refusal> {
     check_route(&sheet.old, sheet.old_line())?;
-    let line = sheet.new_line();
-    refuse_if(sheet.old.steps.is_empty(), 4, line)?;
-    check_route(&sheet.new, line)?;
-    let line = sheet.job_line();
-    refuse_if(sheet.new.steps.is_empty(), 4, line)?;
+    check_route(&sheet.new, sheet.new_line())?;
     for (index, name) in sheet.done.iter().enumerate() {
         let line = sheet.done_line(index + 1);
         refuse_if(index >= MOST_DONE, 4, line)?;
@@ -27,8 +23,8 @@ pub fn check(sheet: &Sheet) -> Result<(), Refusal> {
     Ok(())
 }
 
-/// A head line, and the route's step lines.
-fn check_route(route: &Route, head: usize) -> Result<(), Refusal> {
+/// A head line, the route's step lines, and the line that follows where it has none.
+pub fn check_route(route: &Route, head: usize) -> Result<(), Refusal> {
     refuse_if(!PLACES.contains(&route.places), 2, head)?;
     for (index, step) in route.steps.iter().enumerate() {
         let line = head + 1 + index;
@@ -38,7 +34,7 @@ fn check_route(route: &Route, head: usize) -> Result<(), Refusal> {
         refuse_if(bad_list(step), 3, line)?;
         refuse_if(earlier.iter().any(|e| e.name == step.name), 5, line)?;
     }
-    Ok(())
+    refuse_if(route.steps.is_empty(), 4, head + 1)
 }
 
 /// Row 2 for a step: a number outside its range, or a place not below N.

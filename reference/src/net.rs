@@ -45,7 +45,7 @@ pub fn fire(marking: &Marking, step: &Step) -> Result<Marking, Refusal> {
 }
 
 /// Rows 6 and 7 of one route: a place in no step, no start place.
-fn check_places(route: &Route, head: usize) -> Result<(), Refusal> {
+pub fn check_places(route: &Route, head: usize) -> Result<(), Refusal> {
     let used = |place: &u32| {
         let mut steps = route.steps.iter();
         steps.any(|step| step.ins.contains(place) || step.outs.contains(place))

@@ -1,6 +1,8 @@
 //! Step records: a step's facts with the lists as bit masks, place p at bit p.
+//! A route by value holds 64 of them.
 
-use crate::sheet::{entries, Step};
+use crate::lines::MOST_STEPS;
+use crate::sheet::{entries, Route, Step};
 
 #[derive(Clone, Copy, Debug, Default, PartialEq, Eq)]
 pub struct Record {
@@ -9,6 +11,14 @@ pub struct Record {
     pub outs: u64,
     pub reads: u32,
     pub writes: u32,
+}
+
+/// A route by value: its first `len` records are its steps. `len` may be past 64.
+#[derive(Clone, Copy, Debug, PartialEq, Eq)]
+pub struct RouteByValue {
+    pub places: u32,
+    pub len: u64,
+    pub records: [Record; MOST_STEPS],
 }
 
 /// The mask of these bits.
@@ -51,5 +61,30 @@ impl Record {
             writes,
         } = *self;
         [name.into(), ins, outs, reads.into(), writes.into()]
+    }
+}
+
+impl RouteByValue {
+    /// The records past those given, at most 64, are blank.
+    pub fn of(places: u32, len: u64, given: &[Record]) -> RouteByValue {
+        let mut records = [Record::default(); MOST_STEPS];
+        records[..given.len()].copy_from_slice(given);
+        RouteByValue {
+            places,
+            len,
+            records,
+        }
+    }
+
+    /// The route that it stands for. At the 65th step it is refused, so no more
+    /// are taken.
+    pub fn route(&self) -> Route {
+        let taken = self.len.min(MOST_STEPS as u64 + 1) as usize;
+        let mut records = self.records.to_vec();
+        records.resize(taken, Record::default());
+        Route {
+            places: self.places,
+            steps: records.iter().map(Record::step).collect(),
+        }
     }
 }

@@ -1,4 +1,6 @@
 //! Scripts: operations with their arguments, as numbers, and what each answers.
+//! A script has a shelf in hand, at first the empty one: 20 hands in another, 21
+//! puts an edition on it, 22 judges a job of one of its editions.
 
 pub mod answers;
 pub mod arguments;
@@ -6,7 +8,8 @@ pub mod numbers;
 pub mod writing;
 
 use crate::sheet::Sheet;
-use arguments::{bytes, fill, names, record, route};
+use crate::shelf::Shelf;
+use arguments::{by_value, bytes, fill, names, record, route, word};
 use numbers::Numbers;
 
 /// The text that the program must print for this script: a line for each
@@ -25,15 +28,16 @@ pub fn line(numbers: &[u64]) -> String {
 /// Each operation's number, and the numbers of its answer.
 pub fn answers(script: &str) -> Vec<(u64, Vec<u64>)> {
     let mut numbers = Numbers::of(script);
+    let mut shelf = Shelf::empty();
     let next = || {
         let operation = numbers.any()?;
-        Some((operation, one(operation, &mut numbers)?))
+        Some((operation, one(operation, &mut numbers, &mut shelf)?))
     };
     std::iter::from_fn(next).collect()
 }
 
 /// The answer of one operation; none where its arguments aren't whole.
-fn one(operation: u64, script: &mut Numbers) -> Option<Vec<u64>> {
+fn one(operation: u64, script: &mut Numbers, shelf: &mut Shelf) -> Option<Vec<u64>> {
     match operation {
         1 => Some(answers::fire(script.any()?, &record(script)?)),
         2 | 12 => Some(answers::run(&facts(operation, script)?)),
@@ -53,6 +57,16 @@ fn one(operation: u64, script: &mut Numbers) -> Option<Vec<u64>> {
         )),
         10 => Some(answers::try_sheet(&bytes(script)?, &bytes(script)?)),
         16 => Some(answers::read_into(&bytes(script)?, lengths(script)?)),
+        20 => {
+            *shelf = arguments::shelf(script)?;
+            Some(answers::shelf(shelf))
+        }
+        21 => Some(answers::put(shelf, word(script)?, &by_value(script)?)),
+        22 => {
+            let numbers = [word(script)?, word(script)?];
+            let (done, work) = (names(script)?, fill(script)?);
+            Some(answers::judge_editions(shelf, numbers, &done, work))
+        }
         _ => None,
     }
 }

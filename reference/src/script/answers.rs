@@ -5,9 +5,10 @@ use crate::fit;
 use crate::judge::{self, Moved};
 use crate::net::{self, Marking};
 use crate::print;
-use crate::record::{mask, Record};
+use crate::record::{mask, Record, RouteByValue};
 use crate::refusal::Refusal;
 use crate::sheet::{self, entries, Route, Sheet};
+use crate::shelf::{Edition, Shelf};
 use crate::slice;
 
 /// Rows of a table, entries of an order, records of a route by value, done names.
@@ -84,9 +85,14 @@ pub fn try_sheet(bytes: &[u8], order: &[u8]) -> Vec<u64> {
 }
 
 pub fn judge(facts: &Sheet, mut work: Vec<u8>) -> Vec<u64> {
-    let moved = judge::judge(facts, &mut work).map(|moved| moved_numbers(&moved));
+    judged(judge::judge(facts, &mut work), &work)
+}
+
+/// Judge's answer, and the work slice after it.
+fn judged(answer: Result<Moved, Refusal>, work: &[u8]) -> Vec<u64> {
+    let moved = answer.map(|moved| moved_numbers(&moved));
     let others = 3 + ROWS + 1 + ROWS + VARIABLES;
-    [line(moved, others), runs(&work)].concat()
+    [line(moved, others), runs(work)].concat()
 }
 
 /// Kept, dropped, the order's length and entries, the marking, for each
@@ -192,4 +198,38 @@ pub fn write(facts: &Sheet, mut out: Vec<u8>) -> Vec<u64> {
 pub fn print(bytes: &[u8], mut work: Vec<u8>, mut out: Vec<u8>) -> Vec<u64> {
     let written = print::print(bytes, &mut work, &mut out).map(|length| vec![length as u64]);
     [line(written, 1), runs(&work), runs(&out)].concat()
+}
+
+/// A shelf: `len`, and each of its 8 entries.
+pub fn shelf(shelf: &Shelf) -> Vec<u64> {
+    let entries = shelf.editions.iter().flat_map(edition);
+    [vec![shelf.len], entries.collect()].concat()
+}
+
+/// An edition: its number, its route's places and `len`, and the records'
+/// numbers as a lent slice of them is shown.
+fn edition(edition: &Edition) -> Vec<u64> {
+    let RouteByValue {
+        places,
+        len,
+        records,
+    } = &edition.route;
+    let numbers: Vec<u64> = records.iter().flat_map(Record::numbers).collect();
+    let head = vec![edition.number.into(), (*places).into(), *len];
+    [head, runs(&numbers)].concat()
+}
+
+/// The answer of putting an edition, and the shelf that is handed back.
+pub fn put(on: &mut Shelf, number: u32, route: &RouteByValue) -> Vec<u64> {
+    let answer = on.put(number, route).map(|()| vec![]);
+    [line(answer, 0), shelf(on)].concat()
+}
+
+pub fn judge_editions(
+    shelf: &Shelf,
+    [edition, target]: [u32; 2],
+    done: &[u32],
+    mut work: Vec<u8>,
+) -> Vec<u64> {
+    judged(shelf.judge(edition, target, done, &mut work), &work)
 }

@@ -1,9 +1,10 @@
-//! The arguments of operations: records, routes, names, bytes.
+//! The arguments of operations: records, routes, shelves, names, bytes.
 
 use super::numbers::Numbers;
 use crate::lines::MOST_STEPS;
-use crate::record::Record;
+use crate::record::{Record, RouteByValue};
 use crate::sheet::Route;
+use crate::shelf::{Edition, Shelf, MOST_EDITIONS};
 
 /// The most records that a route by value holds.
 pub const MOST_BY_VALUE: u64 = MOST_STEPS as u64;
@@ -13,7 +14,7 @@ pub const MOST_LENT: u64 = 100;
 pub const MOST_SLICE: u64 = 20_000;
 
 /// A number below 2^32.
-fn word(script: &mut Numbers) -> Option<u32> {
+pub fn word(script: &mut Numbers) -> Option<u32> {
     script.any()?.try_into().ok()
 }
 
@@ -45,22 +46,36 @@ pub fn record(script: &mut Numbers) -> Option<Record> {
 
 /// LIST or ROUTE: a lent list of records, or a route by value.
 pub fn route(script: &mut Numbers, lent: bool) -> Option<Route> {
+    if !lent {
+        return Some(by_value(script)?.route());
+    }
     let places = word(script)?;
-    let records = if lent {
-        counted(script, MOST_LENT, record)?
-    } else {
-        let len = script.any()?;
-        by_value(len, counted(script, MOST_BY_VALUE, record)?)
-    };
+    let records = counted(script, MOST_LENT, record)?;
     let steps = records.iter().map(Record::step).collect();
     Some(Route { places, steps })
 }
 
-/// The list that a route by value stands for: its first `len` records, those
-/// past the ones given blank. At the 65th it is refused, so no more are taken.
-fn by_value(len: u64, mut records: Vec<Record>) -> Vec<Record> {
-    records.resize(len.min(MOST_BY_VALUE + 1) as usize, Record::default());
-    records
+/// ROUTE: a route by value.
+pub fn by_value(script: &mut Numbers) -> Option<RouteByValue> {
+    let (places, len) = (word(script)?, script.any()?);
+    let records = counted(script, MOST_BY_VALUE, record)?;
+    Some(RouteByValue::of(places, len, &records))
+}
+
+/// SHELF: its `len` and its editions, those past the ones given blank.
+pub fn shelf(script: &mut Numbers) -> Option<Shelf> {
+    let mut shelf = Shelf::empty();
+    shelf.len = script.any()?;
+    let given = counted(script, MOST_EDITIONS as u64, edition)?;
+    shelf.editions[..given.len()].copy_from_slice(&given);
+    Some(shelf)
+}
+
+fn edition(script: &mut Numbers) -> Option<Edition> {
+    Some(Edition {
+        number: word(script)?,
+        route: by_value(script)?,
+    })
 }
 
 /// NAMES: a lent list of done names.
