@@ -1,7 +1,7 @@
 //! Random sheets: an old route drawn from a tree of blocks, a done list got by
 //! really running it, and a new route that is the old one redrawn in small ways.
 //! Random scripts: operations on such jobs, on jobs at the limits, and on wrong
-//! records, sheets and orders.
+//! records, sheets and orders; and operations on shelves of such routes.
 
 pub mod block;
 pub mod damage;
@@ -12,6 +12,7 @@ pub mod plan;
 pub mod records;
 pub mod redraw;
 pub mod script;
+pub mod shelf;
 
 use crate::net;
 use crate::sheet::{self, Route, Sheet};
@@ -21,11 +22,7 @@ pub use script::script;
 
 /// The facts of a random sheet. Most of them reach judge.
 pub fn sheet(dice: &mut Dice) -> Sheet {
-    let (plan, length) = match dice.below(100) {
-        0..=9 => (Plan::looping(dice), dice.from_to(12, 64)),
-        10..=29 => (Plan::random(9, 14, dice), 14),
-        _ => (Plan::random(1, 7, dice), 9),
-    };
+    let (plan, length) = plan_and_length(dice);
     let mut old = plan.draw(dice);
     if dice.chance(4) {
         redraw::change_a_place(&mut old, dice);
@@ -51,6 +48,15 @@ pub fn sheet(dice: &mut Dice) -> Sheet {
         redraw::change_a_place(&mut new, dice);
     }
     Sheet { old, new, done }
+}
+
+/// A plan, and how long a done list on it may get.
+fn plan_and_length(dice: &mut Dice) -> (Plan, usize) {
+    match dice.below(100) {
+        0..=9 => (Plan::looping(dice), dice.from_to(12, 64)),
+        10..=29 => (Plan::random(9, 14, dice), 14),
+        _ => (Plan::random(1, 7, dice), 9),
+    }
 }
 
 /// The bytes of a random sheet, at times damaged.

@@ -46,7 +46,7 @@ impl Shelf {
 
     /// The editions on the shelf. 21 with 1: over 8, or numbers that don't rise
     /// within 1 to 65,535.
-    fn stored(&self) -> Result<&[Edition], Refusal> {
+    pub fn stored(&self) -> Result<&[Edition], Refusal> {
         refuse_if(self.len > MOST_EDITIONS as u64, 21, 1)?;
         let stored = &self.editions[..self.len as usize];
         let within = stored.iter().all(|e| NUMBERS.contains(&e.number));

@@ -70,7 +70,7 @@ fn perhaps(bound: usize, dice: &mut Dice) -> Vec<u32> {
 }
 
 /// Whether each place is in a step and there is a start place.
-fn opens(route: &Route) -> bool {
+pub(super) fn opens(route: &Route) -> bool {
     let done = vec![];
     let (old, new) = (route.clone(), route.clone());
     net::run(&Sheet { old, new, done }).is_ok()
@@ -361,7 +361,7 @@ fn without_data(job: &mut Sheet, at: usize) {
 }
 
 /// Each start place becomes an out-place of the last step.
-fn close(route: &mut Route) {
+pub(super) fn close(route: &mut Route) {
     let places = net::start(route);
     if let Some(step) = route.steps.last_mut() {
         step.outs.extend(places);

@@ -1,7 +1,7 @@
 //! Records of a job, right ones and ones that are wrong at every limit.
 
 use super::dice::Dice;
-use crate::record::Record;
+use crate::record::{Record, RouteByValue};
 use crate::script::writing;
 use crate::sheet::{Route, Sheet};
 
@@ -30,11 +30,32 @@ impl Records {
         }
     }
 
+    /// The route by value, which holds the first 64 of the records.
+    pub fn by_value(&self) -> RouteByValue {
+        let held = self.list.len().min(64);
+        RouteByValue::of(self.places, self.len, &self.list[..held])
+    }
+
     /// The route of all the records.
     fn route(&self) -> Route {
         Route {
             places: self.places,
             steps: self.list.iter().map(Record::step).collect(),
+        }
+    }
+
+    /// Makes one thing wrong, or puts it at its limit.
+    pub fn spoil(&mut self, dice: &mut Dice) {
+        match dice.below(14) {
+            0..=1 => self.places = some_places(self.places, dice),
+            2..=3 => lengthen(self, dice),
+            4 => {
+                self.list.clear();
+                self.len = 0;
+            }
+            5..=6 => self.len = some_len(self.list.len() as u64, dice),
+            7 => add_past_len(self, dice),
+            _ => spoil_record(self, dice),
         }
     }
 
@@ -75,29 +96,15 @@ impl Facts {
     /// Makes one thing wrong, or puts it at its limit.
     pub fn spoil(&mut self, dice: &mut Dice) {
         match dice.below(9) {
-            0..=3 => spoil_route(&mut self.old, dice),
-            4..=7 => spoil_route(&mut self.new, dice),
+            0..=3 => self.old.spoil(dice),
+            4..=7 => self.new.spoil(dice),
             _ => spoil_done(&mut self.done, dice),
         }
     }
 }
 
-fn any<T: Copy>(of: &[T], dice: &mut Dice) -> T {
+pub(super) fn any<T: Copy>(of: &[T], dice: &mut Dice) -> T {
     of[dice.below(of.len())]
-}
-
-fn spoil_route(route: &mut Records, dice: &mut Dice) {
-    match dice.below(14) {
-        0..=1 => route.places = some_places(route.places, dice),
-        2..=3 => lengthen(route, dice),
-        4 => {
-            route.list.clear();
-            route.len = 0;
-        }
-        5..=6 => route.len = some_len(route.list.len() as u64, dice),
-        7 => add_past_len(route, dice),
-        _ => spoil_record(route, dice),
-    }
 }
 
 /// A place count at or past its limits, or one off.
@@ -137,7 +144,7 @@ fn some_len(records: u64, dice: &mut Dice) -> u64 {
 }
 
 /// Records that stand past `len` and don't count in a route by value.
-fn add_past_len(route: &mut Records, dice: &mut Dice) {
+pub(super) fn add_past_len(route: &mut Records, dice: &mut Dice) {
     for _ in 0..dice.from_to(1, 3) {
         if route.list.is_empty() || route.list.len() == 100 {
             return;
@@ -148,7 +155,7 @@ fn add_past_len(route: &mut Records, dice: &mut Dice) {
     }
 }
 
-fn spoil_record(route: &mut Records, dice: &mut Dice) {
+pub(super) fn spoil_record(route: &mut Records, dice: &mut Dice) {
     if route.list.is_empty() {
         return;
     }
@@ -198,7 +205,7 @@ fn some_variables(mask: u32, dice: &mut Dice) -> u32 {
 }
 
 /// A name at or past its limits, or 63 and more done.
-fn spoil_done(done: &mut Vec<u32>, dice: &mut Dice) {
+pub(super) fn spoil_done(done: &mut Vec<u32>, dice: &mut Dice) {
     let name = any(&[0, 1, 65_535, 65_536, u32::MAX], dice);
     if done.is_empty() || dice.chance(50) {
         let length = any(&[63, 64, 65, 66, 100], dice);

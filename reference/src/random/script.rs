@@ -13,7 +13,7 @@ use crate::sheet::{self, Sheet};
 pub const MOST_BYTES: usize = 60_000;
 
 /// What a script's ending may add to its operations.
-const ENDING: usize = 2_000;
+pub(super) const ENDING: usize = 2_000;
 
 /// Each operation, and how often it is drawn.
 const OPERATIONS: [(u64, usize); 16] = [
@@ -45,6 +45,11 @@ pub fn script(dice: &mut Dice) -> String {
             text += &line;
         }
     }
+    ended(text, dice)
+}
+
+/// The script as it ends: few in the middle of an operation.
+pub(super) fn ended(text: String, dice: &mut Dice) -> String {
     match dice.below(40) {
         0 => cut(&text, dice),
         1 => strange(&text, dice),
@@ -68,7 +73,7 @@ fn number(dice: &mut Dice) -> u64 {
 }
 
 /// One operation and its arguments.
-fn operation(dice: &mut Dice) -> String {
+pub(super) fn operation(dice: &mut Dice) -> String {
     let number = number(dice);
     let arguments = match number {
         1 => fire(dice),
@@ -153,7 +158,7 @@ fn of_sheet(number: u64, dice: &mut Dice) -> Vec<String> {
 }
 
 /// A work slice, seldom too short.
-fn work(dice: &mut Dice) -> String {
+pub(super) fn work(dice: &mut Dice) -> String {
     let lengths = [0, 1, WORK - 1, WORK - 1, WORK + 1, 20_000];
     let length = if dice.chance(85) {
         WORK
@@ -229,6 +234,20 @@ fn past_a_limit(text: &str, dice: &mut Dice) -> String {
         "8 1 0 0 1 0 0 0 1 256",
         "16 0 101 0 0",
         "16 0 0 0 101",
+        "20 18446744073709551616",
+        "20 0 9",
+        "20 1 1 4294967296",
+        "20 1 1 1 4294967296",
+        "20 1 1 1 1 65 65",
+        "21 4294967296",
+        "21 1 1 65 65",
+        "22 4294967296",
+        "22 1 4294967296",
+        "22 1 2 101",
+        "22 1 2 1 4294967296",
+        "22 1 2 0 20001",
+        "22 1 2 0 1 256",
+        "23",
     ];
     let begin = begins[dice.below(begins.len())];
     format!("{text}{begin}{zeros}\n1 1 1 1 2 0 0\n")

@@ -1,6 +1,7 @@
 //! Writing a script's operations and their arguments.
 
-use crate::record::Record;
+use crate::record::{Record, RouteByValue};
+use crate::shelf::{Edition, Shelf};
 
 /// Numbers with one space between.
 fn words<T: ToString>(numbers: impl IntoIterator<Item = T>) -> String {
@@ -26,6 +27,26 @@ pub fn record(record: &Record) -> String {
 /// ROUTE: a route by value, with any `len`.
 pub fn by_value(places: u32, len: u64, records: &[Record]) -> String {
     format!("{places} {len} {}", counted_records(records))
+}
+
+/// ROUTE, without the blank records at its end.
+pub fn route(route: &RouteByValue) -> String {
+    let given = before_last(&route.records, &Record::default());
+    by_value(route.places, route.len, given)
+}
+
+/// SHELF, without the blank editions at its end.
+pub fn shelf(shelf: &Shelf) -> String {
+    let given = before_last(&shelf.editions, &Edition::blank());
+    let edition = |edition: &Edition| format!("{} {}", edition.number, route(&edition.route));
+    let editions = counted(given.len(), given.iter().map(edition));
+    format!("{} {editions}", shelf.len)
+}
+
+/// The entries up to the last that isn't blank.
+fn before_last<'a, T: PartialEq>(entries: &'a [T], blank: &T) -> &'a [T] {
+    let last = entries.iter().rposition(|entry| entry != blank);
+    &entries[..last.map_or(0, |at| at + 1)]
 }
 
 /// LIST: a lent list.
