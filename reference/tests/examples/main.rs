@@ -1,4 +1,4 @@
-//! 01's examples, the rows of its table, orders handed in, and slips.
+//! 01's examples, the rows of its table, orders handed in, slips, and the shelf.
 
 mod common;
 mod edges;
@@ -7,4 +7,5 @@ mod orders;
 mod row_1;
 mod rows_job;
 mod rows_sheet;
+mod shelf;
 mod slips;

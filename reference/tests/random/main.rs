@@ -3,6 +3,7 @@
 mod layout;
 mod orders;
 mod sheets;
+mod shelf;
 mod values;
 
 use reference::judge::{judge, Moved, WORK};

@@ -18,26 +18,33 @@ fn seed() -> u64 {
 }
 
 /// A script, and each operation's number and answer.
-type Answered = (String, Vec<(u64, Vec<u64>)>);
+pub type Answered = (String, Vec<(u64, Vec<u64>)>);
+
+/// So many random scripts, each with its answers.
+pub fn draw(scripts: u64, script: fn(&mut Dice) -> String) -> Vec<Answered> {
+    println!("seed {}, {scripts} scripts", seed());
+    let texts = (0..scripts).map(|number| script(&mut Dice::new(mix(seed()) ^ mix(number))));
+    texts.map(|text| (text.clone(), answers(&text))).collect()
+}
 
 /// The random scripts, drawn and answered once for all tests.
 fn scripts() -> &'static [Answered] {
     static ALL: OnceLock<Vec<Answered>> = OnceLock::new();
-    ALL.get_or_init(|| {
-        println!("seed {}, {SCRIPTS} scripts", seed());
-        let draw = |number| script(&mut Dice::new(mix(seed()) ^ mix(number)));
-        let scripts = (0..SCRIPTS).map(draw);
-        scripts.map(|text| (text.clone(), answers(&text))).collect()
-    })
+    ALL.get_or_init(|| draw(SCRIPTS, script))
 }
 
-/// The operations of scripts that are whole, each with its line and its answer.
-fn operations() -> impl Iterator<Item = (&'static str, u64, &'static [u64])> {
+/// The operations of those of the scripts that are whole, each with its line
+/// and its answer.
+pub fn operations_of(scripts: &[Answered]) -> impl Iterator<Item = (&str, u64, &[u64])> {
     let whole = |(text, answers): &&Answered| text.lines().count() == answers.len();
-    scripts().iter().filter(whole).flat_map(|(text, answers)| {
+    scripts.iter().filter(whole).flat_map(|(text, answers)| {
         let lines = text.lines().zip(answers);
         lines.map(|(line, (operation, numbers))| (line, *operation, &numbers[..]))
     })
+}
+
+fn operations() -> impl Iterator<Item = (&'static str, u64, &'static [u64])> {
+    operations_of(scripts())
 }
 
 /// The rows that each operation can meet, 0 for a success.
@@ -90,9 +97,18 @@ fn every_operation_meets_each_of_its_rows() {
     }
 }
 
+/// The ways in which a job moves.
+pub const MOVED: [&str; 5] = [
+    "moved with nothing done",
+    "moved straight",
+    "moved with nothing kept",
+    "moved by search in its own order",
+    "moved by search in another order",
+];
+
 /// What became of a job that judge was asked about, with a work slice that
 /// isn't of 0s.
-fn outcome(numbers: &[u64]) -> String {
+pub fn outcome(numbers: &[u64]) -> String {
     let order = &numbers[5..5 + numbers[4] as usize];
     let searched = numbers.get(168) == Some(&0);
     match (numbers[0], searched) {
@@ -114,13 +130,7 @@ fn jobs_move_in_every_way() {
         }
     }
     println!("{counts:?}");
-    for word in [
-        "moved with nothing done",
-        "moved straight",
-        "moved with nothing kept",
-        "moved by search in its own order",
-        "moved by search in another order",
-    ] {
+    for word in MOVED {
         assert!(counts.get(word) > Some(&5), "{word}");
     }
 }
@@ -153,14 +163,14 @@ fn listings_show_every_row_to_13() {
 }
 
 /// The numbers of a script, to be taken one after the other.
-struct Words<'a>(std::str::SplitWhitespace<'a>);
+pub struct Words<'a>(std::str::SplitWhitespace<'a>);
 
 impl Words<'_> {
-    fn next(&mut self) -> u64 {
+    pub fn next(&mut self) -> u64 {
         self.0.next().unwrap().parse().unwrap()
     }
 
-    fn many(&mut self) -> Vec<u64> {
+    pub fn many(&mut self) -> Vec<u64> {
         let count = self.next();
         (0..count).map(|_| self.next()).collect()
     }
@@ -291,7 +301,7 @@ fn expected(operation: u64, words: &mut Words) -> Option<Vec<u64>> {
 }
 
 /// The words of a line after its operation's number.
-fn arguments(line: &str) -> Words<'_> {
+pub fn arguments(line: &str) -> Words<'_> {
     let mut words = Words(line.split_whitespace());
     words.next();
     words
