@@ -24,7 +24,7 @@ pub fn script(dice: &mut Dice) -> String {
     if dice.chance(90) {
         text += &loft.hand_in(Shelf::empty());
     }
-    for _ in 0..dice.from_to(10, 20) {
+    for _ in 0..dice.from_to(16, 32) {
         let turn = loft.turn(dice);
         if text.len() + turn.len() + ENDING > MOST_BYTES {
             break;

@@ -10,7 +10,7 @@ use reference::script::{answer, line};
 use std::collections::BTreeMap;
 use std::sync::OnceLock;
 
-const SCRIPTS: u64 = 500;
+const SCRIPTS: u64 = 300;
 
 /// Each row, 0 for a success, must be met so many times.
 const LEAST: usize = 10;
