@@ -4,6 +4,7 @@ use crate::drive::{compare_script, drive};
 use reference::judge::WORK;
 use reference::print::listing_of;
 use reference::random::records::Facts;
+use reference::random::script::PAST_A_LIMIT;
 use reference::record::Record;
 use reference::script::answer;
 use reference::script::numbers::MOST_BYTES;
@@ -200,6 +201,16 @@ fn a_script_past_its_limit() {
         let script = " ".repeat(before) + &fire.repeat(MOST_BYTES / fire.len() + 2);
         let answers = compare_script("limit", &script);
         assert!(answers.len() <= MOST_BYTES / fire.len() + 1);
+    }
+}
+
+/// An argument past its limit ends the script.
+#[test]
+fn arguments_past_their_limits() {
+    let fire = "1 1 10 1 2 0 1\n";
+    for begin in PAST_A_LIMIT {
+        let script = format!("{fire}{begin}{}\n{fire}", " 0".repeat(600));
+        assert_eq!(compare_script("past-limits", &script).len(), 1);
     }
 }
 

@@ -219,15 +219,11 @@ fn routes_judged_from_a_shelf() {
 /// Nine and more editions in a row, and jobs between.
 #[test]
 fn puts_in_a_row() {
-    for step in [1, 9_362, 9_363] {
+    for rise in [1, 9_362, 9_363] {
         let turn = |at: u32| {
-            let route = if at % 2 == 0 {
-                right()
-            } else {
-                chain(&[30, 20, 10])
-            };
-            let first = at.saturating_sub(1) * step;
-            put(at * step, &route) + &judge([first, at * step], &[10, 20], WORK)
+            let route = [right(), chain(&[30, 20, 10])][at as usize % 2];
+            let before = at.saturating_sub(1) * rise;
+            put(at * rise, &route) + &judge([before, at * rise], &[10, 20], WORK)
         };
         let script: String = (0..12).map(turn).collect();
         assert_eq!(compare_script("in-a-row", &script).len(), 24);
@@ -293,8 +289,8 @@ fn the_shelf_in_hand() {
     }
 }
 
-/// An operation that isn't whole ends the script, and so does an argument past
-/// its limit.
+/// An operation that isn't whole ends the script, and so does a number past
+/// every limit.
 #[test]
 fn scripts_that_are_not_whole() {
     let whole = [
@@ -312,26 +308,5 @@ fn scripts_that_are_not_whole() {
             let script = format!("{FIRE}{}\n{FIRE}", past.join(" "));
             assert_eq!(compare_script("past", &script).len(), 1);
         }
-    }
-    for wrong in [
-        "20 0 9",
-        "20 0 1 4294967296",
-        "20 0 1 1 4294967296",
-        "20 0 1 1 1 65 65",
-        "20 0 1 1 1 1 1 1 1 1 4294967296",
-        "21 4294967296",
-        "21 1 4294967296",
-        "21 1 1 65 65",
-        "22 4294967296",
-        "22 1 4294967296",
-        "22 1 2 101",
-        "22 1 2 1 4294967296",
-        "22 1 2 0 20001",
-        "22 1 2 0 8192 256",
-        "19",
-        "23",
-    ] {
-        let script = format!("{FIRE}{wrong}{}\n{FIRE}", " 0".repeat(600));
-        assert_eq!(compare_script("limits", &script).len(), 1);
     }
 }

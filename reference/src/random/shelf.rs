@@ -162,7 +162,7 @@ impl Loft {
 
     fn put(&mut self, dice: &mut Dice) -> String {
         let last = self.stored().last().map_or(0, |edition| edition.number);
-        let number = if dice.chance(85) {
+        let number = if dice.chance(80) {
             last.saturating_add(rise(dice))
         } else {
             other_number(last, dice)

@@ -64,7 +64,7 @@ impl Shelf {
     }
 
     fn shown(&self) -> Numbers {
-        let blank = vec![0, 0, 0, 320, 320, 0].repeat(8 - self.editions.len());
+        let blank = [0, 0, 0, 320, 320, 0].repeat(8 - self.editions.len());
         let entries: Vec<Numbers> = self.editions.iter().map(Edition::shown).collect();
         [vec![self.len], entries.concat(), blank].concat()
     }

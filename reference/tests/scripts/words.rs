@@ -1,5 +1,6 @@
 //! The words of a script: where a run ends, and what stands between numbers.
 
+use reference::random::script::PAST_A_LIMIT;
 use reference::script::answer;
 
 const FIRE: &str = "1 1 10 1 2 0 1";
@@ -28,39 +29,7 @@ fn a_script_with_another_byte() {
 
 #[test]
 fn an_argument_past_its_limit() {
-    for wrong in [
-        "0",
-        "11",
-        "17",
-        "19",
-        "1 18446744073709551616 10 1 2 0 1",
-        "1 1 4294967296 1 2 0 1",
-        "1 1 10 1 2 0 4294967296",
-        "7 20001",
-        "7 1 256",
-        "12 4 101",
-        "12 4 0 4 0 101",
-        "2 4 65 65",
-        "8 4 0 0 4 0 0 0 20001 0",
-        "8 4 0 0 4 0 0 0 0 256",
-        "16 0 101 0 0",
-        "20 18446744073709551616",
-        "20 0 9",
-        "20 0 1 4294967296",
-        "20 0 1 1 4294967296",
-        "20 0 1 1 1 18446744073709551616",
-        "20 0 1 1 1 0 65",
-        "21 4294967296",
-        "21 1 4294967296",
-        "21 1 1 65 65",
-        "22 4294967296",
-        "22 1 4294967296",
-        "22 1 2 101",
-        "22 1 2 1 4294967296",
-        "22 1 2 0 20001",
-        "22 1 2 0 8192 256",
-        "23",
-    ] {
+    for wrong in PAST_A_LIMIT {
         let script = format!("{FIRE}\n{wrong} {}\n{FIRE}", "0 ".repeat(600));
         assert_eq!(answer(&script), "0 0 2\n", "{wrong}");
     }
