@@ -1,14 +1,14 @@
 //! Scripts and the second program's answers to them.
 
-use crate::chosen;
 use crate::edit::root;
+use crate::{chosen, chosen_shelves};
 use reference::random::dice::{mix, Dice};
-use reference::random::script;
+use reference::random::{script, shelf};
 use reference::script::numbers::MOST_BYTES;
 use reference::script::{answers, line};
 use std::{fs, iter};
 
-/// So many scripts, each as long as drive takes.
+/// So many scripts, each as long as drive takes; one of shelves is added.
 const SCRIPTS: u64 = 5;
 
 /// A script, and each operation's number with the line of its answer.
@@ -48,21 +48,22 @@ impl Script {
 /// The first has drive's own script and the chosen operations before its random ones.
 pub fn all() -> Vec<Script> {
     let own = fs::read_to_string(root().join("crates/drive/stdin")).expect("no script of drive's");
-    let begins = [own + &chosen::script()].into_iter();
+    let begins = [own + &chosen::script() + &chosen_shelves::script()].into_iter();
     let begins = begins.chain(iter::repeat(String::new()));
-    begins
-        .zip(0..SCRIPTS)
-        .map(|(begin, number)| Script::of(long(begin, &mut Dice::new(mix(number)))))
-        .collect()
+    let texts = begins.zip(0..SCRIPTS);
+    let texts = texts.map(|(begin, number)| long(begin, script, number));
+    let shelves = long(String::new(), shelf::script, SCRIPTS);
+    texts.chain([shelves]).map(Script::of).collect()
 }
 
 /// An operation, to see whether the script before it ends with a whole one.
 const FIRE: &str = "1 1 10 1 2 0 1\n";
 
 /// Random scripts after this one, none of which ends in the middle of an operation.
-fn long(mut text: String, dice: &mut Dice) -> String {
+fn long(mut text: String, script: fn(&mut Dice) -> String, number: u64) -> String {
+    let mut dice = Dice::new(mix(number));
     loop {
-        let next = script(dice) + "\n";
+        let next = script(&mut dice) + "\n";
         if text.len() + next.len() > MOST_BYTES {
             return text;
         }
