@@ -4,12 +4,8 @@
 use crate::drive::compare_script;
 use reference::judge::WORK;
 use reference::record::{Record, RouteByValue};
-use reference::script::writing::{self, fill, names, operation};
+use reference::script::writing::{fill, hand_in, judge_editions, put};
 use reference::shelf::{Edition, Shelf, MOST_EDITIONS};
-
-const HAND_IN: u64 = 20;
-const PUT: u64 = 21;
-const JUDGE: u64 = 22;
 
 const FIRE: &str = "1 1 10 1 2 0 1\n";
 
@@ -109,17 +105,8 @@ fn shelves() -> Vec<Shelf> {
     all
 }
 
-fn hand_in(shelf: &Shelf) -> String {
-    operation(HAND_IN, &[writing::shelf(shelf)])
-}
-
-fn put(number: u32, route: &RouteByValue) -> String {
-    operation(PUT, &[number.to_string(), writing::route(route)])
-}
-
-fn judge([edition, target]: [u32; 2], done: &[u32], work: usize) -> String {
-    let pair = format!("{edition} {target}");
-    operation(JUDGE, &[pair, names(done), fill(work, 9)])
+fn judge(pair: [u32; 2], done: &[u32], work: usize) -> String {
+    judge_editions(pair, done, fill(work, 9))
 }
 
 /// Compares so many of these operations at a time, each after the shelf.

@@ -12,11 +12,6 @@ use crate::script::writing;
 use crate::sheet::{Route, Sheet};
 use crate::shelf::{Edition, Shelf, MOST_EDITIONS};
 
-/// The operations on shelves.
-const HAND_IN: u64 = 20;
-const PUT: u64 = 21;
-const JUDGE: u64 = 22;
-
 /// A random script. Most begin by handing in the empty shelf.
 pub fn script(dice: &mut Dice) -> String {
     let mut loft = Loft::new(dice);
@@ -102,7 +97,7 @@ impl Loft {
 
     fn hand_in(&mut self, shelf: Shelf) -> String {
         self.shelf = shelf;
-        writing::operation(HAND_IN, &[writing::shelf(&self.shelf)])
+        writing::hand_in(&self.shelf)
     }
 
     fn fresh_shelf(&mut self, dice: &mut Dice) -> String {
@@ -168,9 +163,8 @@ impl Loft {
             other_number(last, dice)
         };
         let route = self.route(25, dice);
-        let arguments = [number.to_string(), writing::route(&route)];
         let _ = self.shelf.put(number, &route);
-        writing::operation(PUT, &arguments)
+        writing::put(number, &route)
     }
 
     fn judges(&mut self, dice: &mut Dice) -> String {
@@ -180,13 +174,7 @@ impl Loft {
     fn judge(&self, dice: &mut Dice) -> String {
         let [edition, target] = self.pair(dice);
         let done = self.done(edition, dice);
-        let arguments = [
-            edition.to_string(),
-            target.to_string(),
-            writing::names(&done),
-            script::work(dice),
-        ];
-        writing::operation(JUDGE, &arguments)
+        writing::judge_editions([edition, target], &done, script::work(dice))
     }
 
     /// An edition and a target: most often stored, and the target later.

@@ -72,3 +72,18 @@ pub fn bytes(bytes: &[u8]) -> String {
 pub fn fill(length: usize, byte: u8) -> String {
     format!("{length} {byte}")
 }
+
+/// Operation 20: a shelf is handed in.
+pub fn hand_in(in_hand: &Shelf) -> String {
+    operation(20, &[shelf(in_hand)])
+}
+
+/// Operation 21: an edition is put on the shelf in hand.
+pub fn put(number: u32, of: &RouteByValue) -> String {
+    operation(21, &[number.to_string(), route(of)])
+}
+
+/// Operation 22: a job of an edition is judged against a target.
+pub fn judge_editions([edition, target]: [u32; 2], done: &[u32], work: String) -> String {
+    operation(22, &[words([edition, target]), names(done), work])
+}

@@ -3,12 +3,8 @@
 
 use reference::judge::WORK;
 use reference::record::{Record, RouteByValue};
-use reference::script::writing::{self, fill, names, operation};
+use reference::script::writing::{fill, hand_in, judge_editions, put};
 use reference::shelf::{Edition, Shelf};
-
-const HAND_IN: u64 = 20;
-const PUT: u64 = 21;
-const JUDGE: u64 = 22;
 
 const FULL: [u32; 8] = [1, 2, 3, 4, 5, 6, 7, 8];
 
@@ -50,17 +46,8 @@ fn shelf(numbers: &[u32]) -> Shelf {
     shelf
 }
 
-fn hand_in(shelf: &Shelf) -> String {
-    operation(HAND_IN, &[writing::shelf(shelf)])
-}
-
-fn put(number: u32, route: &RouteByValue) -> String {
-    operation(PUT, &[number.to_string(), writing::route(route)])
-}
-
 fn judge(edition: u32, target: u32, work: usize) -> String {
-    let pair = format!("{edition} {target}");
-    operation(JUDGE, &[pair, names(&[10, 20]), fill(work, 7)])
+    judge_editions([edition, target], &[10, 20], fill(work, 7))
 }
 
 /// Every operation of this file, as one script.
