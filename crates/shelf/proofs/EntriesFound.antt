@@ -16,7 +16,7 @@ use Rattle.lookup.specs.declared.Found.the-variants.{At, Nothing}
 use Rattle.lookup.proofs.Position.{position-below}
 use Rattle.route.specs.declared.Route.{Route}
 use Rattle.job.specs.Job.{jobOf}
-use Rattle.shelf.specs.Shelf.{noEdition, editionsOf, numbersIn, rise, goodShelf, routeOf}
+use Rattle.shelf.specs.Shelf.{noEdition, editionsOf, numbersIn, rise, routeOf}
 use Rattle.shelf.specs.Judge.{jobOfRoutes, jobBetween}
 use Rattle.shelf.specs.declared.Edition.{Edition}
 use Rattle.shelf.specs.declared.Shelf.{Shelf}

@@ -1,5 +1,5 @@
 -- The operation judge between two editions: "The answer equals that of a sheet with these two routes."
-use mathlib.Core.Bool.{Bool, true, false, cond}
+use mathlib.Core.Bool.{cond}
 use mathlib.Core.List.{List}
 use mathlib.Core.Option.{Option, none, some}
 use Prim.Native.Nat.{ℕ}

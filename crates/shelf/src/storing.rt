@@ -70,13 +70,13 @@ fn with_edition(s: Shelf, number: u32, route: Route) -> Shelf
 pub fn put(s: Shelf, number: u32, route: Route) -> Stored
     ensures { λ r. ⌜ r ≡ stored s number route ⌝ }
 {
-    let o = check_number(s, number);
-    if !o.passed() {
-        return handed(o, s);
+    let first = check_number(s, number);
+    if !first.passed() {
+        return handed(first, s);
     }
-    let o = check_edition(route);
-    if !o.passed() {
-        return handed(o, s);
+    let then = check_edition(route);
+    if !then.passed() {
+        return handed(then, s);
     }
-    handed(o, with_edition(s, number, route))
+    handed(then, with_edition(s, number, route))
 }

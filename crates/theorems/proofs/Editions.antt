@@ -1,24 +1,21 @@
 -- The shelf of editions: what put leaves on it, and that judge between two editions is judge for their routes. A good
 -- shelf's numbers rise, so each edition is the first of its number.
-use mathlib.Core.Path.{_≡_, refl, sym, ap, ap₂, _∙_}
+use mathlib.Core.Path.{_≡_, refl, sym, ap, ap₂, subst, _∙_}
 use mathlib.Core.Bool.{Bool, true, false, cond, _&&_}
-use mathlib.Core.List.{List, [], _∷_, _++_, map}
-use mathlib.Core.Option.{Option, none, some}
-use Prim.Native.Nat.{ℕ, zero, suc, _+_, _-_, _≤_, _<_}
+use mathlib.Core.List.{List, [], _∷_, _++_}
+use mathlib.Core.Option.{some}
+use Prim.Native.Nat.{ℕ, zero, suc, _+_, _-_, _<_}
 use native.Mathlib.Omega.{arith}
 use native.Mathlib.Numerals.{add-one}
-use borrow.Author.Tests.{eq-eqb, ne-eqb, eqb-true, le-leb, lt-ltb, ltb-true}
-use lib.Dec.{eqb, ltb, leb}
-use lib.ListN.{length, take, drop, getD, set, length-append}
-use lib.Seq.{take-suc-set, take-append-seam}
-use Rattle.mask.proofs.Truth.{both, cond-yes, cond-no}
-use Rattle.refusal.specs.Rows.{pass, first}
-use Rattle.refusal.specs.declared.Outcome.{Outcome}
-use Rattle.refusal.proofs.Rows.{cond-zero, cond-zero-elim, rows-passed}
-use Rattle.route.specs.Steps.{stepsOf}
+use borrow.Author.Tests.{eq-eqb, ne-eqb, le-leb, ltb-true}
+use lib.Dec.{eqb, leb}
+use lib.ListN.{length, take, drop, getD, set, replicate, length-set, length-append}
+use lib.Seq.{take-suc-set, drop-set-lt, drop-drop, getD-append-seam}
+use Rattle.mask.proofs.Truth.{both, either, cond-yes, cond-no}
+use Rattle.refusal.specs.Rows.{pass}
+use Rattle.refusal.proofs.Rows.{cond-zero-elim, rows-passed}
 use Rattle.route.specs.declared.Route.{Route}
-use Rattle.job.specs.Alone.{aloneRows}
-use Rattle.shelf.specs.Shelf.{noEdition, editionsOf, numbersIn, lastOf, numberFits, rise, goodShelf, routeOf}
+use Rattle.shelf.specs.Shelf.{noEdition, noShelf, editionsOf, numbersIn, lastOf, numberFits, rise, goodShelf, routeOf}
 use Rattle.shelf.specs.Put.{shelfRows, putRow, withEdition, handed, stored}
 use Rattle.shelf.specs.declared.Edition.{Edition}
 use Rattle.shelf.specs.declared.Shelf.{Shelf}
@@ -73,6 +70,14 @@ found-first (e ∷ l) last (suc i) up h =
     sym (cond-no _ _ refl (ne-eqb (e .number) _ (λ p. omega (arith, p, above))))
     ∙ found-first l (e .number) i rest inside
 
+found-last : (l : List Edition) (e : Edition) → rise 0 (numbersIn (l ++ (e ∷ []))) ≡ true
+    → routeOf (e .number) (l ++ (e ∷ [])) ≡ some (e .route)
+found-last l e up =
+    let at : getD (l ++ (e ∷ [])) (length l) noEdition ≡ e = getD-append-seam l e [] noEdition in
+    ap (λ (x : Edition). routeOf (x .number) (l ++ (e ∷ []))) (sym at)
+    ∙ found-first (l ++ (e ∷ [])) 0 (length l) up (omega (arith, length-append l (e ∷ [])))
+    ∙ ap (λ (x : Edition). some (x .route)) at
+
 found-still : (l k : List Edition) (n : ℕ) (r : Route) → routeOf n l ≡ some r → routeOf n (l ++ k) ≡ some r
 unfolding routeOf
 found-still [] k n r e = cc
@@ -112,6 +117,26 @@ module _ (s : Shelf) (n : ℕ) (r : Route) (eight : Eight s) (room : s .len < 8)
   unfolding goodShelf
   good-more good fits = ap₂ (λ (t u : Bool). t && u) few-more (rises-more (both (leb (s .len) 8) _ good .1) fits)
 
+drop-one : {A : Type 0} (k : ℕ) (x : A) → drop 1 (replicate k x) ≡ replicate (k - 1) x
+drop-one zero x = refl
+drop-one (suc k) x = let one : k ≡ suc k - 1 = omega arith in ap (λ (m : ℕ). replicate m x) one
+
+blank-more : (s : Shelf) (n : ℕ) (r : Route) → UnusedBlank s → UnusedBlank (withEdition s n r)
+unfolding withEdition
+blank-more s n r blank =
+    let less : 8 - s .len - 1 ≡ 8 - (s .len + 1) = omega arith in
+    drop-set-lt (s .len + 1) (s .editions) (s .len) _ (omega arith)
+    ∙ sym (drop-drop 1 (s .len) (s .editions))
+    ∙ ap (drop 1) blank
+    ∙ drop-one (8 - s .len) noEdition
+    ∙ ap (λ (m : ℕ). replicate m noEdition) less
+
+-- ---- the empty shelf
+
+pub empty-good : (goodShelf noShelf ≡ true) × (Eight noShelf × UnusedBlank noShelf)
+unfolding goodShelf numbersIn rise
+empty-good = (refl, (refl, refl))
+
 -- ---- what put leaves
 
 module _ (s : Shelf) (n : ℕ) (r : Route) where
@@ -132,8 +157,23 @@ module _ (s : Shelf) (n : ℕ) (r : Route) where
       pub put-adds : editionsOf (stored s n r .shelf) ≡ editionsOf s ++ (record { number = n; route = r } ∷ [])
       put-adds = ap editionsOf shelf-is ∙ editions-more s n r eight (passes .1 .1)
 
-      pub put-good : goodShelf (stored s n r .shelf) ≡ true
-      put-good = ap goodShelf shelf-is ∙ good-more s n r eight (passes .1 .1) (passes .0) (passes .1 .0)
+      good-after : goodShelf (stored s n r .shelf) ≡ true
+      good-after = ap goodShelf shelf-is ∙ good-more s n r eight (passes .1 .1) (passes .0) (passes .1 .0)
+
+      rises-after : rise 0 (numbersIn (editionsOf (stored s n r .shelf))) ≡ true
+      unfolding goodShelf
+      rises-after = both (leb (stored s n r .shelf .len) 8) _ good-after .1
+
+      -- the new one is found by its number, and every other as before
+      pub put-finds : routeOf n (editionsOf (stored s n r .shelf)) ≡ some r
+      put-finds =
+          ap (routeOf n) put-adds
+          ∙ found-last (editionsOf s) (record { number = n; route = r })
+          (ap (λ (l : List Edition). rise 0 (numbersIn l)) (sym put-adds) ∙ rises-after)
+
+      pub put-keeps : (m : ℕ) (q : Route) → routeOf m (editionsOf s) ≡ some q
+          → routeOf m (editionsOf (stored s n r .shelf)) ≡ some q
+      put-keeps m q e = ap (routeOf m) put-adds ∙ found-still (editionsOf s) _ m q e
 
   pub put-refuses : (stored s n r .number ≡ 0 → ⊥) → stored s n r .shelf ≡ s
   unfolding stored
@@ -144,3 +184,27 @@ module _ (s : Shelf) (n : ℕ) (r : Route) where
           → cond t (handed pass (withEdition s n r)) (handed (putRow s n r) s) .shelf ≡ s
       go true e f = absurd (f refl)
       go false e f = refl
+
+  -- a good shelf stays good, and its unused entries stay 0
+  pub put-good : Eight s → goodShelf s ≡ true → goodShelf (stored s n r .shelf) ≡ true
+  put-good eight good =
+      either (stored s n r .number) 0 (λ e. good-after e eight) (λ f. ap goodShelf (put-refuses f) ∙ good)
+
+  pub put-eight : Eight s → Eight (stored s n r .shelf)
+  unfolding withEdition
+  put-eight eight =
+      either (stored s n r .number) 0
+      (λ e. ap (λ (x : Shelf). length (x .editions)) (shelf-is e) ∙ length-set (s .editions) (s .len) _ ∙ eight)
+      (λ f. ap (λ (x : Shelf). length (x .editions)) (put-refuses f) ∙ eight)
+
+  pub put-blank : UnusedBlank s → UnusedBlank (stored s n r .shelf)
+  put-blank blank =
+      either (stored s n r .number) 0
+      (λ e. subst UnusedBlank (sym (shelf-is e)) (blank-more s n r blank))
+      (λ f. subst UnusedBlank (sym (put-refuses f)) blank)
+
+-- each edition of a good shelf is found by its number
+pub edition-found : (s : Shelf) → goodShelf s ≡ true → (i : ℕ) → i < length (editionsOf s)
+    → routeOf (getD (editionsOf s) i noEdition .number) (editionsOf s) ≡ some (getD (editionsOf s) i noEdition .route)
+unfolding goodShelf
+edition-found s good i h = found-first (editionsOf s) 0 i (both (leb (s .len) 8) _ good .1) h

@@ -29,4 +29,5 @@ pub mod Shown
 pub mod Printed
 pub mod RoundTrip
 pub mod Editions
+pub mod EditionsJudged
 pub mod Main

@@ -1,17 +1,18 @@
 -- The whole promise on one page, in 01's order: the sheet, its bytes both ways, slice and precedence, fit orders, what
--- judge gives and its listing shows, and demand 3. Each is proved in the file that its name is cited from. Code meets
+-- judge gives and its listing shows, the shelf of 02, and demand 3. Each is proved in the file that its name is cited from. Code meets
 -- it through the contracts, which are equalities with the definitions that these theorems speak of.
 use mathlib.Core.Path.{_≡_}
 use mathlib.Core.Logic.{_↔_}
 use mathlib.Core.Bool.{true, false}
 use mathlib.Core.List.{List, _++_, map}
 use mathlib.Core.Option.{some}
-use Prim.Native.Nat.{ℕ, _≤_}
+use Prim.Native.Nat.{ℕ, _≤_, _<_}
 use lib.ListN.{length, getD, drop}
 use Rattle.mask.specs.Mask.{has}
-use Rattle.route.specs.Steps.{blank}
+use Rattle.route.specs.Steps.{blank, stepsOf}
+use Rattle.route.specs.declared.Route.{Route}
 use Rattle.route.specs.declared.Step.{Step}
-use Rattle.job.specs.Job.{Job, jobLine, newStart}
+use Rattle.job.specs.Job.{Job, jobOf, jobLine, newStart}
 use Rattle.slice.specs.Slice.{Kept, keptMask}
 use Rattle.precedence.specs.Precedence.{comesAfter, row}
 use Rattle.precedence.specs.Order.{inTurn, EachOnce, inOrder}
@@ -21,7 +22,12 @@ use Rattle.slice.proofs.Sweep.{silent-not-kept}
 use Rattle.matching.specs.Straight.{fireAll, stepsOn}
 use Rattle.matching.specs.KeptRows.{keptRows}
 use Rattle.trying.specs.Try.{tried}
-use Rattle.judging.specs.Judge.{judged}
+use Rattle.judging.specs.Judge.{judged, workAfter}
+use Rattle.answering.specs.Answer.{judgeStopped}
+use Rattle.shelf.specs.Shelf.{noEdition, noShelf, editionsOf, goodShelf, routeOf}
+use Rattle.shelf.specs.Put.{stored}
+use Rattle.shelf.specs.Judge.{judgedBetween, workBetween}
+use Rattle.shelf.specs.declared.Shelf.{Shelf}
 use Rattle.version.specs.Limits.{scope}
 use Rattle.version.proofs.Limits.{scope-limits}
 use Rattle.layout.specs.Text.{jobText}
@@ -37,6 +43,7 @@ use Rattle.writer.specs.Writes.{wrote}
 use Rattle.writer.proofs.RoundTrips.{write-reads}
 use Rattle.writer.proofs.Bound.{bounded}
 use Rattle.writer.proofs.Longest.{longest-reads}
+use Rattle.listing.specs.Listing.{listing}
 use Rattle.ops.specs.Print.{sheetAnswer, listingOf, printed, outPrinted}
 use Rattle.ops.specs.SheetTry.{triedSheet}
 use Rattle.examples.specs.Table.{AllPrint, table}
@@ -47,6 +54,7 @@ use Rattle.theorems.specs.Given.{Given}
 use Rattle.theorems.specs.Sheets.{jobOn, SheetRuns, Movable, Moved, Refused}
 use Rattle.theorems.specs.Shows.{Shows}
 use Rattle.theorems.specs.RoundTrip.{bytesWritten, WritesBytes, countsRead, jobInto, ReadsInto}
+use Rattle.theorems.specs.Editions.{Eight, UnusedBlank, Later}
 use Rattle.theorems.proofs.KeptValues.{kept-values}
 use Rattle.theorems.proofs.Accepts.{try-fit, try-second, try-marking}
 use Rattle.theorems.proofs.Judge.{judge-moves, judge-second, judge-given, judge-marking, judge-refuses}
@@ -56,6 +64,9 @@ use Rattle.theorems.proofs.Printed.{print-answer, print-leaves, print-m
 use Rattle.theorems.proofs.Printed.{try-sheet}
 use Rattle.ops.proofs.ListingLength.{listing-length}
 use Rattle.theorems.proofs.RoundTrip.{read-then-write, write-then-read-lent, read-lent, read-then-write-lent}
+use Rattle.theorems.proofs.Editions.{empty-good, put-good, put-eight, put-blank, put-finds, put-keeps}
+use Rattle.theorems.proofs.Editions.{edition-found, put-refuses}
+use Rattle.theorems.proofs.EditionsJudged.{shelf-judges, shelf-works, shelf-prints, shelf-nineteen}
 use Rattle.theorems.proofs.Demand3.{demand3}
 
 -- ---- "1: layout broken": "offset of the first byte where no sheet begins so, or the length if it ends early"
@@ -221,6 +232,65 @@ print-refuses-where-none-fits = print-refuses
 pub print-shows-the-facts : (s out : List ℕ) (work : ℕ) → 8192 ≤ work → length (listingOf s) ≤ length out
     → Moved (outPrinted s work out) → Shows (jobOn s) (sheetAnswer s)
 print-shows-the-facts = print-shows
+
+-- ---- 02, "Shelf of editions": "The shelf holds up to 8 editions of a route with rising numbers from 1 to 65,535."
+
+-- the empty shelf is good, and put keeps a good shelf good, with its eight entries, those not used 0
+pub empty-shelf-is-good : (goodShelf noShelf ≡ true) × (Eight noShelf × UnusedBlank noShelf)
+empty-shelf-is-good = empty-good
+
+pub put-keeps-a-shelf-good : (s : Shelf) (n : ℕ) (r : Route) → Eight s → goodShelf s ≡ true
+    → goodShelf (stored s n r .shelf) ≡ true
+put-keeps-a-shelf-good = put-good
+
+pub put-keeps-its-entries : (s : Shelf) (n : ℕ) (r : Route) → Eight s → Eight (stored s n r .shelf)
+put-keeps-its-entries = put-eight
+
+pub put-keeps-the-unused-0 : (s : Shelf) (n : ℕ) (r : Route) → UnusedBlank s → UnusedBlank (stored s n r .shelf)
+put-keeps-the-unused-0 = put-blank
+
+-- an edition that is stored is found by its number with its route, and those that were there are found as before
+pub put-stores-the-edition : (s : Shelf) (n : ℕ) (r : Route) → stored s n r .number ≡ 0 → Eight s
+    → routeOf n (editionsOf (stored s n r .shelf)) ≡ some r
+put-stores-the-edition = put-finds
+
+pub put-keeps-the-others : (s : Shelf) (n : ℕ) (r : Route) → stored s n r .number ≡ 0 → Eight s
+    → (m : ℕ) (q : Route) → routeOf m (editionsOf s) ≡ some q → routeOf m (editionsOf (stored s n r .shelf)) ≡ some q
+put-keeps-the-others = put-keeps
+
+pub stored-editions-are-found : (s : Shelf) → goodShelf s ≡ true → (i : ℕ) → i < length (editionsOf s)
+    → routeOf (getD (editionsOf s) i noEdition .number) (editionsOf s) ≡ some (getD (editionsOf s) i noEdition .route)
+stored-editions-are-found = edition-found
+
+-- "a refusal hands any state back as it came"
+pub refused-put-changes-nothing : (s : Shelf) (n : ℕ) (r : Route) → (stored s n r .number ≡ 0 → ⊥)
+    → stored s n r .shelf ≡ s
+refused-put-changes-nothing = put-refuses
+
+-- "A job names its edition and may be judged against any later one on the shelf. The answer equals that of a sheet with
+-- these two routes."
+pub shelf-judges-the-two-routes : (s : Shelf) (edition target : ℕ) (old new : Route)
+    → Later s edition target old new → (done : List ℕ) (room : ℕ)
+    → judgedBetween s edition target done room ≡ judged (jobOf old new done) room
+shelf-judges-the-two-routes = shelf-judges
+
+pub shelf-leaves-the-work-slice-alike : (s : Shelf) (edition target : ℕ) (old new : Route)
+    → Later s edition target old new → (done work : List ℕ)
+    → workBetween s edition target done work ≡ workAfter (jobOf old new done) work
+shelf-leaves-the-work-slice-alike = shelf-works
+
+-- (where the records can be written, and their masks have the widths that they have in the code)
+pub shelf-judges-as-the-sheet-prints : (s : Shelf) (edition target : ℕ) (old new : Route)
+    → Later s edition target old new → (done : List ℕ) → AllWide (stepsOf old) → AllWide (stepsOf new)
+    → (room : ℕ) → 8192 ≤ room → (out : List ℕ) → wrote (jobOf old new done) (length out) .number ≡ 0
+    → listing (judgedBetween s edition target done room) ≡ listingOf (bytesWritten (jobOf old new done) out)
+shelf-judges-as-the-sheet-prints = shelf-prints
+
+-- "19, edition not on the shelf or the target not later"
+pub shelf-refuses-other-pairs : (s : Shelf) (edition target : ℕ) (done : List ℕ) (room : ℕ) → goodShelf s ≡ true
+    → 8192 ≤ room → ((old new : Route) → Later s edition target old new → ⊥)
+    → judgedBetween s edition target done room ≡ judgeStopped 19 0
+shelf-refuses-other-pairs = shelf-nineteen
 
 -- ---- "To be proved": examples A to L, from bytes to bytes
 

@@ -6,20 +6,11 @@ use Rattle.shelf.proofs.JudgeBetween.{between-judged, between-judged-wo
 use Rattle.shelf.proofs.between.judge.Statement.{statement}
 use Rattle.shelf.proofs.between.judge.Tie as tie
 
+-- both entries are within the array
+ruleset inside = (needs, entry-fits, edition-inside, target-inside)
+
 returns : tie.Need-returns
 returns c = (search (needs, between-short), search (needs, between-short-work))
-
-mul-a : tie.Need-mul-a
-mul-a c = search (needs, entry-fits, edition-inside)
-
-element-copy-out-a : tie.Need-element-copy-out-a
-element-copy-out-a c = search (needs, edition-inside)
-
-mul-b : tie.Need-mul-b
-mul-b c = search (needs, entry-fits, target-inside)
-
-element-copy-out-b : tie.Need-element-copy-out-b
-element-copy-out-b c = search (needs, target-inside)
 
 returns-2 : tie.Need-returns-2
 returns-2 c = (search (needs, between-bad), search (needs, between-bad-work))
@@ -32,5 +23,6 @@ returns-4 c = (search (needs, between-judged), search (needs, between-judged-wor
 
 pub judge-spec : {M : Type 1} → statement M
 judge-spec = tie.close (tie.spec (λ c κs. search needs) returns (λ c κs. search needs) (λ c. search needs)
-    (λ c κs. search needs) (λ c. search needs) (λ c κs. search needs) (λ c. search needs) mul-a element-copy-out-a mul-b
-    element-copy-out-b (λ c κs. search needs) returns-2 returns-3 (λ c. search needs) returns-4)
+    (λ c κs. search needs) (λ c. search needs) (λ c κs. search needs) (λ c. search needs)
+    (λ c. search inside) (λ c. search inside) (λ c. search inside) (λ c. search inside) (λ c κs. search needs)
+    returns-2 returns-3 (λ c. search needs) returns-4)
