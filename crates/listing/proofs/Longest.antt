@@ -257,7 +257,7 @@ module _ (a : Judged) (few : count 64 (a .kept) ≤ 16) (full : length (a .order
       )))
       (λ e. omega (arith, refused-long a))
 
-stopped-short : (n k : ℕ) → length (listing (judgeStopped n k)) ≤ 7053
+pub stopped-short : (n k : ℕ) → length (listing (judgeStopped n k)) ≤ 7053
 stopped-short n k = few-kept (judgeStopped n k) (omega (arith, count-none 64)) (length-replicate {A = ℕ} 64 0)
 
 -- ---- judge

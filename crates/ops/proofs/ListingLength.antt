@@ -12,22 +12,18 @@ use Rattle.judging.specs.Judge.{judged}
 use Rattle.answering.specs.Answer.{judgeStopped}
 use Rattle.answering.specs.declared.Judged.{Judged}
 use Rattle.listing.specs.Listing.{listing}
-use Rattle.listing.proofs.AnyRecord.{refused-long}
-use Rattle.listing.proofs.Longest.{longest}
+use Rattle.listing.proofs.Longest.{longest, stopped-short}
 use Rattle.ops.specs.Print.{sheetAnswer, listingOf}
 
 pub listing-length : (s : List ℕ) → length (listingOf s) ≤ 7053
-unfolding listingOf sheetAnswer listing
+unfolding listingOf sheetAnswer
 listing-length s = go (eqb (readOf s .number) 0) refl
   where
-    stopped : (n k : ℕ) → eqb n 0 ≡ false → length (listing (judgeStopped n k)) ≤ 7053
-    stopped n k e = rw e (omega (arith, refused-long (judgeStopped n k)))
-
     go : (t : Bool) → eqb (readOf s .number) 0 ≡ t
         → length (listing (cond t (judged (jobRead (readOf s)) 8192)
         (judgeStopped (readOf s .number) (readOf s .second)))) ≤ 7053
     go true e = longest (jobRead (readOf s)) 8192
-    go false e = stopped (readOf s .number) (readOf s .second) e
+    go false e = stopped-short (readOf s .number) (readOf s .second)
 
 pub answer-length : (s : List ℕ) (a : Judged) → a ≡ sheetAnswer s → length (listing a) ≤ 7053
 unfolding listingOf

@@ -1,0 +1,2 @@
+-- That a listing from the shelf has room.
+pub mod ListingLength
