@@ -3,10 +3,7 @@ use mathlib.Core.Path.{_≡_, refl, sym, ap, subst, _∙_}
 use mathlib.Core.Bool.{Bool, true, false, cond}
 use mathlib.Core.List.{List}
 use mathlib.Core.Option.{Option, none, some}
-use Prim.Native.Nat.{ℕ, _*_, _≤_, _<_}
-use native.Mathlib.Omega.{arith}
-use mir.Syntax.{w64}
-use mir.Val.{Fits}
+use Prim.Native.Nat.{ℕ, _≤_, _<_}
 use borrow.Author.Tests.{le-leb, lt-leb}
 use lib.ListN.{length, getD}
 use Rattle.mask.proofs.Truth.{cond-yes, cond-no}
@@ -22,10 +19,6 @@ use Rattle.shelf.specs.declared.Edition.{Edition}
 use Rattle.shelf.specs.declared.Entries.{Entries}
 use Rattle.shelf.specs.declared.Entries.the-variants.{At, Nothing, Bad}
 use Rattle.shelf.specs.declared.Shelf.{Shelf}
-
--- an entry's offset in the array
-pub entry-fits : (i : ℕ) → i < 8 → Fits w64 (i * 2072)
-entry-fits i h = omega arith
 
 -- ---- the answers
 

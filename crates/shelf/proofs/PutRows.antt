@@ -1,6 +1,6 @@
 -- The rows of put in turn: the shelf, the number, room for one more, the route.
-use mathlib.Core.Path.{_≡_, refl, sym, ap, ap₂, _∙_}
-use mathlib.Core.Bool.{Bool, true, false, not, _&&_}
+use mathlib.Core.Path.{_≡_, refl, sym, ap, _∙_}
+use mathlib.Core.Bool.{Bool, true, false, not, cond, _&&_}
 use mathlib.Core.List.{List, []}
 use Prim.Native.Nat.{ℕ, _≤_, _<_}
 use borrow.Author.Tests.{not-true, not-false, ltb-true, lt-ltb, le-ltb}
@@ -8,15 +8,15 @@ use lib.Dec.{eqb, leb}
 use lib.ListN.{length, take}
 use Rattle.refusal.specs.Rows.{pass, refuse, first}
 use Rattle.refusal.specs.declared.Outcome.{Outcome}
-use Rattle.refusal.proofs.Rows.{row-passes, row-refuses, rows-end, rows-pass, rows-refuse, row-passed, first-clean}
+use Rattle.refusal.proofs.Rows.{row-passes, row-refuses, rows-end, rows-pass, rows-refuse, row-passed}
+use Rattle.refusal.proofs.Rows.{rows-passed}
 use Rattle.route.specs.Steps.{stepsOf}
 use Rattle.route.specs.declared.Route.{Route}
 use Rattle.job.specs.Alone.{aloneRows}
-use Rattle.mask.proofs.Truth.{cond-yes, cond-no}
+use Rattle.mask.proofs.Truth.{cond-yes}
 use Rattle.shelf.specs.Shelf.{numbersIn, numberFits, rise, lastOf, lastNumber, goodShelf}
-use Rattle.shelf.specs.Put.{shelfRows, putRow, withEdition, handed, stored}
+use Rattle.shelf.specs.Put.{shelfRows, putRow, withEdition, stored}
 use Rattle.shelf.specs.declared.Shelf.{Shelf}
-use Rattle.shelf.specs.declared.Stored.{Stored}
 use Rattle.shelf.proofs.GoodShelf.{numbers-are, good-no, good-yes}
 
 -- a shelf, the numbers in its entries, and whether it is good
@@ -71,43 +71,42 @@ shelf-passes s n e =
     let (fits, last) = row-passed (numberFits (lastNumber s) n) 20 0 _ refl rest in
     (good, (fits, ltb-true (s .len) 8 (row-passed _ 21 0 [] refl last .0)))
 
--- the answer, where the first rows are those of the shelf and the number
+-- the first rows are those of the shelf and the number
 module _ (s : Shelf) (n : ℕ) (r : Route) (o : Outcome) (is : o ≡ first (shelfRows s n)) (t : Bool)
     (test : t ≡ eqb (o .number) 0) where
   rows-of : eqb (first (shelfRows s n) .number) 0 ≡ t
   rows-of = ap (λ (x : Outcome). eqb (x .number) 0) (sym is) ∙ sym test
 
-  stored-as : (p : Outcome) → putRow s n r ≡ p → eqb (p .number) 0 ≡ false → handed p s ≡ stored s n r
-  unfolding stored
-  stored-as p e off =
-      ap (λ (x : Outcome). handed x s) (sym e)
-      ∙ cond-no _ _ refl (ap (λ (x : Outcome). eqb (x .number) 0) e ∙ off)
-
-  pub put-refused : not t ≡ true → (a : Stored) → a ≡ handed o s → a ≡ stored s n r
+  pub put-stops : not t ≡ true → o ≡ putRow s n r
   unfolding putRow
-  put-refused off a e =
-      let fails = not-true t off in
-      e ∙ stored-as o (rows-refuse (shelfRows s n) _ (rows-of ∙ fails) ∙ sym is) (sym test ∙ fails)
+  put-stops off = is ∙ sym (rows-refuse (shelfRows s n) _ (rows-of ∙ not-true t off))
 
-  module _ (on : not t ≡ false) where
-    -- there is room for one more
-    pub put-room : s .len < 8
-    put-room = shelf-passes s n (rows-of ∙ not-false t on) .1 .1
+  pub put-goes-on : not t ≡ false → (p : Outcome) → p ≡ first (aloneRows (r .places) (stepsOf r)) → p ≡ putRow s n r
+  unfolding putRow
+  put-goes-on on p rows = rows ∙ sym (rows-pass (shelfRows s n) _ (rows-of ∙ not-false t on))
 
-    module _ (p : Outcome) (rows : p ≡ first (aloneRows (r .places) (stepsOf r))) (u : Bool)
-        (test′ : u ≡ eqb (p .number) 0) where
-      row-of : putRow s n r ≡ p
-      unfolding putRow
-      row-of = rows-pass (shelfRows s n) _ (rows-of ∙ not-false t on) ∙ sym rows
+-- one edition more, where the rows pass
+module _ (s : Shelf) (t : Bool) (on : t ≡ true) where
+  pub room-for : (t ≡ true → s .len < 8) → s .len < 8
+  room-for room = room on
 
-      pub edition-refused : not u ≡ true → (a : Stored) → a ≡ handed p s → a ≡ stored s n r
-      edition-refused off a e = e ∙ stored-as p row-of (sym test′ ∙ not-true u off)
+  pub one-more : (n : ℕ) (r : Route) (b : Shelf) → b ≡ withEdition s n r → b ≡ cond t (withEdition s n r) s
+  one-more n r b is = is ∙ cond-yes _ _ refl on
 
-      pub edition-stored : not u ≡ false → (b : Shelf) → b ≡ withEdition s n r → (a : Stored) → a ≡ handed p b
-          → a ≡ stored s n r
-      unfolding stored
-      edition-stored ok b more a e =
-          let passes : eqb (p .number) 0 ≡ true = sym test′ ∙ not-false u ok in
-          e
-          ∙ ap₂ handed (rows ∙ first-clean _ (ap (λ (x : Outcome). eqb (x .number) 0) (sym rows) ∙ passes)) more
-          ∙ cond-yes _ _ refl (ap (λ (x : Outcome). eqb (x .number) 0) row-of ∙ passes)
+-- the answer, where all rows are in hand
+module _ (s : Shelf) (n : ℕ) (r : Route) (o : Outcome) (is : o ≡ putRow s n r) (t : Bool)
+    (test : t ≡ eqb (o .number) 0) where
+  pub put-room : t ≡ true → s .len < 8
+  unfolding putRow
+  put-room on =
+      shelf-passes s n
+      (rows-passed (shelfRows s n) _ (ap (λ (x : Outcome). eqb (x .number) 0) (sym is) ∙ sym test ∙ on) .0) .1 .1
+
+  pub put-answers : (b : Shelf) → b ≡ cond t (withEdition s n r) s
+      → record { number = o .number; second = o .second; shelf = b } ≡ stored s n r
+  unfolding stored
+  put-answers b more =
+      let shelf-is : b ≡ cond (eqb (putRow s n r .number) 0) (withEdition s n r) s =
+      more ∙ ap (λ (x : Bool). cond x (withEdition s n r) s)
+      (test ∙ ap (λ (x : Outcome). eqb (x .number) 0) is) in
+      λ i. record { number = is i .number; second = is i .second; shelf = shelf-is i }

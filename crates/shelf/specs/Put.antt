@@ -4,7 +4,7 @@ use mathlib.Core.List.{List, [], _∷_, _++_}
 use Prim.Native.Nat.{ℕ, _+_}
 use lib.Dec.{eqb, ltb}
 use lib.ListN.{set}
-use Rattle.refusal.specs.Rows.{pass, unless, first}
+use Rattle.refusal.specs.Rows.{unless, first}
 use Rattle.refusal.specs.declared.Outcome.{Outcome}
 use Rattle.route.specs.Steps.{stepsOf}
 use Rattle.route.specs.declared.Route.{Route}
@@ -30,10 +30,11 @@ unfoldable pub withEdition : Shelf → ℕ → Route → Shelf
 withEdition s n r =
     record { len = s .len + 1; editions = set (s .editions) (s .len) (record { number = n; route = r }) }
 
-abbrev pub handed : Outcome → Shelf → Stored
-handed o s = record { number = o .number; second = o .second; shelf = s }
-
 -- "a refusal hands any state back as it came"
 unfoldable pub stored : Shelf → ℕ → Route → Stored
 stored s n r =
-    cond (eqb (putRow s n r .number) 0) (handed pass (withEdition s n r)) (handed (putRow s n r) s)
+    record {
+      number = putRow s n r .number;
+      second = putRow s n r .second;
+      shelf = cond (eqb (putRow s n r .number) 0) (withEdition s n r) s;
+    }

@@ -11,11 +11,12 @@ use job::checks::check_alone;
 use refusal::Outcome;
 use route::Route;
 ghost use mathlib.Core.Path.{_≡_};
+ghost use mathlib.Core.Bool.{true, cond};
 ghost use Prim.Native.Nat.{_<_};
 ghost use Rattle.refusal.specs.Rows.{first};
 ghost use Rattle.route.specs.Steps.{stepsOf};
 ghost use Rattle.job.specs.Alone.{aloneRows};
-ghost use Rattle.shelf.specs.Put.{shelfRows, withEdition, handed, stored};
+ghost use Rattle.shelf.specs.Put.{shelfRows, putRow, withEdition, stored};
 
 // The rows of the shelf and of the number.
 fn check_number(s: Shelf, number: u32) -> Outcome
@@ -45,38 +46,38 @@ fn check_edition(r: Route) -> Outcome
     opened.outcome
 }
 
-fn handed(o: Outcome, shelf: Shelf) -> Stored
-    ensures { λ r. ⌜ r ≡ handed o shelf ⌝ }
+// All rows of put in turn.
+fn check(s: Shelf, number: u32, route: Route) -> Outcome
+    ensures { λ r. ⌜ r ≡ putRow s number route ⌝ }
 {
-    Stored {
-        number: o.number,
-        second: o.second,
-        shelf,
+    let o = check_number(s, number);
+    if !o.passed() {
+        return o;
     }
+    check_edition(route)
 }
 
-// One edition more, where there is room.
-fn with_edition(s: Shelf, number: u32, route: Route) -> Shelf
-    requires { ⌜ s .len < 8 ⌝ }
-    ensures { λ r. ⌜ r ≡ withEdition s number route ⌝ }
+// One edition more, where the rows pass: so the shelf is copied once.
+fn with_edition(s: Shelf, passed: bool, number: u32, route: Route) -> Shelf
+    requires { ⌜ (passed ≡ true → s .len < 8) ⌝ }
+    ensures { λ r. ⌜ r ≡ cond passed (withEdition s number route) s ⌝ }
 {
     let mut shelf = s;
-    let len = s.len;
-    shelf.editions[len] = Edition { number, route };
-    shelf.len = len + 1;
+    if passed {
+        let len = s.len;
+        shelf.editions[len] = Edition { number, route };
+        shelf.len = len + 1;
+    }
     shelf
 }
 
 pub fn put(s: Shelf, number: u32, route: Route) -> Stored
     ensures { λ r. ⌜ r ≡ stored s number route ⌝ }
 {
-    let first = check_number(s, number);
-    if !first.passed() {
-        return handed(first, s);
+    let o = check(s, number, route);
+    Stored {
+        number: o.number,
+        second: o.second,
+        shelf: with_edition(s, o.passed(), number, route),
     }
-    let then = check_edition(route);
-    if !then.passed() {
-        return handed(then, s);
-    }
-    handed(then, with_edition(s, number, route))
 }

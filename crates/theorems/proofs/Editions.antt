@@ -7,22 +7,20 @@ use mathlib.Core.Option.{some}
 use Prim.Native.Nat.{ℕ, zero, suc, _+_, _-_, _<_}
 use native.Mathlib.Omega.{arith}
 use native.Mathlib.Numerals.{add-one}
-use borrow.Author.Tests.{eq-eqb, ne-eqb, le-leb, ltb-true}
+use borrow.Author.Tests.{eq-eqb, ne-eqb, eqb-true, le-leb, ltb-true}
 use lib.Dec.{eqb, leb}
 use lib.ListN.{length, take, drop, getD, set, replicate, length-set, length-append}
 use lib.Seq.{take-suc-set, drop-set-lt, drop-drop, getD-append-seam}
 use Rattle.mask.proofs.Truth.{both, either, cond-yes, cond-no}
-use Rattle.refusal.specs.Rows.{pass}
-use Rattle.refusal.proofs.Rows.{cond-zero-elim, rows-passed}
+use Rattle.refusal.proofs.Rows.{cond-zero, rows-passed}
 use Rattle.route.specs.declared.Route.{Route}
 use Rattle.shelf.specs.Shelf.{noEdition, noShelf, editionsOf, numbersIn, lastOf, numberFits, rise, goodShelf, routeOf}
-use Rattle.shelf.specs.Put.{shelfRows, putRow, withEdition, handed, stored}
+use Rattle.shelf.specs.Put.{shelfRows, putRow, withEdition, stored}
 use Rattle.shelf.specs.declared.Edition.{Edition}
 use Rattle.shelf.specs.declared.Shelf.{Shelf}
-use Rattle.shelf.specs.declared.Stored.{Stored}
 use Rattle.shelf.proofs.Numbers.{number-at, length-numbers}
 use Rattle.shelf.proofs.PutRows.{shelf-passes}
-use Rattle.theorems.specs.Editions.{Eight, UnusedBlank}
+use Rattle.theorems.specs.Editions.{Eight, UnusedBlank, Meets}
 
 -- ---- numbers that rise
 
@@ -142,16 +140,22 @@ empty-good = (refl, (refl, refl))
 module _ (s : Shelf) (n : ℕ) (r : Route) where
   -- a success, and what its rows say
   module _ (success : stored s n r .number ≡ 0) where
-    answer : (putRow s n r .number ≡ 0) × (stored s n r ≡ handed pass (withEdition s n r))
+    row-zero : putRow s n r .number ≡ 0
     unfolding stored
-    answer = cond-zero-elim (λ (x : Stored). x .number) (putRow s n r .number) _ _ refl success
+    row-zero = success
 
     pub shelf-is : stored s n r .shelf ≡ withEdition s n r
-    shelf-is = ap (λ (x : Stored). x .shelf) (answer .1)
+    unfolding stored
+    shelf-is = cond-zero (putRow s n r .number) _ _ row-zero
 
     passes : (goodShelf s ≡ true) × ((numberFits (lastOf 0 (numbersIn (editionsOf s))) n ≡ true) × (s .len < 8))
     unfolding putRow
-    passes = shelf-passes s n (rows-passed (shelfRows s n) _ (eq-eqb _ 0 (answer .0)) .0)
+    passes = shelf-passes s n (rows-passed (shelfRows s n) _ (eq-eqb _ 0 row-zero) .0)
+
+    -- the route meets the rows of an old route
+    pub put-meets : Meets r
+    unfolding putRow
+    put-meets = eqb-true _ 0 (rows-passed (shelfRows s n) _ (eq-eqb _ 0 row-zero) .1)
 
     module _ (eight : Eight s) where
       pub put-adds : editionsOf (stored s n r .shelf) ≡ editionsOf s ++ (record { number = n; route = r } ∷ [])
@@ -177,13 +181,7 @@ module _ (s : Shelf) (n : ℕ) (r : Route) where
 
   pub put-refuses : (stored s n r .number ≡ 0 → ⊥) → stored s n r .shelf ≡ s
   unfolding stored
-  put-refuses fails = go (eqb (putRow s n r .number) 0) refl fails
-    where
-      go : (t : Bool) → eqb (putRow s n r .number) 0 ≡ t
-          → (cond t (handed pass (withEdition s n r)) (handed (putRow s n r) s) .number ≡ 0 → ⊥)
-          → cond t (handed pass (withEdition s n r)) (handed (putRow s n r) s) .shelf ≡ s
-      go true e f = absurd (f refl)
-      go false e f = refl
+  put-refuses fails = sym (cond-no _ _ refl (ne-eqb (putRow s n r .number) 0 fails))
 
   -- a good shelf stays good, and its unused entries stay 0
   pub put-good : Eight s → goodShelf s ≡ true → goodShelf (stored s n r .shelf) ≡ true

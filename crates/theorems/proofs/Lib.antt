@@ -30,4 +30,5 @@ pub mod Printed
 pub mod RoundTrip
 pub mod Editions
 pub mod EditionsJudged
+pub mod EditionsStored
 pub mod Main

@@ -6,13 +6,15 @@ use mathlib.Core.Logic.{_↔_}
 use mathlib.Core.Bool.{true, false}
 use mathlib.Core.List.{List, _++_, map}
 use mathlib.Core.Option.{some}
-use Prim.Native.Nat.{ℕ, _≤_, _<_}
+use Prim.Native.Nat.{ℕ, _+_, _≤_, _<_}
 use lib.ListN.{length, getD, drop}
 use Rattle.mask.specs.Mask.{has}
+use Rattle.refusal.specs.Rows.{first}
 use Rattle.route.specs.Steps.{blank, stepsOf}
 use Rattle.route.specs.declared.Route.{Route}
 use Rattle.route.specs.declared.Step.{Step}
 use Rattle.job.specs.Job.{Job, jobOf, jobLine, newStart}
+use Rattle.job.specs.Lines.{doneRows, checked}
 use Rattle.slice.specs.Slice.{Kept, keptMask}
 use Rattle.precedence.specs.Precedence.{comesAfter, row}
 use Rattle.precedence.specs.Order.{inTurn, EachOnce, inOrder}
@@ -54,7 +56,7 @@ use Rattle.theorems.specs.Given.{Given}
 use Rattle.theorems.specs.Sheets.{jobOn, SheetRuns, Movable, Moved, Refused}
 use Rattle.theorems.specs.Shows.{Shows}
 use Rattle.theorems.specs.RoundTrip.{bytesWritten, WritesBytes, countsRead, jobInto, ReadsInto}
-use Rattle.theorems.specs.Editions.{Eight, UnusedBlank, Later}
+use Rattle.theorems.specs.Editions.{Eight, UnusedBlank, Later, AllMeet}
 use Rattle.theorems.proofs.KeptValues.{kept-values}
 use Rattle.theorems.proofs.Accepts.{try-fit, try-second, try-marking}
 use Rattle.theorems.proofs.Judge.{judge-moves, judge-second, judge-given, judge-marking, judge-refuses}
@@ -67,6 +69,7 @@ use Rattle.theorems.proofs.RoundTrip.{read-then-write, write-then-read-
 use Rattle.theorems.proofs.Editions.{empty-good, put-good, put-eight, put-blank, put-finds, put-keeps}
 use Rattle.theorems.proofs.Editions.{edition-found, put-refuses}
 use Rattle.theorems.proofs.EditionsJudged.{shelf-judges, shelf-works, shelf-prints, shelf-nineteen}
+use Rattle.theorems.proofs.EditionsStored.{stored-meets, editions-pass}
 use Rattle.theorems.proofs.Demand3.{demand3}
 
 -- ---- "1: layout broken": "offset of the first byte where no sheet begins so, or the length if it ends early"
@@ -261,6 +264,17 @@ put-keeps-the-others = put-keeps
 pub stored-editions-are-found : (s : Shelf) → goodShelf s ≡ true → (i : ℕ) → i < length (editionsOf s)
     → routeOf (getD (editionsOf s) i noEdition .number) (editionsOf s) ≡ some (getD (editionsOf s) i noEdition .route)
 stored-editions-are-found = edition-found
+
+-- "A route put on the shelf meets rows 4, 2, 3, 5, 6 and 7 as an old route does." So a job between two editions that put
+-- has stored is refused by none of these rows of its routes: what is left of them is those of its done lines
+pub put-stores-what-meets-the-rows : (s : Shelf) (n : ℕ) (r : Route) → Eight s → AllMeet (editionsOf s)
+    → AllMeet (editionsOf (stored s n r .shelf))
+put-stores-what-meets-the-rows = stored-meets
+
+pub stored-routes-are-not-refused : (s : Shelf) (edition target : ℕ) (old new : Route)
+    → Later s edition target old new → AllMeet (editionsOf s) → (done : List ℕ)
+    → checked (jobOf old new done) ≡ first (doneRows scope (jobLine (jobOf old new done) + 1) 0 done)
+stored-routes-are-not-refused = editions-pass
 
 -- "a refusal hands any state back as it came"
 pub refused-put-changes-nothing : (s : Shelf) (n : ℕ) (r : Route) → (stored s n r .number ≡ 0 → ⊥)

@@ -1,8 +1,9 @@
 -- `shelf::between::judge`: row 14, a bad shelf, 19, then judge for the two routes.
 use borrow.Author.Needs.{needs}
+use Rattle.shelf.proofs.ShelfLength.{entry-fits}
 use Rattle.shelf.proofs.JudgeBetween.{between-short, between-short-work, between-bad, between-bad-work}
 use Rattle.shelf.proofs.JudgeBetween.{between-nothing, between-nothing-work, edition-inside, target-inside}
-use Rattle.shelf.proofs.JudgeBetween.{between-judged, between-judged-work, entry-fits}
+use Rattle.shelf.proofs.JudgeBetween.{between-judged, between-judged-work}
 use Rattle.shelf.proofs.between.judge.Statement.{statement}
 use Rattle.shelf.proofs.between.judge.Tie as tie
 

@@ -1,13 +1,18 @@
--- `shelf::storing::with_edition`: the entry is set and the length is one more.
-use mathlib.Core.Path.{refl}
+-- `shelf::storing::with_edition`: where the rows pass the entry is set and the length is one more.
 use borrow.Author.Needs.{needs}
 use Rattle.shelf.specs.Put.{withEdition}
+use Rattle.shelf.proofs.ShelfLength.{entry-fits, length-fits}
+use Rattle.shelf.proofs.PutRows.{room-for, one-more}
 use Rattle.shelf.proofs.storing.with_edition.Statement.{statement}
 use Rattle.shelf.proofs.storing.with_edition.Tie as tie
 
+-- there is room for one more
+ruleset room = (needs, entry-fits, length-fits, room-for)
+
 returns : tie.Need-returns
 unfolding withEdition
-returns c = refl
+returns c = search (needs, one-more)
 
 pub with-edition-spec : {M : Type 1} → statement M
-with-edition-spec = tie.close (tie.spec (λ c. search needs) (λ c. search needs) (λ c. search needs) returns)
+with-edition-spec = tie.close (tie.spec (λ c. search room) (λ c. search room) (λ c. search room) returns
+    (λ c. search needs))
