@@ -1,6 +1,8 @@
-//! The engine's print and try and the twin's, timed on the same sheets in one run.
+//! The engine's print and try and the twin's, timed on the same sheets in one run;
+//! then judge from a shelf, and put.
 
 mod cases;
+mod shelf;
 mod stack;
 mod timing;
 
@@ -26,6 +28,7 @@ fn main() {
     for case in cases.iter().filter(|case| case.tried) {
         try_row(case);
     }
+    shelf::print_rows();
 }
 
 /// The row of a case, after a look that both list it alike.
