@@ -2,8 +2,8 @@
 -- one found in what is left, moved on by what has been passed.
 use mathlib.Core.Path.{_≡_, refl, sym, ap, _∙_}
 use mathlib.Core.Bool.{Bool, true, false, cond}
-use mathlib.Core.List.{List, [], _∷_}
-use mathlib.Core.Option.{none, some}
+use mathlib.Core.List.{List, [], _∷_, map}
+use mathlib.Core.Option.{Option, none, some}
 use Prim.Native.Nat.{ℕ, suc, _+_, _≤_, _<_}
 use native.Mathlib.Omega.{arith}
 use native.Mathlib.Numerals.{add-one}
@@ -95,26 +95,42 @@ position-below n (x ∷ l) k e = go (eqb x n) (position n l) refl e (position-be
         omega arith
     go false Nothing p q ih = let z : _≡_ {A = ℕ} 0 1 = cc in absurd (omega arith)
 
--- the step of a name is the one at its position
+-- whatever is found by its number is what stands at the number's position: `find` goes through a list for the first
+-- entry of that key
+module _ {A B : Type 0} (key : A → ℕ) (value : A → B) (find : ℕ → List A → Option B)
+    (nowhere : (n : ℕ) → find n [] ≡ none)
+    (next : (n : ℕ) (x : A) (l : List A) → find n (x ∷ l) ≡ cond (eqb (key x) n) (some (value x)) (find n l)) where
+  pub found-at : (n : ℕ) (l : List A) (k : ℕ) (d : A) → position n (map key l) ≡ At k
+      → find n l ≡ some (value (getD l k d))
+  unfolding position further
+  found-at n [] k d e = cc
+  found-at n (x ∷ l) k d e = next n x l ∙ go (eqb (key x) n) (position n (map key l)) refl e (found-at n l)
+    where
+      go : (t : Bool) (f : Found) → position n (map key l) ≡ f → cond t (At 0) (further f) ≡ At k
+          → ((j : ℕ) (d : A) → position n (map key l) ≡ At j → find n l ≡ some (value (getD l j d)))
+          → cond t (some (value x)) (find n l) ≡ some (value (getD (x ∷ l) k d))
+      go true f p q ih = let z : 0 ≡ k = cc in ap (λ (j : ℕ). some (value (getD (x ∷ l) j d))) z
+      go false (At j) p q ih =
+          let z : suc j ≡ k = cc in ih j d p ∙ ap (λ (m : ℕ). some (value (getD (x ∷ l) m d))) z
+      go false Nothing p q ih = cc
+
+  pub found-nowhere : (n : ℕ) (l : List A) → position n (map key l) ≡ Nothing → find n l ≡ none
+  unfolding position further
+  found-nowhere n [] e = nowhere n
+  found-nowhere n (x ∷ l) e = next n x l ∙ go (eqb (key x) n) (position n (map key l)) refl e (found-nowhere n l)
+    where
+      go : (t : Bool) (f : Found) → position n (map key l) ≡ f → cond t (At 0) (further f) ≡ Nothing
+          → (position n (map key l) ≡ Nothing → find n l ≡ none) → cond t (some (value x)) (find n l) ≡ none
+      go true f p q ih = cc
+      go false (At j) p q ih = cc
+      go false Nothing p q ih = ih p
+
+-- so is the step of a name
 pub lookup-at : (n : ℕ) (l : List Step) (k : ℕ) → position n (names l) ≡ At k → lookup n l ≡ some (getD l k blank)
-unfolding position further lookup names
-lookup-at n [] k e = cc
-lookup-at n (s ∷ l) k e = go (eqb (s .name) n) (position n (names l)) refl e (lookup-at n l)
-  where
-    go : (t : Bool) (f : Found) → position n (names l) ≡ f → cond t (At 0) (further f) ≡ At k
-        → ((j : ℕ) → position n (names l) ≡ At j → lookup n l ≡ some (getD l j blank))
-        → cond t (some s) (lookup n l) ≡ some (getD (s ∷ l) k blank)
-    go true f p q ih = let z : 0 ≡ k = cc in ap (λ (j : ℕ). some (getD (s ∷ l) j blank)) z
-    go false (At j) p q ih = let z : suc j ≡ k = cc in ih j p ∙ ap (λ (m : ℕ). some (getD (s ∷ l) m blank)) z
-    go false Nothing p q ih = cc
+unfolding lookup names
+lookup-at n l k =
+    found-at (λ (s : Step). s .name) (λ (s : Step). s) lookup (λ n. refl) (λ n s l. refl) n l k blank
 
 pub lookup-none : (n : ℕ) (l : List Step) → position n (names l) ≡ Nothing → lookup n l ≡ none
-unfolding position further lookup names
-lookup-none n [] e = refl
-lookup-none n (s ∷ l) e = go (eqb (s .name) n) (position n (names l)) refl e (lookup-none n l)
-  where
-    go : (t : Bool) (f : Found) → position n (names l) ≡ f → cond t (At 0) (further f) ≡ Nothing
-        → (position n (names l) ≡ Nothing → lookup n l ≡ none) → cond t (some s) (lookup n l) ≡ none
-    go true f p q ih = cc
-    go false (At j) p q ih = cc
-    go false Nothing p q ih = ih p
+unfolding lookup names
+lookup-none = found-nowhere (λ (s : Step). s .name) (λ (s : Step). s) lookup (λ n. refl) (λ n s l. refl)

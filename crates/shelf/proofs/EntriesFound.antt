@@ -13,7 +13,7 @@ use Rattle.mask.proofs.Truth.{cond-yes, cond-no}
 use Rattle.lookup.specs.inner.Position.{position, further}
 use Rattle.lookup.specs.declared.Found.{Found}
 use Rattle.lookup.specs.declared.Found.the-variants.{At, Nothing}
-use Rattle.lookup.proofs.Position.{position-below}
+use Rattle.lookup.proofs.Position.{position-below, found-at, found-nowhere}
 use Rattle.route.specs.declared.Route.{Route}
 use Rattle.job.specs.Job.{jobOf}
 use Rattle.shelf.specs.Shelf.{noEdition, editionsOf, numbersIn, rise, routeOf}
@@ -25,29 +25,15 @@ use Rattle.shelf.proofs.Numbers.{length-numbers}
 
 -- ---- the route of a number is the one at its position
 
-pub route-at : (n : ℕ) (l : List Edition) (k : ℕ) (d : Edition) → position n (numbersIn l) ≡ At k
+route-at : (n : ℕ) (l : List Edition) (k : ℕ) (d : Edition) → position n (numbersIn l) ≡ At k
     → routeOf n l ≡ some (getD l k d .route)
-unfolding position further routeOf numbersIn
-route-at n [] k d e = cc
-route-at n (x ∷ l) k d e = go (eqb (x .number) n) (position n (numbersIn l)) refl e (route-at n l)
-  where
-    go : (t : Bool) (f : Found) → position n (numbersIn l) ≡ f → cond t (At 0) (further f) ≡ At k
-        → ((j : ℕ) (d : Edition) → position n (numbersIn l) ≡ At j → routeOf n l ≡ some (getD l j d .route))
-        → cond t (some (x .route)) (routeOf n l) ≡ some (getD (x ∷ l) k d .route)
-    go true f p q ih = let z : 0 ≡ k = cc in ap (λ (j : ℕ). some (getD (x ∷ l) j d .route)) z
-    go false (At j) p q ih = let z : suc j ≡ k = cc in ih j d p ∙ ap (λ (m : ℕ). some (getD (x ∷ l) m d .route)) z
-    go false Nothing p q ih = cc
+unfolding routeOf numbersIn
+route-at = found-at (λ (e : Edition). e .number) (λ (e : Edition). e .route) routeOf (λ n. refl) (λ n e l. refl)
 
-pub route-none : (n : ℕ) (l : List Edition) → position n (numbersIn l) ≡ Nothing → routeOf n l ≡ none
-unfolding position further routeOf numbersIn
-route-none n [] e = refl
-route-none n (x ∷ l) e = go (eqb (x .number) n) (position n (numbersIn l)) refl e (route-none n l)
-  where
-    go : (t : Bool) (f : Found) → position n (numbersIn l) ≡ f → cond t (At 0) (further f) ≡ Nothing
-        → (position n (numbersIn l) ≡ Nothing → routeOf n l ≡ none) → cond t (some (x .route)) (routeOf n l) ≡ none
-    go true f p q ih = cc
-    go false (At j) p q ih = cc
-    go false Nothing p q ih = ih p
+route-none : (n : ℕ) (l : List Edition) → position n (numbersIn l) ≡ Nothing → routeOf n l ≡ none
+unfolding routeOf numbersIn
+route-none =
+    found-nowhere (λ (e : Edition). e .number) (λ (e : Edition). e .route) routeOf (λ n. refl) (λ n e l. refl)
 
 cond-same : {A : Type 0} (t : Bool) (x : A) → cond t x x ≡ x
 cond-same true x = refl

@@ -1,6 +1,6 @@
 -- The whole promise on one page, in 01's order: the sheet, its bytes both ways, slice and precedence, fit orders, what
--- judge gives and its listing shows, the shelf of 02, and demand 3. Each is proved in the file that its name is cited from. Code meets
--- it through the contracts, which are equalities with the definitions that these theorems speak of.
+-- judge gives and its listing shows, the shelf of 02, and demand 3. Each is proved in the file that its name is cited
+-- from. Code meets it through the contracts, which are equalities with the definitions that these theorems speak of.
 use mathlib.Core.Path.{_≡_}
 use mathlib.Core.Logic.{_↔_}
 use mathlib.Core.Bool.{true, false}
@@ -265,8 +265,8 @@ pub stored-editions-are-found : (s : Shelf) → goodShelf s ≡ true → (i : �
     → routeOf (getD (editionsOf s) i noEdition .number) (editionsOf s) ≡ some (getD (editionsOf s) i noEdition .route)
 stored-editions-are-found = edition-found
 
--- "A route put on the shelf meets rows 4, 2, 3, 5, 6 and 7 as an old route does." So a job between two editions that put
--- has stored is refused by none of these rows of its routes: what is left of them is those of its done lines
+-- "A route put on the shelf meets rows 4, 2, 3, 5, 6 and 7 as an old route does." So a job between two editions that
+-- put has stored is refused by none of these rows of its routes: what is left of them is those of its done lines
 pub put-stores-what-meets-the-rows : (s : Shelf) (n : ℕ) (r : Route) → Eight s → AllMeet (editionsOf s)
     → AllMeet (editionsOf (stored s n r .shelf))
 put-stores-what-meets-the-rows = stored-meets

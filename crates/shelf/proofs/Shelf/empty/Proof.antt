@@ -8,7 +8,8 @@ use Rattle.shelf.proofs.Shelf.empty.Tie as tie
 
 returns : tie.Need-returns
 returns c =
-    ap (λ (r : Route). record { len = 0; editions = replicate 8 (record { number = 0; route = r }) }) (c .empty .ensures)
+    ap (λ (r : Route). record { len = 0; editions = replicate 8 (record { number = 0; route = r }) })
+    (c .empty .ensures)
 
 pub empty-spec : {M : Type 1} → statement M
 empty-spec = tie.close (tie.spec (λ c κs. search needs) returns)
