@@ -4,13 +4,22 @@ use crate::wide8;
 use crate::wide32;
 
 // The run in hand, and how many bytes are in use before it.
-struct Run {
+pub struct Run {
     n: usize,
     count: u64,
     value: u64,
 }
 
-fn close(o: &mut [u8; 65536], r: Run) -> usize {
+// A list of so many numbers begins.
+pub fn begin(o: &mut [u8; 65536], n: usize, length: usize) -> Run {
+    Run {
+        n: number(o, n, length as u64),
+        count: 0,
+        value: 0,
+    }
+}
+
+pub fn close(o: &mut [u8; 65536], r: Run) -> usize {
     if r.count == 0 {
         return r.n;
     }
@@ -19,7 +28,7 @@ fn close(o: &mut [u8; 65536], r: Run) -> usize {
 }
 
 // One number more.
-fn add(o: &mut [u8; 65536], r: Run, value: u64) -> Run {
+pub fn add(o: &mut [u8; 65536], r: Run, value: u64) -> Run {
     if value == r.value {
         return Run {
             n: r.n,
@@ -34,26 +43,8 @@ fn add(o: &mut [u8; 65536], r: Run, value: u64) -> Run {
     }
 }
 
-pub fn numbers(o: &mut [u8; 65536], n: usize, l: &[u64]) -> usize {
-    let mut r = Run {
-        n: number(o, n, l.len() as u64),
-        count: 0,
-        value: 0,
-    };
-    let mut i = 0;
-    while i < l.len() {
-        r = add(o, r, l[i]);
-        i += 1;
-    }
-    close(o, r)
-}
-
 pub fn bytes(o: &mut [u8; 65536], n: usize, l: &[u8]) -> usize {
-    let mut r = Run {
-        n: number(o, n, l.len() as u64),
-        count: 0,
-        value: 0,
-    };
+    let mut r = begin(o, n, l.len());
     let mut i = 0;
     while i < l.len() {
         r = add(o, r, wide8(l[i]));
@@ -63,11 +54,7 @@ pub fn bytes(o: &mut [u8; 65536], n: usize, l: &[u8]) -> usize {
 }
 
 pub fn names(o: &mut [u8; 65536], n: usize, l: &[u32]) -> usize {
-    let mut r = Run {
-        n: number(o, n, l.len() as u64),
-        count: 0,
-        value: 0,
-    };
+    let mut r = begin(o, n, l.len());
     let mut i = 0;
     while i < l.len() {
         r = add(o, r, wide32(l[i]));

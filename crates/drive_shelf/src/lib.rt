@@ -1,8 +1,10 @@
 // The operations over the shelf in hand, each on the arguments that begin at a number of the script.
 use drive_out::runs;
+use drive_out::runs::Run;
 use drive_script::ends;
 use drive_script::numbers;
 use route::Route;
+use route::Step;
 use shelf::Edition;
 use shelf::Shelf;
 
@@ -24,7 +26,7 @@ fn edition(nums: &[u64], at: usize) -> Edition {
 fn whole(nums: &[u64], at: usize) -> Shelf {
     let mut s = Shelf::empty();
     let from = std::num::wrapping_add_usize(at, 1);
-    let count = drive_load::length(nums, from, 8);
+    let count = drive_load::length(nums, from, Shelf::EDITIONS);
     let mut next = std::num::wrapping_add_usize(from, 1);
     let mut i = 0;
     while i < count {
@@ -36,35 +38,39 @@ fn whole(nums: &[u64], at: usize) -> Shelf {
     s
 }
 
-// The numbers of a route's 64 records.
-fn records(r: Route) -> [u64; 320] {
-    let mut l = [0u64; 320];
+// One record's numbers more.
+fn record(o: &mut [u8; 65536], r: Run, s: Step) -> Run {
+    let name = runs::add(o, r, s.name as u64);
+    let ins = runs::add(o, name, s.ins);
+    let outs = runs::add(o, ins, s.outs);
+    let reads = runs::add(o, outs, s.reads as u64);
+    runs::add(o, reads, s.writes as u64)
+}
+
+// The numbers of a route's 64 records, in runs.
+fn records(o: &mut [u8; 65536], n: usize, r: Route) -> usize {
+    let mut run = runs::begin(o, n, 320);
     let mut i = 0;
     while i < 64 {
         let s = r.steps[i];
-        l[5 * i] = drive_out::wide32(s.name);
-        l[5 * i + 1] = s.ins;
-        l[5 * i + 2] = s.outs;
-        l[5 * i + 3] = drive_out::wide32(s.reads);
-        l[5 * i + 4] = drive_out::wide32(s.writes);
+        run = record(o, run, s);
         i += 1;
     }
-    l
+    runs::close(o, run)
 }
 
-// An entry: its number, the place count, `len`, and the records in runs.
+// An entry: its number, the place count, `len`, and the records.
 fn entry(o: &mut [u8; 65536], n: usize, e: Edition) -> usize {
     let r = e.route;
     let m = drive_out::numbers(o, n, &[e.number as u64, r.places, r.len as u64]);
-    let l = records(r);
-    runs::numbers(o, m, &l)
+    records(o, m, r)
 }
 
 // A shelf: `len`, then its entries.
 fn shown(o: &mut [u8; 65536], n: usize, s: Shelf) -> Turn {
     let mut m = drive_out::number(o, n, s.len as u64);
     let mut i = 0;
-    while i < 8 {
+    while i < Shelf::EDITIONS {
         let e = s.editions[i];
         m = entry(o, m, e);
         i += 1;

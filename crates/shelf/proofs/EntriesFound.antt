@@ -1,16 +1,16 @@
 -- The entries of an edition and a later target: the route of a number is the one at its position.
 use mathlib.Core.Path.{_≡_, refl, sym, ap, ap₂, _∙_}
 use mathlib.Core.Bool.{Bool, true, false, not, cond, _&&_}
-use mathlib.Core.List.{List, [], _∷_}
+use mathlib.Core.List.{List}
 use mathlib.Core.Option.{Option, none, some}
-use Prim.Native.Nat.{ℕ, suc, _≤_, _<_}
+use Prim.Native.Nat.{ℕ, _≤_, _<_}
 use native.Mathlib.Omega.{arith}
 use borrow.Author.Tests.{lt-ltb, le-ltb}
-use lib.Dec.{eqb, ltb, leb}
+use lib.Dec.{ltb, leb}
 use lib.ListN.{length, take, getD}
 use lib.Seq.{getD-take, length-take-le}
 use Rattle.mask.proofs.Truth.{cond-yes, cond-no}
-use Rattle.lookup.specs.inner.Position.{position, further}
+use Rattle.lookup.specs.inner.Position.{position}
 use Rattle.lookup.specs.declared.Found.{Found}
 use Rattle.lookup.specs.declared.Found.the-variants.{At, Nothing}
 use Rattle.lookup.proofs.Position.{position-below, found-at, found-nowhere}

@@ -24,7 +24,7 @@ module _ (s : Shelf) (v : List ℕ) (are : v ≡ numbersIn (s .editions)) (full 
   numbers-are = ap (take (s .len)) are ∙ take-numbers (s .len) (s .editions)
 
   module _ (t : Bool) (test : t ≡ (leb (s .len) (length v) && rise 0 (take (s .len) v))) where
-    pub good-is : t ≡ goodShelf s
+    good-is : t ≡ goodShelf s
     unfolding goodShelf
     good-is =
         test

@@ -43,9 +43,9 @@ module _ (s : Shelf) (edition target : ℕ) (done : List ℕ) where
 
   -- a bad shelf, where there is room
   module _ (off : goodShelf s ≡ false) where
-    bad : (room : ℕ) (r : Judged) → 8192 ≤ room → r ≡ judgeStopped 21 1 → r ≡ judgedBetween s edition target done room
+    pub between-twenty-one : (room : ℕ) (r : Judged) → 8192 ≤ room → r ≡ judgeStopped 21 1 → r ≡ judgedBetween s edition target done room
     unfolding judgedBetween
-    bad room r h e = e ∙ cond-no _ _ refl off ∙ cond-yes _ _ refl (le-leb 8192 room h)
+    between-twenty-one room r h e = e ∙ cond-no _ _ refl off ∙ cond-yes _ _ refl (le-leb 8192 room h)
 
     bad-work : (work : List ℕ) → work ≡ workBetween s edition target done work
     unfolding workBetween
@@ -80,7 +80,7 @@ module _ (s : Shelf) (edition target : ℕ) (done : List ℕ) where
 
     pub between-bad : e ≡ Bad → (room : ℕ) (r : Judged) → 8192 ≤ room → r ≡ judgeStopped 21 1
         → r ≡ judgedBetween s edition target done room
-    between-bad p = bad (is-bad p)
+    between-bad p = between-twenty-one (is-bad p)
 
     pub between-bad-work : e ≡ Bad → (work : List ℕ) → work ≡ workBetween s edition target done work
     between-bad-work p = bad-work (is-bad p)

@@ -24,11 +24,12 @@ editionsOf s = take (s .len) (s .editions)
 unfoldable pub numbersIn : List Edition → List ℕ
 numbersIn l = map (λ (e : Edition). e .number) l
 
--- the last number stored, "0 on an empty shelf"
+-- the last of a list of numbers, or `last` where it is empty
 unfoldable pub lastOf : ℕ → List ℕ → ℕ
 lastOf last [] = last
 lastOf last (n ∷ l) = lastOf n l
 
+-- "the last stored (0 on an empty shelf)"
 abbrev pub lastNumber : Shelf → ℕ
 lastNumber s = lastOf 0 (numbersIn (editionsOf s))
 

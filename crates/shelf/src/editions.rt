@@ -36,7 +36,7 @@ pub(crate) fn numbers_in(s: Shelf) -> [u32; 8]
 {
     let mut numbers = [0u32; 8];
     let mut i = 0;
-    while i < 8 {
+    while i < Shelf::EDITIONS {
         let e = s.editions[i];
         numbers[i] = e.number;
         i += 1;
@@ -51,7 +51,7 @@ pub(crate) fn number_fits(last: u32, number: u32) -> bool
     last < number && number <= Shelf::GREATEST
 }
 
-// Each number may follow the one before it, the first of them 0.
+// Each number may follow the one before it, and the first may follow 0.
 fn numbers_rise(numbers: &[u32]) -> bool
     ensures { λ r. ⌜ r ≡ rise 0 (now (numbers .entry)) ⌝ }
 {
@@ -68,7 +68,7 @@ fn numbers_rise(numbers: &[u32]) -> bool
     true
 }
 
-// There are so many numbers, and they rise.
+// The length is at most that of the list, and so many of its numbers rise.
 pub(crate) fn is_good(len: usize, numbers: &[u32]) -> bool
     ensures { λ r. ⌜ r ≡ (leb len (length (now (numbers .entry))) && rise 0 (take len (now (numbers .entry)))) ⌝ }
 {

@@ -2,7 +2,7 @@
 use route::Route;
 
 pub mod between;
-pub mod editions;
+mod editions;
 pub mod storing;
 
 pub struct Edition {
@@ -23,7 +23,7 @@ pub struct Stored {
     pub shelf: Shelf,
 }
 
-// Where two editions stand, unless one is missing or the shelf is bad.
+// Where two editions stand, unless one is missing, the target isn't later, or the shelf is bad.
 enum Entries {
     At(usize, usize),
     Nothing,

@@ -57,16 +57,16 @@ fn check(s: Shelf, number: u32, route: Route) -> Outcome
     check_edition(route)
 }
 
-// One edition more, where the rows pass: so the shelf is copied once.
+// One edition more, where the rows pass.
 fn with_edition(s: Shelf, passed: bool, number: u32, route: Route) -> Shelf
     requires { ⌜ (passed ≡ true → s .len < 8) ⌝ }
     ensures { λ r. ⌜ r ≡ cond passed (withEdition s number route) s ⌝ }
 {
     let mut shelf = s;
     if passed {
-        let len = s.len;
-        shelf.editions[len] = Edition { number, route };
-        shelf.len = len + 1;
+        let at = s.len;
+        shelf.editions[at] = Edition { number, route };
+        shelf.len = at + 1;
     }
     shelf
 }

@@ -34,7 +34,7 @@ fn main() {
     s = put(s, 1, editions::first());
     s = put(s, 2, editions::second());
     s = put(s, 3, editions::third());
-    // a number that isn't above the last, and an empty route
+    // a number that isn't above the last, and a route with nothing on it
     s = put(s, 3, editions::third());
     s = put(s, 4, Route::empty());
     judge(s, 1, 2);

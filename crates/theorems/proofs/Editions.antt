@@ -1,20 +1,22 @@
--- The shelf of editions: what put leaves on it, and that judge between two editions is judge for their routes. A good
--- shelf's numbers rise, so each edition is the first of its number.
+-- The shelf of editions: when put stores, and what it leaves on the shelf. A good shelf's numbers rise, so each edition
+-- is the first of its number.
+use mathlib.Core.Logic.{_↔_}
 use mathlib.Core.Path.{_≡_, refl, sym, ap, ap₂, subst, _∙_}
 use mathlib.Core.Bool.{Bool, true, false, cond, _&&_}
 use mathlib.Core.List.{List, [], _∷_, _++_}
-use mathlib.Core.Option.{some}
-use Prim.Native.Nat.{ℕ, zero, suc, _+_, _-_, _<_}
+use mathlib.Core.Option.{Option, some}
+use Prim.Native.Nat.{ℕ, zero, suc, _+_, _-_, _≤_, _<_}
 use native.Mathlib.Omega.{arith}
 use native.Mathlib.Numerals.{add-one}
-use borrow.Author.Tests.{eq-eqb, ne-eqb, eqb-true, le-leb, ltb-true}
-use lib.Dec.{eqb, leb}
+use borrow.Author.Tests.{eq-eqb, ne-eqb, eqb-true, le-leb, leb-true, lt-ltb, ltb-true}
+use lib.Dec.{eqb, ltb, leb}
 use lib.ListN.{length, take, drop, getD, set, replicate, length-set, length-append}
 use lib.Seq.{take-suc-set, drop-set-lt, drop-drop, getD-append-seam}
 use Rattle.mask.proofs.Truth.{both, either, cond-yes, cond-no}
-use Rattle.refusal.proofs.Rows.{cond-zero, rows-passed}
+use Rattle.refusal.specs.declared.Outcome.{Outcome}
+use Rattle.refusal.proofs.Rows.{row-passes, row-refuses, rows-passed, cond-zero}
 use Rattle.route.specs.declared.Route.{Route}
-use Rattle.shelf.specs.Shelf.{noEdition, noShelf, editionsOf, numbersIn, lastOf, numberFits, rise, goodShelf, routeOf}
+use Rattle.shelf.specs.Shelf.{noEdition, noShelf, editionsOf, numbersIn, lastOf, lastNumber, numberFits, rise, goodShelf, routeOf}
 use Rattle.shelf.specs.Put.{shelfRows, putRow, withEdition, stored}
 use Rattle.shelf.specs.declared.Edition.{Edition}
 use Rattle.shelf.specs.declared.Shelf.{Shelf}
@@ -32,25 +34,25 @@ rise-more (x ∷ l) last n up fits =
     let (own, rest) = both (numberFits last x) (rise x l) up in
     ap₂ (λ (t u : Bool). t && u) own (rise-more l x n rest fits)
 
-fits-above : (last n : ℕ) → numberFits last n ≡ true → last < n
+fits-elim : (last n : ℕ) → numberFits last n ≡ true → last < n
 unfolding numberFits
-fits-above last n e = ltb-true last n (both _ _ e .0)
+fits-elim last n e = ltb-true last n (both _ _ e .0)
 
 -- each is above those before it
 rise-above : (l : List ℕ) (last i : ℕ) → rise last l ≡ true → i < length l → last < getD l i 0
 unfolding rise
 rise-above [] last i up h = absurd (omega (arith, h))
-rise-above (x ∷ l) last zero up h = fits-above last x (both (numberFits last x) (rise x l) up .0)
+rise-above (x ∷ l) last zero up h = fits-elim last x (both (numberFits last x) (rise x l) up .0)
 rise-above (x ∷ l) last (suc i) up h =
     let (own, rest) = both (numberFits last x) (rise x l) up in
-    omega (arith, fits-above last x own, rise-above l x i rest (omega (arith, h)))
+    omega (arith, fits-elim last x own, rise-above l x i rest (omega (arith, h)))
 
 -- ---- editions found by their numbers
 
-numbers-more : (l : List Edition) (e : Edition) → numbersIn (l ++ (e ∷ [])) ≡ numbersIn l ++ (e .number ∷ [])
+numbers-append : (l : List Edition) (e : Edition) → numbersIn (l ++ (e ∷ [])) ≡ numbersIn l ++ (e .number ∷ [])
 unfolding numbersIn
-numbers-more [] e = refl
-numbers-more (x ∷ l) e = ap (λ (k : List ℕ). x .number ∷ k) (numbers-more l e)
+numbers-append [] e = refl
+numbers-append (x ∷ l) e = ap (λ (k : List ℕ). x .number ∷ k) (numbers-append l e)
 
 found-first : (l : List Edition) (last i : ℕ) → rise last (numbersIn l) ≡ true → i < length l
     → routeOf (getD l i noEdition .number) l ≡ some (getD l i noEdition .route)
@@ -76,16 +78,11 @@ found-last l e up =
     ∙ found-first (l ++ (e ∷ [])) 0 (length l) up (omega (arith, length-append l (e ∷ [])))
     ∙ ap (λ (x : Edition). some (x .route)) at
 
-found-still : (l k : List Edition) (n : ℕ) (r : Route) → routeOf n l ≡ some r → routeOf n (l ++ k) ≡ some r
+found-others : (l : List Edition) (e : Edition) (n : ℕ) → (n ≡ e .number → ⊥) → routeOf n (l ++ (e ∷ [])) ≡ routeOf n l
 unfolding routeOf
-found-still [] k n r e = cc
-found-still (x ∷ l) k n r e = go (eqb (x .number) n) e (found-still l k n r)
-  where
-    go : (t : Bool) → cond t (some (x .route)) (routeOf n l) ≡ some r
-        → (routeOf n l ≡ some r → routeOf n (l ++ k) ≡ some r)
-        → cond t (some (x .route)) (routeOf n (l ++ k)) ≡ some r
-    go true p ih = p
-    go false p ih = ih p
+found-others [] e n differ = sym (cond-no _ _ refl (ne-eqb (e .number) n (λ p. differ (sym p))))
+found-others (x ∷ l) e n differ =
+    ap (λ (r : Option Route). cond (eqb (x .number) n) (some (x .route)) r) (found-others l e n differ)
 
 -- ---- a shelf with one edition more
 
@@ -103,7 +100,7 @@ module _ (s : Shelf) (n : ℕ) (r : Route) (eight : Eight s) (room : s .len < 8)
       → rise 0 (numbersIn (editionsOf (withEdition s n r))) ≡ true
   rises-more up fits =
       ap (λ (l : List Edition). rise 0 (numbersIn l)) editions-more
-      ∙ ap (rise 0) (numbers-more (editionsOf s) new)
+      ∙ ap (rise 0) (numbers-append (editionsOf s) new)
       ∙ rise-more (numbersIn (editionsOf s)) 0 n up fits
 
   few-more : leb (withEdition s n r .len) 8 ≡ true
@@ -144,7 +141,7 @@ module _ (s : Shelf) (n : ℕ) (r : Route) where
     unfolding stored
     row-zero = success
 
-    pub shelf-is : stored s n r .shelf ≡ withEdition s n r
+    shelf-is : stored s n r .shelf ≡ withEdition s n r
     unfolding stored
     shelf-is = cond-zero (putRow s n r .number) _ _ row-zero
 
@@ -175,13 +172,46 @@ module _ (s : Shelf) (n : ℕ) (r : Route) where
           ∙ found-last (editionsOf s) (record { number = n; route = r })
           (ap (λ (l : List Edition). rise 0 (numbersIn l)) (sym put-adds) ∙ rises-after)
 
-      pub put-keeps : (m : ℕ) (q : Route) → routeOf m (editionsOf s) ≡ some q
-          → routeOf m (editionsOf (stored s n r .shelf)) ≡ some q
-      put-keeps m q e = ap (routeOf m) put-adds ∙ found-still (editionsOf s) _ m q e
+      others-after : (m : ℕ) → (m ≡ n → ⊥) → routeOf m (editionsOf (stored s n r .shelf)) ≡ routeOf m (editionsOf s)
+      others-after m differ =
+          ap (routeOf m) put-adds ∙ found-others (editionsOf s) (record { number = n; route = r }) m differ
 
   pub put-refuses : (stored s n r .number ≡ 0 → ⊥) → stored s n r .shelf ≡ s
   unfolding stored
   put-refuses fails = sym (cond-no _ _ refl (ne-eqb (putRow s n r .number) 0 fails))
+
+  pub put-keeps : Eight s → (m : ℕ) → (m ≡ n → ⊥)
+      → routeOf m (editionsOf (stored s n r .shelf)) ≡ routeOf m (editionsOf s)
+  put-keeps eight m differ =
+      either (stored s n r .number) 0 (λ e. others-after e eight m differ)
+      (λ f. ap (λ (x : Shelf). routeOf m (editionsOf x)) (put-refuses f))
+
+  -- it stores exactly where no row refuses
+  pub put-stores : (stored s n r .number ≡ 0)
+      ↔ ((goodShelf s ≡ true) × (((lastNumber s < n) × (n ≤ 65535)) × ((s .len < 8) × Meets r)))
+  unfolding stored putRow shelfRows numberFits
+  put-stores = (
+    λ e. let p = passes e in
+        let (above, low) = both (ltb (lastNumber s) n) (leb n 65535) (p .1 .0) in
+        (p .0, ((ltb-true _ _ above, leb-true _ _ low), (p .1 .1, put-meets e))),
+    λ p. ap (λ (o : Outcome). o .number)
+        (row-passes (goodShelf s) 21 1 _ (p .0)
+        ∙ row-passes (numberFits (lastNumber s) n) 20 0 _
+        (ap₂ (λ (t u : Bool). t && u) (lt-ltb (lastNumber s) n (p .1 .0 .0)) (le-leb n 65535 (p .1 .0 .1)))
+        ∙ row-passes (ltb (s .len) 8) 21 0 _ (lt-ltb (s .len) 8 (p .1 .1 .0)))
+        ∙ p .1 .1 .1,
+  )
+
+  -- a bad shelf
+  pub put-bad : goodShelf s ≡ false → stored s n r ≡ record { number = 21; second = 1; shelf = s }
+  unfolding stored putRow shelfRows
+  put-bad off =
+      let row = row-refuses (goodShelf s) 21 1 _ off refl in
+      λ i. record {
+        number = row i .number;
+        second = row i .second;
+        shelf = cond (eqb (row i .number) 0) (withEdition s n r) s;
+      }
 
   -- a good shelf stays good, and its unused entries stay 0
   pub put-good : Eight s → goodShelf s ≡ true → goodShelf (stored s n r .shelf) ≡ true

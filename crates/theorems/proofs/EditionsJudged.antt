@@ -4,7 +4,7 @@ use mathlib.Core.Path.{_≡_, refl, sym, ap, ap₂, _∙_}
 use mathlib.Core.Bool.{Bool, true, false, cond}
 use mathlib.Core.List.{List}
 use mathlib.Core.Option.{Option, none, some}
-use Prim.Native.Nat.{ℕ, _-_, _≤_}
+use Prim.Native.Nat.{ℕ, _-_, _≤_, _<_}
 use borrow.Author.Tests.{le-leb, lt-ltb, ltb-true}
 use lib.Dec.{eqb, ltb, leb}
 use lib.ListN.{length, replicate}
@@ -32,6 +32,7 @@ use Rattle.ops.specs.Print.{sheetAnswer, listingOf}
 use Rattle.shelf.specs.Shelf.{editionsOf, goodShelf, routeOf}
 use Rattle.shelf.specs.Judge.{jobOfRoutes, jobBetween, judgedJob, judgedBetween, workJob, workBetween}
 use Rattle.shelf.specs.declared.Shelf.{Shelf}
+use Rattle.shelf.proofs.JudgeBetween.{between-short, between-twenty-one}
 use Rattle.theorems.specs.RoundTrip.{bytesWritten}
 use Rattle.theorems.specs.Editions.{Later}
 
@@ -64,7 +65,7 @@ module _ (j : Job) (out : List ℕ) (success : wrote j (length out) .number ≡ 
   unfolding wrote
   lines-pass = cond-zero-elim (λ (x : Wrote). x .number) _ _ _ refl success .0
 
-  pub written-judged : AllWide (j .old) → AllWide (j .new) → sheetAnswer (bytesWritten j out) ≡ judged j 8192
+  written-judged : AllWide (j .old) → AllWide (j .new) → sheetAnswer (bytesWritten j out) ≡ judged j 8192
   unfolding sheetAnswer
   written-judged old new =
       ap (λ (x : Sheet). cond (eqb (x .number) 0) (judged (jobRead x) 8192) (judgeStopped (x .number) (x .second)))
@@ -128,3 +129,12 @@ shelf-nineteen s edition target done room good h none-later =
     go true e (some old) p none q = refl
     go true e none p y q = refl
     go false e x p y q = refl
+
+-- a short work slice, and a bad shelf where there is room
+pub shelf-fourteen : (s : Shelf) (edition target : ℕ) (done : List ℕ) (room : ℕ) → room < 8192
+    → judgedBetween s edition target done room ≡ judgeStopped 14 0
+shelf-fourteen s edition target done room h = sym (between-short s edition target done room _ h refl)
+
+pub shelf-bad : (s : Shelf) (edition target : ℕ) (done : List ℕ) (room : ℕ) → goodShelf s ≡ false → 8192 ≤ room
+    → judgedBetween s edition target done room ≡ judgeStopped 21 1
+shelf-bad s edition target done room off h = sym (between-twenty-one s edition target done off room _ h refl)

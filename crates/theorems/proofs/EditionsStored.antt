@@ -26,7 +26,7 @@ use Rattle.shelf.specs.Shelf.{editionsOf, routeOf}
 use Rattle.shelf.specs.Put.{stored}
 use Rattle.shelf.specs.declared.Edition.{Edition}
 use Rattle.shelf.specs.declared.Shelf.{Shelf}
-use Rattle.theorems.specs.Editions.{Eight, Later, Meets, AllMeet}
+use Rattle.theorems.specs.Editions.{Eight, Meets, AllMeet}
 use Rattle.theorems.proofs.Editions.{put-adds, put-refuses, put-meets}
 
 abbrev Passes : List Outcome → Type 0
@@ -96,7 +96,7 @@ pass-last a b e = go (eqb (first a .number) 0) refl
 
 -- ---- a job between two routes that meet these rows is refused by none of them
 
-routes-pass : (old new : Route) → Meets old → Meets new → (done : List ℕ)
+pub routes-pass : (old new : Route) → Meets old → Meets new → (done : List ℕ)
     → checked (jobOf old new done) ≡ first (doneRows scope (jobLine (jobOf old new done) + 1) 0 done)
 unfolding checked lineRows
 routes-pass old new a b done =
@@ -113,7 +113,7 @@ routes-pass old new a b done =
 
 -- ---- the shelf: every route on it meets them
 
-meets-found : (l : List Edition) → AllMeet l → (n : ℕ) (r : Route) → routeOf n l ≡ some r → Meets r
+pub meets-found : (l : List Edition) → AllMeet l → (n : ℕ) (r : Route) → routeOf n l ≡ some r → Meets r
 unfolding routeOf
 meets-found [] all n r e = cc
 meets-found (x ∷ l) all n r e = go (eqb (x .number) n) e (meets-found l (all .1) n r)
@@ -133,10 +133,3 @@ stored-meets s n r eight all =
     (λ e. subst AllMeet (sym (put-adds s n r e eight))
     (meets-more (editionsOf s) (record { number = n; route = r }) all (put-meets s n r e)))
     (λ f. subst (λ (x : Shelf). AllMeet (editionsOf x)) (sym (put-refuses s n r f)) all)
-
-pub editions-pass : (s : Shelf) (edition target : ℕ) (old new : Route) → Later s edition target old new
-    → AllMeet (editionsOf s) → (done : List ℕ)
-    → checked (jobOf old new done) ≡ first (doneRows scope (jobLine (jobOf old new done) + 1) 0 done)
-editions-pass s edition target old new l all =
-    routes-pass old new (meets-found (editionsOf s) all edition old (l .old-is))
-    (meets-found (editionsOf s) all target new (l .new-is))

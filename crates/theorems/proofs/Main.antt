@@ -4,7 +4,7 @@
 use mathlib.Core.Path.{_≡_}
 use mathlib.Core.Logic.{_↔_}
 use mathlib.Core.Bool.{true, false}
-use mathlib.Core.List.{List, _++_, map}
+use mathlib.Core.List.{List, [], _∷_, _++_, map}
 use mathlib.Core.Option.{some}
 use Prim.Native.Nat.{ℕ, _+_, _≤_, _<_}
 use lib.ListN.{length, getD, drop}
@@ -26,9 +26,10 @@ use Rattle.matching.specs.KeptRows.{keptRows}
 use Rattle.trying.specs.Try.{tried}
 use Rattle.judging.specs.Judge.{judged, workAfter}
 use Rattle.answering.specs.Answer.{judgeStopped}
-use Rattle.shelf.specs.Shelf.{noEdition, noShelf, editionsOf, goodShelf, routeOf}
+use Rattle.shelf.specs.Shelf.{noEdition, noShelf, editionsOf, lastNumber, goodShelf, routeOf}
 use Rattle.shelf.specs.Put.{stored}
 use Rattle.shelf.specs.Judge.{judgedBetween, workBetween}
+use Rattle.shelf.specs.declared.Edition.{Edition}
 use Rattle.shelf.specs.declared.Shelf.{Shelf}
 use Rattle.version.specs.Limits.{scope}
 use Rattle.version.proofs.Limits.{scope-limits}
@@ -56,7 +57,7 @@ use Rattle.theorems.specs.Given.{Given}
 use Rattle.theorems.specs.Sheets.{jobOn, SheetRuns, Movable, Moved, Refused}
 use Rattle.theorems.specs.Shows.{Shows}
 use Rattle.theorems.specs.RoundTrip.{bytesWritten, WritesBytes, countsRead, jobInto, ReadsInto}
-use Rattle.theorems.specs.Editions.{Eight, UnusedBlank, Later, AllMeet}
+use Rattle.theorems.specs.Editions.{Eight, UnusedBlank, Later, Meets, AllMeet}
 use Rattle.theorems.proofs.KeptValues.{kept-values}
 use Rattle.theorems.proofs.Accepts.{try-fit, try-second, try-marking}
 use Rattle.theorems.proofs.Judge.{judge-moves, judge-second, judge-given, judge-marking, judge-refuses}
@@ -66,10 +67,11 @@ use Rattle.theorems.proofs.Printed.{print-answer, print-leaves, print-m
 use Rattle.theorems.proofs.Printed.{try-sheet}
 use Rattle.ops.proofs.ListingLength.{listing-length}
 use Rattle.theorems.proofs.RoundTrip.{read-then-write, write-then-read-lent, read-lent, read-then-write-lent}
-use Rattle.theorems.proofs.Editions.{empty-good, put-good, put-eight, put-blank, put-finds, put-keeps}
-use Rattle.theorems.proofs.Editions.{edition-found, put-refuses}
+use Rattle.theorems.proofs.Editions.{empty-good, put-good, put-eight, put-blank, put-stores, put-adds}
+use Rattle.theorems.proofs.Editions.{put-finds, put-keeps, edition-found, put-bad, put-refuses}
 use Rattle.theorems.proofs.EditionsJudged.{shelf-judges, shelf-works, shelf-prints, shelf-nineteen}
-use Rattle.theorems.proofs.EditionsStored.{stored-meets, editions-pass}
+use Rattle.theorems.proofs.EditionsJudged.{shelf-fourteen, shelf-bad}
+use Rattle.theorems.proofs.EditionsStored.{stored-meets, meets-found, routes-pass}
 use Rattle.theorems.proofs.Demand3.{demand3}
 
 -- ---- "1: layout broken": "offset of the first byte where no sheet begins so, or the length if it ends early"
@@ -252,29 +254,48 @@ put-keeps-its-entries = put-eight
 pub put-keeps-the-unused-0 : (s : Shelf) (n : ℕ) (r : Route) → UnusedBlank s → UnusedBlank (stored s n r .shelf)
 put-keeps-the-unused-0 = put-blank
 
--- an edition that is stored is found by its number with its route, and those that were there are found as before
-pub put-stores-the-edition : (s : Shelf) (n : ℕ) (r : Route) → stored s n r .number ≡ 0 → Eight s
-    → routeOf n (editionsOf (stored s n r .shelf)) ≡ some r
-put-stores-the-edition = put-finds
+-- it stores an edition exactly where the shelf is good, the number is above the last one and at most 65,535, there is
+-- room, and the route meets its rows; and then the shelf holds that edition behind those that it held
+pub put-stores-exactly : (s : Shelf) (n : ℕ) (r : Route)
+    → (stored s n r .number ≡ 0)
+    ↔ ((goodShelf s ≡ true) × (((lastNumber s < n) × (n ≤ 65535)) × ((s .len < 8) × Meets r)))
+put-stores-exactly = put-stores
 
-pub put-keeps-the-others : (s : Shelf) (n : ℕ) (r : Route) → stored s n r .number ≡ 0 → Eight s
-    → (m : ℕ) (q : Route) → routeOf m (editionsOf s) ≡ some q → routeOf m (editionsOf (stored s n r .shelf)) ≡ some q
+pub put-adds-the-edition : (s : Shelf) (n : ℕ) (r : Route) → stored s n r .number ≡ 0 → Eight s
+    → editionsOf (stored s n r .shelf) ≡ editionsOf s ++ (record { number = n; route = r } ∷ [])
+put-adds-the-edition = put-adds
+
+-- an edition that is put is found by its number with its route, and every other number as before; on a good shelf each
+-- edition is found by its number
+pub put-edition-is-found : (s : Shelf) (n : ℕ) (r : Route) → stored s n r .number ≡ 0 → Eight s
+    → routeOf n (editionsOf (stored s n r .shelf)) ≡ some r
+put-edition-is-found = put-finds
+
+pub put-keeps-the-others : (s : Shelf) (n : ℕ) (r : Route) → Eight s → (m : ℕ) → (m ≡ n → ⊥)
+    → routeOf m (editionsOf (stored s n r .shelf)) ≡ routeOf m (editionsOf s)
 put-keeps-the-others = put-keeps
 
 pub stored-editions-are-found : (s : Shelf) → goodShelf s ≡ true → (i : ℕ) → i < length (editionsOf s)
     → routeOf (getD (editionsOf s) i noEdition .number) (editionsOf s) ≡ some (getD (editionsOf s) i noEdition .route)
 stored-editions-are-found = edition-found
 
--- "A route put on the shelf meets rows 4, 2, 3, 5, 6 and 7 as an old route does." So a job between two editions that
--- put has stored is refused by none of these rows of its routes: what is left of them is those of its done lines
+-- "A route put on the shelf meets rows 4, 2, 3, 5, 6 and 7 as an old route does." So every route that is found on a
+-- shelf of puts meets them, and of a job between two such routes these rows refuse at most a done line
 pub put-stores-what-meets-the-rows : (s : Shelf) (n : ℕ) (r : Route) → Eight s → AllMeet (editionsOf s)
     → AllMeet (editionsOf (stored s n r .shelf))
 put-stores-what-meets-the-rows = stored-meets
 
-pub stored-routes-are-not-refused : (s : Shelf) (edition target : ℕ) (old new : Route)
-    → Later s edition target old new → AllMeet (editionsOf s) → (done : List ℕ)
+pub found-routes-meet-the-rows : (l : List Edition) → AllMeet l → (n : ℕ) (r : Route) → routeOf n l ≡ some r → Meets r
+found-routes-meet-the-rows = meets-found
+
+pub routes-that-meet-are-not-refused : (old new : Route) → Meets old → Meets new → (done : List ℕ)
     → checked (jobOf old new done) ≡ first (doneRows scope (jobLine (jobOf old new done) + 1) 0 done)
-stored-routes-are-not-refused = editions-pass
+routes-that-meet-are-not-refused = routes-pass
+
+-- "21 .. with 1 .. a shelf handed in with over 8 editions or with numbers that don't rise within 1 to 65,535"
+pub put-tells-a-bad-shelf : (s : Shelf) (n : ℕ) (r : Route) → goodShelf s ≡ false
+    → stored s n r ≡ record { number = 21; second = 1; shelf = s }
+put-tells-a-bad-shelf = put-bad
 
 -- "a refusal hands any state back as it came"
 pub refused-put-changes-nothing : (s : Shelf) (n : ℕ) (r : Route) → (stored s n r .number ≡ 0 → ⊥)
@@ -300,7 +321,15 @@ pub shelf-judges-as-the-sheet-prints : (s : Shelf) (edition target : ℕ) (old n
     → listing (judgedBetween s edition target done room) ≡ listingOf (bytesWritten (jobOf old new done) out)
 shelf-judges-as-the-sheet-prints = shelf-prints
 
--- "19, edition not on the shelf or the target not later"
+-- "19, edition not on the shelf or the target not later, after 14"; and 21 with 1 between them
+pub shelf-wants-its-work-slice : (s : Shelf) (edition target : ℕ) (done : List ℕ) (room : ℕ) → room < 8192
+    → judgedBetween s edition target done room ≡ judgeStopped 14 0
+shelf-wants-its-work-slice = shelf-fourteen
+
+pub judge-tells-a-bad-shelf : (s : Shelf) (edition target : ℕ) (done : List ℕ) (room : ℕ) → goodShelf s ≡ false
+    → 8192 ≤ room → judgedBetween s edition target done room ≡ judgeStopped 21 1
+judge-tells-a-bad-shelf = shelf-bad
+
 pub shelf-refuses-other-pairs : (s : Shelf) (edition target : ℕ) (done : List ℕ) (room : ℕ) → goodShelf s ≡ true
     → 8192 ≤ room → ((old new : Route) → Later s edition target old new → ⊥)
     → judgedBetween s edition target done room ≡ judgeStopped 19 0

@@ -1,5 +1,5 @@
-// time_shelf: rounds of one operation, for the benchmark to time. Standard input has pairs of numbers: a kind, and how
-// many rounds of it. For each pair standard output has a line, the sum of what its rounds answered.
+// time_shelf: rounds of one operation, for the benchmark to time. Standard input has at most eight pairs of numbers: a
+// kind, and how many rounds of it. For each pair standard output has a line, the sum of what its rounds answered.
 //
 //     0   nothing but the loop and its done list
 //     1   judge in the usual job, its routes by value

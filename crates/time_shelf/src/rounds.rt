@@ -19,9 +19,9 @@ fn near(number: u32, round: u64) -> u32 {
 
 // What a judged job adds to the sum.
 fn judged(r: Judged) -> u64 {
-    let last = more(r.after[9], r.order[8] as u64);
-    let moved = more(r.marking.tokens, r.writers[8] as u64);
-    more(more(r.number as u64, r.kept), more(last, moved))
+    let entries = more(r.after[9], r.order[8] as u64);
+    let end = more(r.marking.tokens, r.writers[8] as u64);
+    more(more(r.number as u64, r.kept), more(entries, end))
 }
 
 // What a put adds to the sum.

@@ -1,4 +1,5 @@
-// The usual job of the benchmark, moved by search. Place p is bit p, variable v is bit v.
+// The usual job of the benchmark (host/src/bin/bench/cases.rs has it as a sheet), moved by search. Place p is bit p,
+// variable v is bit v.
 use route::Route;
 use samples::step;
 use shelf::Shelf;

@@ -262,7 +262,7 @@ fn wrong(mut route: Route, dice: &mut Dice) -> Records {
     records
 }
 
-/// Over 8 editions, or numbers that don't rise within 1 to 65,535.
+/// Mostly over 8 editions, or numbers that don't rise within 1 to 65,535.
 fn make_bad(shelf: &mut Shelf, dice: &mut Dice) {
     let last = shelf.len.max(1) as usize - 1;
     let at = dice.below(last + 1);

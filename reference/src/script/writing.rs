@@ -31,20 +31,20 @@ pub fn by_value(places: u32, len: u64, records: &[Record]) -> String {
 
 /// ROUTE, without the blank records at its end.
 pub fn route(route: &RouteByValue) -> String {
-    let given = before_last(&route.records, &Record::default());
+    let given = without_blank_end(&route.records, &Record::default());
     by_value(route.places, route.len, given)
 }
 
 /// SHELF, without the blank editions at its end.
 pub fn shelf(shelf: &Shelf) -> String {
-    let given = before_last(&shelf.editions, &Edition::blank());
+    let given = without_blank_end(&shelf.editions, &Edition::blank());
     let edition = |edition: &Edition| format!("{} {}", edition.number, route(&edition.route));
     let editions = counted(given.len(), given.iter().map(edition));
     format!("{} {editions}", shelf.len)
 }
 
 /// The entries up to the last that isn't blank.
-fn before_last<'a, T: PartialEq>(entries: &'a [T], blank: &T) -> &'a [T] {
+fn without_blank_end<'a, T: PartialEq>(entries: &'a [T], blank: &T) -> &'a [T] {
     let last = entries.iter().rposition(|entry| entry != blank);
     &entries[..last.map_or(0, |at| at + 1)]
 }

@@ -1,5 +1,5 @@
-//! Operations on shelves, each of which tells at least one wrong program from
-//! the right one. Random scripts of shelves hold most of them too.
+//! Operations on shelves at their limits: one of them tells each edit of the
+//! shelf from the right program.
 
 use reference::judge::WORK;
 use reference::record::{Record, RouteByValue};
