@@ -11,8 +11,8 @@
 //     20, 21, 22         over the shelf in hand, the empty one at first: a whole shelf handed in; put, a number and a
 //                        route; judge, the edition, the target, a done list and the work slice
 //
-// An answer is all its numbers, and every slice that was lent as it then stands; 20 and 21 show the shelf too. The second
-// program says the same of scripts (reference/src/script.rs).
+// An answer is all its numbers, and every slice that was lent as it then stands; 20 and 21 show the shelf too. The
+// second program says the same of scripts (reference/src/script.rs).
 use drive_script::ends;
 use drive_script::numbers;
 use shelf::Shelf;

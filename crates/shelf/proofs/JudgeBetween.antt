@@ -43,7 +43,8 @@ module _ (s : Shelf) (edition target : ℕ) (done : List ℕ) where
 
   -- a bad shelf, where there is room
   module _ (off : goodShelf s ≡ false) where
-    pub between-twenty-one : (room : ℕ) (r : Judged) → 8192 ≤ room → r ≡ judgeStopped 21 1 → r ≡ judgedBetween s edition target done room
+    pub between-twenty-one : (room : ℕ) (r : Judged) → 8192 ≤ room → r ≡ judgeStopped 21 1
+        → r ≡ judgedBetween s edition target done room
     unfolding judgedBetween
     between-twenty-one room r h e = e ∙ cond-no _ _ refl off ∙ cond-yes _ _ refl (le-leb 8192 room h)
 

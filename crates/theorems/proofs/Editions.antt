@@ -16,7 +16,8 @@ use Rattle.mask.proofs.Truth.{both, either, cond-yes, cond-no}
 use Rattle.refusal.specs.declared.Outcome.{Outcome}
 use Rattle.refusal.proofs.Rows.{row-passes, row-refuses, rows-passed, cond-zero}
 use Rattle.route.specs.declared.Route.{Route}
-use Rattle.shelf.specs.Shelf.{noEdition, noShelf, editionsOf, numbersIn, lastOf, lastNumber, numberFits, rise, goodShelf, routeOf}
+use Rattle.shelf.specs.Shelf.{noEdition, noShelf, editionsOf, numbersIn, lastOf, lastNumber}
+use Rattle.shelf.specs.Shelf.{numberFits, rise, goodShelf, routeOf}
 use Rattle.shelf.specs.Put.{shelfRows, putRow, withEdition, stored}
 use Rattle.shelf.specs.declared.Edition.{Edition}
 use Rattle.shelf.specs.declared.Shelf.{Shelf}
