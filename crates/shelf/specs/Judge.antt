@@ -12,6 +12,7 @@ use Rattle.answering.specs.declared.Judged.{Judged}
 use Rattle.shelf.specs.Shelf.{editionsOf, goodShelf, routeOf}
 use Rattle.shelf.specs.declared.Shelf.{Shelf}
 
+-- the job of two routes, where both are there
 unfoldable pub jobOfRoutes : Option Route → Option Route → List ℕ → Option Job
 jobOfRoutes (some old) (some new) done = some (jobOf old new done)
 jobOfRoutes (some old) none done = none
@@ -36,6 +37,7 @@ judgedBetween s edition target done room =
     (cond (goodShelf s) (judgedJob (jobBetween s edition target done) room) (judgeStopped 21 1))
     (judgeStopped 14 0)
 
+-- unchanged, or as judge leaves it
 unfoldable pub workJob : Option Job → List ℕ → List ℕ
 workJob none work = work
 workJob (some j) work = workAfter j work

@@ -14,6 +14,7 @@ use Rattle.shelf.specs.declared.Shelf.{Shelf}
 abbrev pub noEdition : Edition
 noEdition = record { number = 0; route = noRoute }
 
+-- the empty shelf
 abbrev pub noShelf : Shelf
 noShelf = record { len = 0; editions = replicate 8 noEdition }
 
@@ -21,6 +22,7 @@ noShelf = record { len = 0; editions = replicate 8 noEdition }
 abbrev pub editionsOf : Shelf → List Edition
 editionsOf s = take (s .len) (s .editions)
 
+-- their numbers
 unfoldable pub numbersIn : List Edition → List ℕ
 numbersIn l = map (λ (e : Edition). e .number) l
 
