@@ -25,7 +25,7 @@ use Rattle.mask.proofs.Truth.{cond-yes, cond-no}
 -- ---- judge's answer to a sheet
 
 -- a work slice that is long enough changes nothing in the answer
-enough-work : (j : Job) (room : ℕ) → 8192 ≤ room → judged j room ≡ judged j 8192
+pub enough-work : (j : Job) (room : ℕ) → 8192 ≤ room → judged j room ≡ judged j 8192
 unfolding judged
 enough-work j room h = sym (cond-yes _ _ refl (le-leb 8192 room h))
 

@@ -29,6 +29,7 @@ use Rattle.writer.proofs.RoundTrips.{write-reads}
 use Rattle.out_slice.specs.declared.Wrote.{Wrote}
 use Rattle.listing.specs.Listing.{listing}
 use Rattle.ops.specs.Print.{sheetAnswer, listingOf}
+use Rattle.ops.proofs.Prints.{enough-work}
 use Rattle.shelf.specs.Shelf.{editionsOf, goodShelf, routeOf}
 use Rattle.shelf.specs.Judge.{jobOfRoutes, jobBetween, judgedJob, judgedBetween, workJob, workBetween}
 use Rattle.shelf.specs.declared.Shelf.{Shelf}
@@ -74,10 +75,6 @@ module _ (j : Job) (out : List ℕ) (success : wrote j (length out) .number ≡ 
 
 -- ---- judge between two editions
 
-room-enough : (j : Job) (room : ℕ) → 8192 ≤ room → judged j room ≡ judged j 8192
-unfolding judged
-room-enough j room h = sym (cond-yes _ _ refl (le-leb 8192 room h))
-
 module _ (s : Shelf) (edition target : ℕ) (old new : Route) (l : Later s edition target old new) (done : List ℕ) where
   job-is : jobBetween s edition target done ≡ some (jobOf old new done)
   unfolding jobBetween jobOfRoutes
@@ -108,7 +105,7 @@ module _ (s : Shelf) (edition target : ℕ) (old new : Route) (l : Later s editi
   shelf-prints a b room h out success =
       ap listing
       (shelf-judges room
-      ∙ room-enough (jobOf old new done) room h
+      ∙ enough-work (jobOf old new done) room h
       ∙ sym (written-judged (jobOf old new done) out success a b))
 
 -- 19 where no two editions are there, the target later
