@@ -13,14 +13,14 @@ pub struct Cursor<'a> {
 pub struct List {
     pub mask: u64,
     /// One above the highest entry.
-    pub above: u32,
+    pub above: u64,
     /// Some entry is not above the one before.
     pub falls: bool,
 }
 
 impl List {
     #[inline(always)]
-    fn add(&mut self, entry: u32) {
+    fn add(&mut self, entry: u64) {
         self.mask |= 1u64 << (entry & 63);
         self.falls |= entry < self.above;
         self.above = self.above.max(entry + 1);
@@ -65,11 +65,11 @@ impl<'a> Cursor<'a> {
         pairs.take_while(|(byte, letter)| byte == letter).count()
     }
 
-    /// One to five digits, and no digit after a leading 0.
+    /// One to ten digits, and no digit after a leading 0.
     #[inline(always)]
-    pub fn number(&mut self) -> Result<u32, Broken> {
+    pub fn number(&mut self) -> Result<u64, Broken> {
         let mut value = self.digit().ok_or(Broken)?;
-        let most = if value == 0 { 0 } else { 4 };
+        let most = if value == 0 { 0 } else { 9 };
         for _ in 0..most {
             match self.digit() {
                 Some(digit) => value = value * 10 + digit,
@@ -80,13 +80,13 @@ impl<'a> Cursor<'a> {
     }
 
     #[inline(always)]
-    fn digit(&mut self) -> Option<u32> {
+    fn digit(&mut self) -> Option<u64> {
         let digit = self.peek()?.wrapping_sub(b'0');
         if digit > 9 {
             return None;
         }
         self.at += 1;
-        Some(u32::from(digit))
+        Some(u64::from(digit))
     }
 
     /// The entries of a list, one space before each.

@@ -135,7 +135,7 @@ impl Reader<'_> {
         } else if !NAMES.contains(&name) {
             self.put_by(2);
         } else {
-            sheet.done[sheet.done_len] = name;
+            sheet.done[sheet.done_len] = name as u32;
             sheet.done_len += 1;
         }
         Ok(())

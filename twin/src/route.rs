@@ -27,7 +27,7 @@ impl Step {
 }
 
 pub struct Route {
-    pub places: u32,
+    pub places: u64,
     pub len: usize,
     pub steps: [Step; MOST],
     names: Names,

@@ -4,21 +4,21 @@ use crate::cursor::List;
 use crate::route::Step;
 use std::ops::RangeInclusive;
 
-pub const PLACES: RangeInclusive<u32> = 1..=64;
-pub const NAMES: RangeInclusive<u32> = 1..=65_535;
-const VARIABLES: u32 = 32;
+pub const PLACES: RangeInclusive<u64> = 1..=64;
+pub const NAMES: RangeInclusive<u64> = 1..=4_294_967_295;
+const VARIABLES: u64 = 32;
 const MOST_ENTRIES: u32 = 8;
 
 /// A step line: its name, and its lists in the order in, out, read, write.
 pub struct Line {
-    pub name: u32,
+    pub name: u64,
     pub lists: [List; 4],
 }
 
 impl Line {
     /// The step, or the number of the row that the line breaks.
     #[inline(always)]
-    pub fn step(&self, places: u32) -> Result<Step, u32> {
+    pub fn step(&self, places: u64) -> Result<Step, u32> {
         let [ins, outs, reads, writes] = &self.lists;
         let high = ins.above.max(outs.above) > places || reads.above.max(writes.above) > VARIABLES;
         if high || !NAMES.contains(&self.name) {
@@ -32,7 +32,7 @@ impl Line {
             outs: outs.mask,
             reads: reads.mask as u32,
             writes: writes.mask as u32,
-            name: self.name,
+            name: self.name as u32,
         })
     }
 }

@@ -8,7 +8,7 @@ fn answer(op: u64, nums: &[u64], at: usize, o: &mut [u8; 65536], n: usize) -> us
     match op {
         1 => drive_routes::fire(nums, at, o, n),
         2 | 3 | 4 | 5 | 8 => drive_routes::answer(op, nums, at, o, n),
-        6 | 7 | 9 | 10 | 16 => drive_sheets::answer(op, nums, at, o, n),
+        6 | 7 | 9 | 10 | 16 | 23 => drive_sheets::answer(op, nums, at, o, n),
         _ => drive_lists::answer(op, nums, at, o, n),
     }
 }

@@ -71,6 +71,7 @@ fn with(op: u64, sheet: &[u8], nums: &[u64], at: usize, o: &mut [u8; 65536], n: 
         7 => runs::bytes(o, n, reader::part::job_part(sheet)),
         9 => print(sheet, nums, at, o, n),
         10 => try_sheet(sheet, nums, at, o, n),
+        23 => drive_answers::sheet(o, n, reader::reads::read_scope(sheet)),
         _ => read_lists(sheet, nums, at, o, n),
     }
 }

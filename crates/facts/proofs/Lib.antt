@@ -7,6 +7,7 @@ pub mod Records
 pub mod PartText
 pub mod Widths
 pub mod RowOne
+pub mod Wider
 pub mod RowsFold
 pub mod PassingLines
 pub mod DoneNames

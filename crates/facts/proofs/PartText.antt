@@ -9,8 +9,8 @@ use lib.Dec.{eqb, ltb}
 use lib.ListN.{length, replicate, length-map}
 use lib.Seq.{take-append-seam}
 use borrow.Author.Tests.{ne-eqb, eq-eqb}
-use Rattle.version.specs.Limits.{scope}
-use Rattle.version.proofs.Limits.{scope-limits}
+use Rattle.version.specs.Limits.{present}
+use Rattle.version.proofs.Limits.{present-limits}
 use Rattle.layout.specs.Words.{spelling}
 use Rattle.layout.specs.Text.{Form, Lines, digits, number, entries, listed, stepLine, wordLine, stepLines, jobText}
 use Rattle.layout.specs.Text.{text}
@@ -92,13 +92,13 @@ job-part-text s z =
     (eq-eqb (readOf s .number) 0 z)
     ∙ ap (λ (y : Sheet). afterLines (y .old .len + y .new .len + 2) s) (r .facts)
     ∙ (λ i. afterLines (length-map (x .old) recordOf i + length-map (x .new) recordOf i + 2)
-    (sound scope scope-limits s x (r .parsed) .same i))
+    (sound present present-limits s x (r .parsed) .same i))
     ∙ over-text x
     ∙ ap jobText (sym (ap (λ (y : Sheet). jobRead y .done) (r .facts)
     ∙ take-append-seam (x .done) (replicate (64 - length (x .done)) 0)))
   where
-    r : ReadAs scope s
-    r = reads-as scope s z
+    r : ReadAs present s
+    r = reads-as present s z
 
     x : Lines
     x = r .lines

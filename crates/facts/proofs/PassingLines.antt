@@ -88,7 +88,7 @@ forms-fine v (f ∷ l) line places earlier few h =
       omega (arith, rest .1, length-append earlier (f .name ∷ [])),
     )
 
-abbrev AllNamed : Version → List ℕ → Type 0
+abbrev pub AllNamed : Version → List ℕ → Type 0
 AllNamed v [] = Unit {0}
 AllNamed v (n ∷ l) = (nameFits v n ≡ true) × AllNamed v l
 

@@ -14,19 +14,20 @@ use Rattle.route.specs.Steps.{stepsOf}
 use Rattle.refusal.specs.Rows.{first}
 use Rattle.route.specs.declared.Step.{Step}
 use Rattle.refusal.specs.declared.Outcome.{Outcome}
-use Rattle.version.specs.Limits.{scope}
+use Rattle.version.specs.Limits.{present, Limits}
 use Rattle.job.specs.Lines.{lineRows, LinesPass}
 use Rattle.version.specs.declared.Version.{Version}
-use Rattle.layout.specs.Text.{Form, Lines}
+use Rattle.layout.specs.Text.{Form, Lines, text}
 use Rattle.layout.specs.Parse.{Parsed, parse}
+use Rattle.layout.proofs.Complete.{complete}
 use Rattle.facts.specs.Forms.{allBelow, recordOf}
 use Rattle.facts.specs.Facts.{failed, factsOf, answered, readBy, readOf, jobRead}
 use Rattle.facts.specs.SheetRows.{sheetRows, filled, factsRecord}
 use Rattle.facts.specs.LinesOf.{formOf, linesOf, Wide, AllWide}
 use Rattle.facts.specs.declared.Sheet.{Sheet}
-use Rattle.facts.proofs.RowsFold.{reads-facts, filled-steps}
+use Rattle.facts.proofs.RowsFold.{reads-facts, rows-facts, filled-steps}
 use Rattle.facts.proofs.Masks.{mask-members, members-mask, masked-below}
-use Rattle.facts.proofs.PassingLines.{Passes, Fine, AllFine, AllLines, lines-fine}
+use Rattle.facts.proofs.PassingLines.{Passes, Fine, AllFine, AllLines, lines-fine, lines-short}
 use Rattle.facts.proofs.Ties.{tie}
 
 -- ---- a step: its form's record, and its record's form
@@ -91,6 +92,11 @@ pub read-is : (v : Version) (s : List ℕ) (x : Lines) → parse v s ≡ Parsed.
 unfolding readBy answered
 read-is v s x e = ap (answered v (length s)) e
 
+-- what is written of lines that a version's rows pass, it reads as their facts
+pub text-reads : {v : Version} → Limits v → (x : Lines) → Passes (sheetRows v x) → readBy v (text x) ≡ factsRecord x
+text-reads {v} limits x h =
+    read-is v (text x) x (complete v limits x (lines-short v limits x (lines-fine v x h))) ∙ rows-facts v x h
+
 -- ---- the records that reading gives pass the rows
 
 wide-records : (l : List Form) → AllWide (map recordOf l)
@@ -111,14 +117,14 @@ wide-filled : (n : ℕ) (l : List Form) → length l ≤ 64 → AllWide (stepsOf
 wide-filled n l h = subst AllWide (sym (filled-steps n (map recordOf l) (omega (arith, length-map l recordOf))))
     (wide-records l)
 
-records-pass : (x : Lines) → Passes (sheetRows scope x) → Passes (lineRows (jobRead (factsRecord x)))
+records-pass : (x : Lines) → Passes (sheetRows present x) → Passes (lineRows (jobRead (factsRecord x)))
 unfolding factsRecord
 records-pass x h =
-    let fine = lines-fine scope x h in
+    let fine = lines-fine present x h in
     ap (λ (rows : List Outcome). eqb (first rows .number) 0)
     (sym (tie (jobRead (factsRecord x)) (wide-filled (x .oldPlaces) (x .old) (fine .oldFew))
     (wide-filled (x .newPlaces) (x .new) (fine .newFew)))
-    ∙ ap (sheetRows scope) (lines-back scope x fine))
+    ∙ ap (sheetRows present) (lines-back present x fine))
     ∙ h
 
 pub not-broken : (v : Version) (s r : List ℕ) → readBy v s .number ≡ 0 → parse v s ≡ Parsed.broken r → ⊥
@@ -144,5 +150,5 @@ reads-as v s z = go (parse v s) refl
 
 -- a sheet that reads passes the rows of its lines
 pub read-lines : (s : List ℕ) → readOf s .number ≡ 0 → LinesPass (jobRead (readOf s))
-read-lines s z = let r = reads-as scope s z in ap (λ (y : Sheet). first (lineRows (jobRead y)) .number) (r .facts)
+read-lines s z = let r = reads-as present s z in ap (λ (y : Sheet). first (lineRows (jobRead y)) .number) (r .facts)
     ∙ eqb-true _ 0 (records-pass (r .lines) (r .passes))

@@ -18,11 +18,13 @@ use Rattle.layout.proofs.Complete.{complete}
 use Rattle.layout.proofs.Sound.{sound}
 use Rattle.layout.proofs.Broken.{first-broken}
 use Rattle.facts.specs.Forms.{formRow}
-use Rattle.facts.specs.Facts.{failed, factsOf, answered, readBy}
+use Rattle.facts.specs.Facts.{failed, factsOf, answered, readBy, jobRead}
 use Rattle.facts.specs.SheetRows.{formRows, afterForms, routeFormRows, sheetRows}
+use Rattle.facts.specs.LinesOf.{linesOf}
 use Rattle.facts.specs.declared.Sheet.{Sheet}
-use Rattle.facts.proofs.RowsFold.{rows-answer}
-use Rattle.facts.proofs.Records.{read-is}
+use Rattle.facts.proofs.RowsFold.{reads-facts, rows-answer}
+use Rattle.facts.proofs.PassingLines.{lines-fine}
+use Rattle.facts.proofs.Records.{read-is, lines-back}
 
 -- ---- no line answers 1
 
@@ -87,6 +89,15 @@ broken-is v s r e = ap (answered v (length s)) e
 -- complete: a sheet answers what the rows of its lines say
 pub sheet-facts : {v : Version} (limits : Limits v) (s : List ℕ) (x : IsSheet v s) → readBy v s ≡ factsOf v (x .lines)
 sheet-facts {v} limits s x = read-is v s (x .lines) (ap (parse v) (x .same) ∙ complete v limits (x .lines) (x .short))
+
+-- and where it reads, its records have the lines of the sheet, no number of them cut down
+pub sheet-lines : {v : Version} (limits : Limits v) (s : List ℕ) (x : IsSheet v s) → readBy v s .number ≡ 0
+    → linesOf (jobRead (readBy v s)) ≡ x .lines
+sheet-lines {v} limits s x z =
+    let is = sheet-facts limits s x in
+    let (passes, facts) = reads-facts v (x .lines) (ap (λ (y : Sheet). y .number) (sym is) ∙ z) in
+    ap (λ (y : Sheet). linesOf (jobRead y)) (is ∙ facts)
+    ∙ lines-back v (x .lines) (lines-fine v (x .lines) passes)
 
 -- sound: bytes that reading answers otherwise than by 1 are a sheet
 pub read-sheet : {v : Version} (limits : Limits v) (s : List ℕ) → (readBy v s .number ≡ 1 → ⊥) → IsSheet v s

@@ -418,6 +418,13 @@ module _ (v : Version) (x : Lines) where
       go (fails e q) = absurd (eqb-false (first (sheetRows v x) .number) 0 e
           (sym (ap (λ (s : Sheet). s .number) q) ∙ z))
 
+  pub rows-facts : eqb (first (sheetRows v x) .number) 0 ≡ true → factsOf v x ≡ factsRecord x
+  rows-facts h = go facts-stand
+    where
+      go : Stand (factsOf v x) (sheetRows v x) (factsRecord x) (length (x .done) ≤ 64) → factsOf v x ≡ factsRecord x
+      go (stands e q few) = q
+      go (fails e q) = absurd (false≢true (sym e ∙ h))
+
   -- the rows of a sheet say what reading it answers
   pub rows-answer : (factsOf v x .number ≡ first (sheetRows v x) .number)
       × (factsOf v x .second ≡ first (sheetRows v x) .second)

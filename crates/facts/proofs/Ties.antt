@@ -12,7 +12,7 @@ use Rattle.refusal.specs.Rows.{unless, first}
 use Rattle.route.specs.declared.Step.{Step}
 use Rattle.refusal.specs.declared.Outcome.{Outcome}
 use Rattle.job.specs.Job.{Job, newLine, jobLine}
-use Rattle.version.specs.Limits.{scope, nameFits}
+use Rattle.version.specs.Limits.{present, nameFits}
 use Rattle.job.specs.Lines.{placesFit, stepFits, variableList, placeList, listsFit, among, stepRow, stepRows, routeRows}
 use Rattle.job.specs.Lines.{doneRows, lineRows}
 use Rattle.facts.specs.Forms.{formFits, formLists, formRow}
@@ -20,10 +20,10 @@ use Rattle.facts.specs.SheetRows.{formRows, routeFormRows, sheetRows}
 use Rattle.facts.specs.LinesOf.{formOf, linesOf, Wide, AllWide}
 use Rattle.facts.proofs.Members.{all-below-width, below-is, none-is, fits-is}
 
-fits-same : (places : ℕ) (s : Step) → Wide s → formFits scope places (formOf s) ≡ stepFits places s
+fits-same : (places : ℕ) (s : Step) → Wide s → formFits present places (formOf s) ≡ stepFits places s
 unfolding formFits stepFits formOf
 fits-same places s h =
-    ap (λ (x : Bool). nameFits scope (s .name) && x)
+    ap (λ (x : Bool). nameFits present (s .name) && x)
     (ap₂ (λ (x y : Bool). x && y) (below-is 64 (s .ins) places (h .ins))
     (ap₂ (λ (x y : Bool). x && y) (below-is 64 (s .outs) places (h .outs))
     (ap₂ (λ (x y : Bool). x && y) (all-below-width 32 (s .reads)) (all-below-width 32 (s .writes))))
@@ -53,7 +53,7 @@ lists-same s h =
     turn false b c d e = refl
 
 row-same : (line places : ℕ) (earlier : List ℕ) (s : Step) → Wide s
-    → formRow scope line places (length earlier) earlier (formOf s) ≡ stepRow line places earlier s
+    → formRow present line places (length earlier) earlier (formOf s) ≡ stepRow line places earlier s
 unfolding formRow stepRow
 row-same line places earlier s h =
     ap₂ (λ (x y : Bool). first (unless (ltb (length earlier) 64) 4 line ∷ unless x 2 line ∷ unless y 3 line
@@ -61,14 +61,14 @@ row-same line places earlier s h =
     ∙ (unfold formOf in refl)
 
 rows-same : (l : List Step) (line places : ℕ) (earlier : List ℕ) → AllWide l
-    → formRows scope line places earlier (map formOf l) ≡ stepRows line places earlier l
+    → formRows present line places earlier (map formOf l) ≡ stepRows line places earlier l
 unfolding formRows stepRows formOf
 rows-same [] line places earlier h = refl
 rows-same (s ∷ l) line places earlier h = ap₂ {C = List Outcome} (λ (o : Outcome) (k : List Outcome). o ∷ k)
     (row-same line places earlier s (h .0)) (rows-same l (line + 1) places (earlier ++ (s .name ∷ [])) (h .1))
 
 route-same : (line places : ℕ) (l : List Step) → AllWide l
-    → routeFormRows scope line places (map formOf l) ≡ routeRows line places l
+    → routeFormRows present line places (map formOf l) ≡ routeRows line places l
 unfolding routeFormRows routeRows
 route-same line places l h =
     ap₂ {C = List Outcome} (λ (k : List Outcome) (n : ℕ). unless (placesFit places) 2 line
@@ -76,11 +76,11 @@ route-same line places l h =
     (length-map l formOf)
 
 -- the rows of a job's records are those of the lines that writing it gives
-pub tie : (j : Job) → AllWide (j .old) → AllWide (j .new) → sheetRows scope (linesOf j) ≡ lineRows j
+pub tie : (j : Job) → AllWide (j .old) → AllWide (j .new) → sheetRows present (linesOf j) ≡ lineRows j
 unfolding sheetRows lineRows linesOf
 tie j old new =
-    (λ i. routeFormRows scope 1 (j .oldPlaces) (map formOf (j .old))
-    ++ (routeFormRows scope (1 + 1 + length-map (j .old) formOf i) (j .newPlaces) (map formOf (j .new))
-    ++ doneRows scope (1 + 1 + length-map (j .old) formOf i + 1 + length-map (j .new) formOf i + 1) 0 (j .done)))
-    ∙ ap₂ (λ (x y : List Outcome). x ++ (y ++ doneRows scope (jobLine j + 1) 0 (j .done)))
+    (λ i. routeFormRows present 1 (j .oldPlaces) (map formOf (j .old))
+    ++ (routeFormRows present (1 + 1 + length-map (j .old) formOf i) (j .newPlaces) (map formOf (j .new))
+    ++ doneRows present (1 + 1 + length-map (j .old) formOf i + 1 + length-map (j .new) formOf i + 1) 0 (j .done)))
+    ∙ ap₂ (λ (x y : List Outcome). x ++ (y ++ doneRows present (jobLine j + 1) 0 (j .done)))
     (route-same 1 (j .oldPlaces) (j .old) old) (route-same (newLine j) (j .newPlaces) (j .new) new)

@@ -17,7 +17,7 @@ use Rattle.refusal.specs.declared.Outcome.{Outcome}
 use Rattle.refusal.proofs.Rows.{head-passed, unless-elim, rows-passed}
 use Rattle.route.specs.declared.Step.{Step}
 use Rattle.job.specs.Job.{Job, newLine, jobLine}
-use Rattle.version.specs.Limits.{scope, nameFits}
+use Rattle.version.specs.Limits.{present, nameFits}
 use Rattle.job.specs.Lines.{placesFit, stepFits, variableList, placeList, listsFit, among, stepRow, stepRows, routeRows}
 use Rattle.job.specs.Lines.{doneRows, lineRows}
 use Rattle.job.proofs.Rows.{route-fits}
@@ -86,9 +86,9 @@ unfolding lineRows asRecords
 rows-as-records j =
     (λ i. routeRows 1 (j .oldPlaces) (map asRecord (j .old))
     ++ (routeRows (1 + 1 + length-map (j .old) asRecord i) (j .newPlaces) (map asRecord (j .new))
-    ++ doneRows scope (1 + 1 + length-map (j .old) asRecord i + 1 + length-map (j .new) asRecord i + 1) 0
+    ++ doneRows present (1 + 1 + length-map (j .old) asRecord i + 1 + length-map (j .new) asRecord i + 1) 0
     (j .done)))
-    ∙ ap₂ (λ (x y : List Outcome). x ++ (y ++ doneRows scope (jobLine j + 1) 0 (j .done)))
+    ∙ ap₂ (λ (x y : List Outcome). x ++ (y ++ doneRows present (jobLine j + 1) 0 (j .done)))
     (route-same 1 (j .oldPlaces) (j .old)) (route-same (newLine j) (j .newPlaces) (j .new))
 
 -- ---- where the rows pass, it has the masks' widths
@@ -98,7 +98,7 @@ step-wide : (line places : ℕ) (earlier : List ℕ) (s : Step) → places ≤ 6
 unfolding stepRow stepFits asRecord
 step-wide line places earlier s few h =
     let fits = unless-elim (stepFits places s) 2 line refl (head-passed _ _ (head-passed _ _ h .1) .0) in
-    let places-in = both (nameFits scope (s .name)) _ fits .1 in
+    let places-in = both (nameFits present (s .name)) _ fits .1 in
     let (ins, outs) = both (within (s .ins) (below places)) (within (s .outs) (below places))
     (sym (within-or (s .ins) (s .outs) (below places)) ∙ places-in) in
     record {

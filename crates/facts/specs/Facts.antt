@@ -12,7 +12,7 @@ use Rattle.route.specs.declared.Route.{Route}
 use Rattle.refusal.specs.declared.Outcome.{Outcome}
 use Rattle.job.specs.Job.{Job, jobOf}
 use Rattle.job.specs.Lines.{placesFit, doneRow}
-use Rattle.version.specs.Limits.{scope}
+use Rattle.version.specs.Limits.{present}
 use Rattle.version.specs.declared.Version.{Version}
 use Rattle.layout.specs.Text.{Form, Lines}
 use Rattle.layout.specs.Parse.{Parsed, parse}
@@ -133,9 +133,9 @@ answered v long (Parsed.broken r) = failed 1 (long - length r)
 unfoldable pub readBy : Version → List ℕ → Sheet
 readBy v s = answered v (length s) (parse v s)
 
--- by 01's version
+-- by the present version
 abbrev pub readOf : List ℕ → Sheet
-readOf s = readBy scope s
+readOf s = readBy present s
 
 -- the job that a sheet's facts tell of, as records
 abbrev pub jobRead : Sheet → Job

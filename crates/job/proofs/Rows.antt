@@ -19,7 +19,7 @@ use Rattle.route.specs.declared.Step.{Step}
 use Rattle.refusal.specs.declared.Outcome.{Outcome}
 use Rattle.refusal.proofs.Rows.{head-refuses, head-passes, head-passed, row-refuses, row-passes, row-passed, rows-end}
 use Rattle.refusal.proofs.Rows.{rows-pass, rows-refuse, rows-passed}
-use Rattle.version.specs.Limits.{scope, nameFits}
+use Rattle.version.specs.Limits.{present, nameFits}
 use Rattle.job.specs.Lines.{stepRow, stepRows, routeRows, doneRow, doneRows, lineRows, placesFit, LinesPass}
 use Rattle.job.specs.Lines.{AllNamed}
 use Rattle.job.specs.Job.{Job, flatJob, afterSteps, newLine, jobLine}
@@ -27,57 +27,57 @@ use Rattle.job.specs.Job.{Job, flatJob, afterSteps, newLine, jobLine}
 -- ---- the done lines
 
 module _ (line i : ℕ) (done : List ℕ) (whole o : Outcome) where
-  pub done-end : length done ≤ i → first (doneRows scope (line + i) i (drop i done)) ≡ whole → o ≡ pass → o ≡ whole
+  pub done-end : length done ≤ i → first (doneRows present (line + i) i (drop i done)) ≡ whole → o ≡ pass → o ≡ whole
   unfolding doneRows
   done-end h inv is =
-      is ∙ sym rows-end ∙ ap (λ (x : List ℕ). first (doneRows scope (line + i) i x))
+      is ∙ sym rows-end ∙ ap (λ (x : List ℕ). first (doneRows present (line + i) i x))
       (sym (drop-of-length-le done {i = i} h))
       ∙ inv
 
-  module _ (more : i < length done) (inv : first (doneRows scope (line + i) i (drop i done)) ≡ whole) where
-    at-line : first (doneRow scope (line + i) i (getD done i 0)
-        ∷ doneRows scope (line + i + 1) (i + 1) (drop (suc i) done)) ≡ whole
+  module _ (more : i < length done) (inv : first (doneRows present (line + i) i (drop i done)) ≡ whole) where
+    at-line : first (doneRow present (line + i) i (getD done i 0)
+        ∷ doneRows present (line + i + 1) (i + 1) (drop (suc i) done)) ≡ whole
     unfolding doneRows
-    at-line = ap (λ (x : List ℕ). first (doneRows scope (line + i) i x)) (sym (drop-cons done i 0 more)) ∙ inv
+    at-line = ap (λ (x : List ℕ). first (doneRows present (line + i) i x)) (sym (drop-cons done i 0 more)) ∙ inv
 
     -- the 65th
     pub done-over : o ≡ refuse 4 (line + 64) → i ≤ 64 → 64 ≤ i → o ≡ whole
     done-over is low high =
         is ∙ ap (λ (n : ℕ). refuse 4 (line + n)) at ∙ sym (head-refuses _ _ refl)
-        ∙ ap (λ (x : Outcome). first (x ∷ doneRows scope (line + i + 1) (i + 1) (drop (suc i) done))) (sym refused)
+        ∙ ap (λ (x : Outcome). first (x ∷ doneRows present (line + i + 1) (i + 1) (drop (suc i) done))) (sym refused)
         ∙ at-line
       where
         at : 64 ≡ i
         at = omega arith
 
-        refused : doneRow scope (line + i) i (getD done i 0) ≡ refuse 4 (line + i)
+        refused : doneRow present (line + i) i (getD done i 0) ≡ refuse 4 (line + i)
         refused = unfold doneRow in row-refuses _ 4 (line + i) _ (le-ltb i 64 high) refl
 
-    pub done-refused : (f : Bool) → i < 64 → f ≡ nameFits scope (getD done i 0) → not f ≡ true → o ≡ refuse 2 (line + i)
+    pub done-refused : (f : Bool) → i < 64 → f ≡ nameFits present (getD done i 0) → not f ≡ true → o ≡ refuse 2 (line + i)
         → o ≡ whole
     done-refused f low is fails to =
         to ∙ sym (head-refuses _ _ refl)
-        ∙ ap (λ (x : Outcome). first (x ∷ doneRows scope (line + i + 1) (i + 1) (drop (suc i) done))) (sym refused)
+        ∙ ap (λ (x : Outcome). first (x ∷ doneRows present (line + i + 1) (i + 1) (drop (suc i) done))) (sym refused)
         ∙ at-line
       where
-        refused : doneRow scope (line + i) i (getD done i 0) ≡ refuse 2 (line + i)
+        refused : doneRow present (line + i) i (getD done i 0) ≡ refuse 2 (line + i)
         refused =
             unfold doneRow in row-passes _ 4 (line + i) _ (lt-ltb i 64 low)
-            ∙ row-refuses (nameFits scope (getD done i 0)) 2 (line + i) [] (sym is ∙ not-true f fails) refl
+            ∙ row-refuses (nameFits present (getD done i 0)) 2 (line + i) [] (sym is ∙ not-true f fails) refl
 
-    pub done-passed : (f : Bool) → i < 64 → f ≡ nameFits scope (getD done i 0) → not f ≡ false
-        → first (doneRows scope (line + (i + 1)) (i + 1) (drop (i + 1) done)) ≡ whole
+    pub done-passed : (f : Bool) → i < 64 → f ≡ nameFits present (getD done i 0) → not f ≡ false
+        → first (doneRows present (line + (i + 1)) (i + 1) (drop (i + 1) done)) ≡ whole
     done-passed f low is passes =
-        ap₂ (λ (n k : ℕ). first (doneRows scope n (i + 1) (drop k done))) line-on (add-one i)
+        ap₂ (λ (n k : ℕ). first (doneRows present n (i + 1) (drop k done))) line-on (add-one i)
         ∙ sym (head-passes _ _ (ap (λ (x : Outcome). eqb (x .number) 0) passed)) ∙ at-line
       where
         line-on : line + (i + 1) ≡ line + i + 1
         line-on = omega arith
 
-        passed : doneRow scope (line + i) i (getD done i 0) ≡ pass
+        passed : doneRow present (line + i) i (getD done i 0) ≡ pass
         passed =
             unfold doneRow in row-passes _ 4 (line + i) _ (lt-ltb i 64 low)
-            ∙ row-passes (nameFits scope (getD done i 0)) 2 (line + i) [] (sym is ∙ not-false f passes) ∙ rows-end
+            ∙ row-passes (nameFits present (getD done i 0)) 2 (line + i) [] (sym is ∙ not-false f passes) ∙ rows-end
 
 -- ---- a route's lines from its head on
 
@@ -145,12 +145,12 @@ steps-short line places earlier (s ∷ l) h e =
     steps-short (line + 1) places (earlier ++ (s .name ∷ [])) l (omega arith) (now .1) in
     omega arith
 
-done-short : (line above : ℕ) (l : List ℕ) → above ≤ 64 → eqb (first (doneRows scope line above l) .number) 0 ≡ true
+done-short : (line above : ℕ) (l : List ℕ) → above ≤ 64 → eqb (first (doneRows present line above l) .number) 0 ≡ true
     → above + length l ≤ 64
 unfolding doneRows doneRow
 done-short line above [] h e = omega arith
 done-short line above (n ∷ l) h e =
-    let now = head-passed (doneRow scope line above n) (doneRows scope (line + 1) (above + 1) l) e in
+    let now = head-passed (doneRow present line above n) (doneRows present (line + 1) (above + 1) l) e in
     let room : above < 64 = ltb-true above 64 (row-passed (ltb above 64) 4 line _ refl (now .0) .0) in
     let rest : above + 1 + length l ≤ 64 = done-short (line + 1) (above + 1) l (omega arith) (now .1) in
     omega arith
@@ -172,23 +172,23 @@ route-fits line places l e =
     record { places-fit = places-bound places (head .0); steps-fit = omega arith; some-step = omega arith }
 
 -- each done name is at least 1
-done-named : (line above : ℕ) (l : List ℕ) → eqb (first (doneRows scope line above l) .number) 0 ≡ true → AllNamed l
+done-named : (line above : ℕ) (l : List ℕ) → eqb (first (doneRows present line above l) .number) 0 ≡ true → AllNamed l
 unfolding doneRows doneRow nameFits
 done-named line above [] e i h = absurd (not-suc-le-zero h)
 done-named line above (n ∷ l) e i h =
-    go i h (head-passed (doneRow scope line above n) (doneRows scope (line + 1) (above + 1) l) e)
+    go i h (head-passed (doneRow present line above n) (doneRows present (line + 1) (above + 1) l) e)
     (done-named (line + 1) (above + 1) l)
   where
     go : (i : ℕ) → i < length (n ∷ l)
-        → (eqb (doneRow scope line above n .number) 0 ≡ true)
-        × (eqb (first (doneRows scope (line + 1) (above + 1) l) .number) 0 ≡ true)
-        → (eqb (first (doneRows scope (line + 1) (above + 1) l) .number) 0 ≡ true → AllNamed l) → 1 ≤ getD (n ∷ l) i 0
+        → (eqb (doneRow present line above n .number) 0 ≡ true)
+        × (eqb (first (doneRows present (line + 1) (above + 1) l) .number) 0 ≡ true)
+        → (eqb (first (doneRows present (line + 1) (above + 1) l) .number) 0 ≡ true → AllNamed l) → 1 ≤ getD (n ∷ l) i 0
     go zero h now ih =
-        let fits = row-passed (ltb above 64) 4 line (unless (nameFits scope n) 2 line ∷ []) refl (now .0) .1 in
-        leb-true 1 n (both (leb 1 n) _ (row-passed (nameFits scope n) 2 line [] refl fits .0) .0)
+        let fits = row-passed (ltb above 64) 4 line (unless (nameFits present n) 2 line ∷ []) refl (now .0) .1 in
+        leb-true 1 n (both (leb 1 n) _ (row-passed (nameFits present n) 2 line [] refl fits .0) .0)
     go (suc i) h now ih = ih (now .1) i (omega arith)
 
-pub done-fits : (line : ℕ) (l : List ℕ) → eqb (first (doneRows scope line 0 l) .number) 0 ≡ true → length l ≤ 64
+pub done-fits : (line : ℕ) (l : List ℕ) → eqb (first (doneRows present line 0 l) .number) 0 ≡ true → length l ≤ 64
 done-fits line l e = omega (arith, done-short line 0 l (omega arith) e)
 
 -- ---- all lines: the old route's, the new route's, the done lines
@@ -237,12 +237,12 @@ module _ (j : Job) (a : Outcome) (is : a ≡ first (routeRows 1 (j .oldPlaces) (
     lines-new off = new-is ∙ sym (rows-refuse newRows _ (new-asked ∙ not-true u off)) ∙ past-old _
 
     pub lines-done : not u ≡ false → (line : ℕ) → line ≡ jobLine j → (o : Outcome)
-        → o ≡ first (doneRows scope (line + 1) 0 (j .done))
+        → o ≡ first (doneRows present (line + 1) 0 (j .done))
         → o ≡ first (lineRows j)
     unfolding lineRows
     lines-done pass line line-is o last =
         last
-        ∙ ap (λ (n : ℕ). first (doneRows scope (n + 1) 0 (j .done))) line-is
+        ∙ ap (λ (n : ℕ). first (doneRows present (n + 1) 0 (j .done))) line-is
         ∙ sym (rows-pass newRows _ (new-asked ∙ not-false u pass))
         ∙ past-old _
 

@@ -8,7 +8,7 @@ use lib.Bits.{bitOr}
 use lib.ListN.{length, getD}
 use Rattle.mask.specs.Mask.{below, within, count}
 use Rattle.refusal.specs.Rows.{unless, first}
-use Rattle.version.specs.Limits.{scope, nameFits}
+use Rattle.version.specs.Limits.{present, nameFits}
 use Rattle.version.specs.declared.Version.{Version}
 use Rattle.opening.specs.Net.{netRow}
 use Rattle.route.specs.declared.Step.{Step}
@@ -19,10 +19,10 @@ use Rattle.job.specs.Job.{Job, afterSteps, newLine, jobLine}
 unfoldable pub placesFit : ℕ → Bool
 placesFit places = leb 1 places && leb places 64
 
--- a name is one of 01's, and each place that a step names is below the place count. (A variable is below 32 by its
--- mask's width.)
+-- a name is one of the present version's, and each place that a step names is below the place count. (A variable is
+-- below 32 by its mask's width.)
 unfoldable pub stepFits : ℕ → Step → Bool
-stepFits places s = nameFits scope (s .name) && within (bitOr (s .ins) (s .outs)) (below places)
+stepFits places s = nameFits present (s .name) && within (bitOr (s .ins) (s .outs)) (below places)
 
 -- a list of variables has at most 8 entries, a list of places 1 to 8. (A mask's entries rise by themselves.)
 unfoldable pub variableList : ℕ → Bool
@@ -72,7 +72,7 @@ doneRows v line above (n ∷ l) = doneRow v line above n ∷ doneRows v (line + 
 unfoldable pub lineRows : Job → List Outcome
 lineRows j =
     routeRows 1 (j .oldPlaces) (j .old)
-    ++ (routeRows (newLine j) (j .newPlaces) (j .new) ++ doneRows scope (jobLine j + 1) 0 (j .done))
+    ++ (routeRows (newLine j) (j .newPlaces) (j .new) ++ doneRows present (jobLine j + 1) 0 (j .done))
 
 -- no line is refused
 abbrev pub LinesPass : Job → Type 0

@@ -6,13 +6,13 @@ use version::Version;
 ghost use mathlib.Core.Path.{_≡_};
 ghost use Prim.Native.Nat.{_≤_};
 ghost use Rattle.refusal.specs.Rows.{first};
-ghost use Rattle.version.specs.Limits.{scope, nameFits};
+ghost use Rattle.version.specs.Limits.{present, nameFits};
 ghost use Rattle.job.specs.Lines.{placesFit, stepFits, placeList, variableList, listsFit, doneRows};
 
 fn name_fits(n: u32) -> bool
-    ensures { λ r. ⌜ r ≡ nameFits scope n ⌝ }
+    ensures { λ r. ⌜ r ≡ nameFits present n ⌝ }
 {
-    Version::SCOPE.name_fits(n as u64)
+    Version::PRESENT.name_fits(n as u64)
 }
 
 pub fn step_fits(places: u64, s: Step) -> bool
@@ -55,7 +55,7 @@ pub fn places_fit(n: u64) -> bool
 // The done lines; the first is on `line`.
 pub fn check_done(done: &[u32], line: u64) -> Outcome
     requires { ⌜ line ≤ 1000 ⌝ }
-    ensures { λ o. ⌜ o ≡ first (doneRows scope line 0 (now (done .entry))) ⌝ }
+    ensures { λ o. ⌜ o ≡ first (doneRows present line 0 (now (done .entry))) ⌝ }
 {
     let mut i = 0;
     while i < done.len() {

@@ -11,7 +11,7 @@ use Rattle.route.specs.declared.Route.{Route}
 use Rattle.flat.proofs.FlatSteps.{length-flat, flat-take}
 use Rattle.job.specs.Job.{flatJob}
 use Rattle.job.specs.Lines.{LinesPass}
-use Rattle.version.specs.Limits.{scope}
+use Rattle.version.specs.Limits.{present}
 use Rattle.facts.specs.Forms.{recordOf}
 use Rattle.facts.specs.Facts.{readOf, jobRead}
 use Rattle.facts.specs.SheetRows.{filled, factsRecord}
@@ -31,23 +31,23 @@ filled-length n l h =
 old-records : (s : List ℕ) → readOf s .number ≡ 0 → length (readOf s .old .steps) ≡ 64
 unfolding factsRecord
 old-records s z =
-    let r = reads-as scope s z in
+    let r = reads-as present s z in
     ap (λ (y : Sheet). length (y .old .steps)) (r .facts)
     ∙ filled-length _ _ (omega (
       arith,
       length-map (r .lines .old) recordOf,
-      lines-fine scope (r .lines) (r .passes) .oldFew,
+      lines-fine present (r .lines) (r .passes) .oldFew,
     ))
 
 new-records : (s : List ℕ) → readOf s .number ≡ 0 → length (readOf s .new .steps) ≡ 64
 unfolding factsRecord
 new-records s z =
-    let r = reads-as scope s z in
+    let r = reads-as present s z in
     ap (λ (y : Sheet). length (y .new .steps)) (r .facts)
     ∙ filled-length _ _ (omega (
       arith,
       length-map (r .lines .new) recordOf,
-      lines-fine scope (r .lines) (r .passes) .newFew,
+      lines-fine present (r .lines) (r .passes) .newFew,
     ))
 
 stepsOf-short : (r : Route) → r .len ≤ 64 → take (r .len) (r .steps) ≡ stepsOf r
@@ -74,7 +74,7 @@ module _ (s : List ℕ) (r : Counts) (old new done : List ℕ) (k : ReadTo s r o
   new-room = omega (arith, length-flat new, ap length (k .new-steps z) ∙ new-records s reads, k .new-few)
 
   pub done-room : r .«done_len» ≤ length done
-  done-room = omega (arith, ap length (k .done-names z) ∙ read-dones scope s .room, k .done-few)
+  done-room = omega (arith, ap length (k .done-names z) ∙ read-dones present s .room, k .done-few)
 
   pub read-job : flatJob (r .«old_places») (take (4 * r .«old_len») old) (r .«new_places») (take (4 * r .«new_len») new)
       (take (r .«done_len») done) ≡ jobRead (readOf s)

@@ -161,18 +161,18 @@ module _ (v : Version) (s : List ℕ) (old new : List ℕ) (done₀ done : List 
 
 -- ---- the sheet by value, and the job part
 
-module _ (s : List ℕ) (r : Counts) (old new done : List ℕ) (h : ReadTo s r old new done) where
-  pub sheet-refused : (x : Sheet) → (r .number ≡ 0 → ⊥) → x ≡ failed (r .number) (r .second) → x ≡ readOf s
+module _ (v : Version) (s : List ℕ) (r : Counts) (old new done : List ℕ) (h : ReadInto v s r old new done) where
+  pub sheet-refused : (x : Sheet) → (r .number ≡ 0 → ⊥) → x ≡ failed (r .number) (r .second) → x ≡ readBy v s
   sheet-refused x far is = is ∙ sym (h .refused far)
 
   pub sheet-read : (a b : Route) → r .number ≡ 0 → a ≡ routeIn (r .«old_places») (r .«old_len») (stepsIn old)
       → b ≡ routeIn (r .«new_places») (r .«new_len») (stepsIn new)
-      → record { number = 0; second = 0; old = a; new = b; «done_len» = r .«done_len»; done = done } ≡ readOf s
+      → record { number = 0; second = 0; old = a; new = b; «done_len» = r .«done_len»; done = done } ≡ readBy v s
   sheet-read a b z p q =
-      let number : 0 ≡ readOf s .number = sym z ∙ h .number in
-      let second : 0 ≡ readOf s .second = sym (h .none z) ∙ h .second in
-      let old-route : a ≡ readOf s .old = p ∙ (λ j. routeIn (h .old-places j) (h .old-len j) (h .old-steps z j)) in
-      let new-route : b ≡ readOf s .new = q ∙ (λ j. routeIn (h .new-places j) (h .new-len j) (h .new-steps z j)) in
+      let number : 0 ≡ readBy v s .number = sym z ∙ h .number in
+      let second : 0 ≡ readBy v s .second = sym (h .none z) ∙ h .second in
+      let old-route : a ≡ readBy v s .old = p ∙ (λ j. routeIn (h .old-places j) (h .old-len j) (h .old-steps z j)) in
+      let new-route : b ≡ readBy v s .new = q ∙ (λ j. routeIn (h .new-places j) (h .new-len j) (h .new-steps z j)) in
       λ j. record {
         number = number j;
         second = second j;
@@ -182,6 +182,7 @@ module _ (s : List ℕ) (r : Counts) (old new done : List ℕ) (h : ReadTo s r o
         done = h .done-names z j;
       }
 
+module _ (s : List ℕ) (r : Counts) (old new done : List ℕ) (h : ReadTo s r old new done) where
   pub part-refused : (r .number ≡ 0 → ⊥) → _≡_ {A = List ℕ} [] (jobPart s)
   unfolding jobPart
   part-refused far =

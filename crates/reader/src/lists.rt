@@ -8,7 +8,7 @@ ghost use Rattle.version.specs.Limits.{Limits};
 ghost use Rattle.reader.specs.inner.Read.{ReadInto, ReadTo};
 
 // Reading by a version. The lists hold 0 throughout.
-fn read_by(
+pub(crate) fn read_lists_by(
     v: Version,
     sheet: &[u8],
     old: &mut [u64; 256],
@@ -45,7 +45,7 @@ fn read_by(
     }
 }
 
-// By 01's version.
+// By the present version.
 pub fn read_lists(
     sheet: &[u8],
     old: &mut [u64; 256],
@@ -57,5 +57,5 @@ pub fn read_lists(
     requires { ⌜ now done ≡ replicate 64 0 ⌝ }
     ensures { λ r. ⌜ ReadTo (now (sheet .entry)) r (now (old .exit)) (now (new .exit)) (now (done .exit)) ⌝ }
 {
-    read_by(Version::SCOPE, sheet, old, new, done)
+    read_lists_by(Version::PRESENT, sheet, old, new, done)
 }

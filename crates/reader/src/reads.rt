@@ -1,10 +1,12 @@
 // Reading a sheet by value.
-use crate::lists::read_lists;
+use crate::lists::read_lists_by;
 use facts::Sheet;
 use route::Route;
+use version::Version;
 ghost use mathlib.Core.Path.{_≡_};
 ghost use Rattle.flat.specs.Flat.{stepsIn};
-ghost use Rattle.facts.specs.Facts.{readOf};
+ghost use Rattle.version.specs.Limits.{scope, Limits};
+ghost use Rattle.facts.specs.Facts.{readBy, readOf};
 ghost use Rattle.reader.specs.inner.Read.{routeIn};
 
 // A route by value of the steps in 256 numbers.
@@ -23,13 +25,14 @@ fn route_in(places: u64, len: usize, list: &[u64; 256]) -> Route
     r
 }
 
-pub fn read(sheet: &[u8]) -> Sheet
-    ensures { λ r. ⌜ r ≡ readOf (now (sheet .entry)) ⌝ }
+fn read_by(v: Version, sheet: &[u8]) -> Sheet
+    requires { ⌜ Limits v ⌝ }
+    ensures { λ r. ⌜ r ≡ readBy v (now (sheet .entry)) ⌝ }
 {
     let mut old = [0u64; 256];
     let mut new = [0u64; 256];
     let mut done = [0u32; 64];
-    let c = read_lists(sheet, &mut old, &mut new, &mut done);
+    let c = read_lists_by(v, sheet, &mut old, &mut new, &mut done);
     if c.number != 0 {
         return Sheet::refused(c.number, c.second);
     }
@@ -43,4 +46,18 @@ pub fn read(sheet: &[u8]) -> Sheet
         done_len: c.done_len,
         done,
     }
+}
+
+// The operation read, by value.
+pub fn read(sheet: &[u8]) -> Sheet
+    ensures { λ r. ⌜ r ≡ readOf (now (sheet .entry)) ⌝ }
+{
+    read_by(Version::PRESENT, sheet)
+}
+
+// A sheet of 01's layout.
+pub fn read_scope(sheet: &[u8]) -> Sheet
+    ensures { λ r. ⌜ r ≡ readBy scope (now (sheet .entry)) ⌝ }
+{
+    read_by(Version::SCOPE, sheet)
 }

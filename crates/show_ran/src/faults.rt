@@ -32,13 +32,14 @@ pub fn show_routes() {
     say_old(b"2 no old place", none);
     say_new(b"2 no new place", none);
     say_two(b"2 done 0", 10, 0);
-    say_one(b"2 done 65536", 65536);
-    say_one(b"8 done 65535", 65535);
+    say_one(b"8 done 65536", 65536);
+    say_one(b"8 done 4294967295", 4294967295);
 }
 
 pub fn show_steps() {
     say_step(b"2 name 0", step(0, 1, 2, 0, 0));
-    say_step(b"2 name 65536", step(65536, 1, 2, 0, 0));
+    say_step(b"0 name 65536", step(65536, 1, 2, 0, 0));
+    say_step(b"0 name 4294967295", step(4294967295, 1, 2, 0, 0));
     say_step(b"2 place not below N", step(1, 1, 4, 0, 0));
     say_step(b"3 in empty", step(1, 0, 2, 0, 0));
     say_step(b"3 out empty", step(1, 1, 0, 0, 0));

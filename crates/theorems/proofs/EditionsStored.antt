@@ -12,7 +12,7 @@ use Rattle.refusal.specs.Rows.{first}
 use Rattle.refusal.specs.declared.Outcome.{Outcome}
 use Rattle.refusal.proofs.Rows.{row-passes, row-passed, rows-pass, rows-refuse, rows-passed, head-passes, head-passed}
 use Rattle.refusal.proofs.Rows.{rows-end, first-clean}
-use Rattle.version.specs.Limits.{scope}
+use Rattle.version.specs.Limits.{present}
 use Rattle.route.specs.Steps.{stepsOf}
 use Rattle.route.specs.declared.Step.{Step}
 use Rattle.route.specs.declared.Route.{Route}
@@ -97,7 +97,7 @@ pass-last a b e = go (eqb (first a .number) 0) refl
 -- ---- a job between two routes that meet these rows is refused by none of them
 
 pub routes-pass : (old new : Route) → Meets old → Meets new → (done : List ℕ)
-    → checked (jobOf old new done) ≡ first (doneRows scope (jobLine (jobOf old new done) + 1) 0 done)
+    → checked (jobOf old new done) ≡ first (doneRows present (jobLine (jobOf old new done) + 1) 0 done)
 unfolding checked lineRows
 routes-pass old new a b done =
     let j = jobOf old new done in

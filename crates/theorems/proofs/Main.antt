@@ -6,8 +6,9 @@ use mathlib.Core.Logic.{_↔_}
 use mathlib.Core.Bool.{true, false}
 use mathlib.Core.List.{List, [], _∷_, _++_, map}
 use mathlib.Core.Option.{some}
-use Prim.Native.Nat.{ℕ, _+_, _≤_, _<_}
+use Prim.Native.Nat.{ℕ, _+_, _^_, _≤_, _<_}
 use lib.ListN.{length, getD, drop}
+use borrow.Author.Tests.{eq-eqb}
 use Rattle.mask.specs.Mask.{has}
 use Rattle.refusal.specs.Rows.{first}
 use Rattle.route.specs.Steps.{blank, stepsOf}
@@ -31,21 +32,25 @@ use Rattle.shelf.specs.Put.{stored}
 use Rattle.shelf.specs.Judge.{judgedBetween, workBetween}
 use Rattle.shelf.specs.declared.Edition.{Edition}
 use Rattle.shelf.specs.declared.Shelf.{Shelf}
-use Rattle.version.specs.Limits.{scope}
-use Rattle.version.proofs.Limits.{scope-limits}
+use Rattle.version.specs.Limits.{scope, present, nameFits, Limits}
+use Rattle.version.specs.declared.Version.{Version}
+use Rattle.version.proofs.Limits.{scope-limits, present-limits, fits-iff, word-fits}
 use Rattle.layout.specs.Text.{jobText}
 use Rattle.layout.specs.Begins.{IsSheet, FirstBroken}
-use Rattle.facts.specs.Facts.{factsOf, readOf}
+use Rattle.facts.specs.Facts.{factsOf, readBy, readOf, jobRead}
 use Rattle.facts.specs.JobPart.{jobPart}
-use Rattle.facts.specs.SheetRows.{sheetOf}
-use Rattle.facts.specs.LinesOf.{AllWide, asRecord, asRecords}
-use Rattle.facts.proofs.RowOne.{row-1-iff, row-1-offset, read-sheet, sheet-facts}
+use Rattle.facts.specs.SheetRows.{sheetRows, sheetOf}
+use Rattle.facts.specs.LinesOf.{linesOf, AllWide, asRecord, asRecords}
+use Rattle.facts.proofs.RowOne.{row-1-iff, row-1-offset, read-sheet, sheet-facts, sheet-lines}
+use Rattle.facts.proofs.Wider.{wider-reads}
 use Rattle.facts.proofs.PartText.{job-part-text}
 use Rattle.facts.proofs.Widths.{records-own}
+use Rattle.writer.specs.Written.{written, longest}
 use Rattle.writer.specs.Writes.{wrote}
+use Rattle.writer.proofs.Inverses as W
 use Rattle.writer.proofs.RoundTrips.{write-reads}
 use Rattle.writer.proofs.Bound.{bounded}
-use Rattle.writer.proofs.Longest.{longest-reads}
+use Rattle.writer.proofs.Longest.{scope-attained, present-attained}
 use Rattle.listing.specs.Listing.{listing}
 use Rattle.ops.specs.Print.{sheetAnswer, listingOf, printed, outPrinted}
 use Rattle.ops.specs.SheetTry.{triedSheet}
@@ -74,36 +79,50 @@ use Rattle.theorems.proofs.EditionsJudged.{shelf-fourteen, shelf-bad}
 use Rattle.theorems.proofs.EditionsStored.{stored-meets, meets-found, routes-pass}
 use Rattle.theorems.proofs.Demand3.{demand3}
 
--- ---- "1: layout broken": "offset of the first byte where no sheet begins so, or the length if it ends early"
+-- ---- "1: layout broken": "offset of the first byte where no sheet begins so, or the length if it ends early". The
+-- layout has versions, 01's and the present one, which differ in their limits. What is said of a version holds for
+-- both; the operations read and write by the present one.
+
+pub both-versions-keep-to-limits : Limits scope × Limits present
+both-versions-keep-to-limits = (scope-limits, present-limits)
 
 -- reading answers 1 exactly where the bytes are no sheet
-pub row-1-exactly : (s : List ℕ) → (readOf s .number ≡ 1) ↔ (IsSheet scope s → ⊥)
-row-1-exactly = row-1-iff scope-limits
+pub row-1-exactly : {v : Version} → Limits v → (s : List ℕ) → (readBy v s .number ≡ 1) ↔ (IsSheet v s → ⊥)
+row-1-exactly = row-1-iff
 
 -- and its second number is that offset
-pub row-1-second : (s : List ℕ) → readOf s .number ≡ 1 → FirstBroken scope s (readOf s .second)
-row-1-second = row-1-offset scope-limits
+pub row-1-second : {v : Version} → Limits v → (s : List ℕ) → readBy v s .number ≡ 1
+    → FirstBroken v s (readBy v s .second)
+row-1-second = row-1-offset
 
 -- sound: what isn't answered with 1 is a sheet
-pub reading-is-sound : (s : List ℕ) → (readOf s .number ≡ 1 → ⊥) → IsSheet scope s
-reading-is-sound = read-sheet scope-limits
+pub reading-is-sound : {v : Version} → Limits v → (s : List ℕ) → (readBy v s .number ≡ 1 → ⊥) → IsSheet v s
+reading-is-sound = read-sheet
 
 -- complete: a sheet is answered by the rows of its lines
-pub reading-is-complete : (s : List ℕ) (x : IsSheet scope s) → readOf s ≡ factsOf scope (x .lines)
-reading-is-complete = sheet-facts scope-limits
+pub reading-is-complete : {v : Version} → Limits v → (s : List ℕ) (x : IsSheet v s) → readBy v s ≡ factsOf v (x .lines)
+reading-is-complete = sheet-facts
+
+-- and where it reads, its records have its lines: no number is cut down
+pub reading-keeps-the-lines : {v : Version} → Limits v → (s : List ℕ) (x : IsSheet v s) → readBy v s .number ≡ 0
+    → linesOf (jobRead (readBy v s)) ≡ x .lines
+reading-keeps-the-lines = sheet-lines
 
 -- ---- "A sheet that reads also has its job part lent back": "the caller's own bytes from `(job)` to the end"
 
 pub job-part-is-its-text : (s : List ℕ) → readOf s .number ≡ 0 → jobPart s ≡ jobText (jobOn s .done)
 job-part-is-its-text = job-part-text
 
--- ---- "No sheet that reads is longer than 18,136 bytes."
+-- ---- "No sheet that reads is longer than 18,136 bytes", and in 02 "a sheet that reads has at most 19,096 bytes"
 
-pub no-sheet-is-longer : (s : List ℕ) → readOf s .number ≡ 0 → length s ≤ 18136
-no-sheet-is-longer = bounded scope-limits
+pub no-sheet-is-longer : {v : Version} → Limits v → (s : List ℕ) → readBy v s .number ≡ 0 → length s ≤ longest v
+no-sheet-is-longer = bounded
 
-pub one-is-as-long : (s : List ℕ) × (length s ≡ 18136) × (readOf s .number ≡ 0)
-one-is-as-long = longest-reads
+pub one-is-as-long : (s : List ℕ) × (length s ≡ 19096) × (readOf s .number ≡ 0)
+one-is-as-long = present-attained
+
+pub one-of-01-is-as-long : (s : List ℕ) × (length s ≡ 18136) × (readBy scope s .number ≡ 0)
+one-of-01-is-as-long = scope-attained
 
 -- ---- "Writing takes the same facts as records: each route is a lent list of step records"
 
@@ -135,6 +154,30 @@ lists-hold-the-sheet = read-lent
 pub lists-are-written : (s : List ℕ) (old new : List Step) (done : List ℕ) → countsRead s old new done .number ≡ 0
     → (out : List ℕ) → length s ≤ length out → WritesBytes (jobInto s old new done) s out
 lists-are-written = read-then-write-lent
+
+-- and in every version: what it reads is written byte for byte, and what is written of records whose lines pass its
+-- rows it reads as these records
+pub each-version-is-written : {v : Version} → Limits v → (s : List ℕ) → readBy v s .number ≡ 0
+    → written (jobRead (readBy v s)) ≡ s
+each-version-is-written = W.read-then-write
+
+pub each-version-is-read : {v : Version} → Limits v → (j : Job) → AllWide (j .old) → AllWide (j .new)
+    → first (sheetRows v (linesOf j)) .number ≡ 0 → readBy v (written j) ≡ sheetOf j
+each-version-is-read limits j old new pass = W.lines-then-read limits j old new (eq-eqb _ 0 pass)
+
+-- ---- 02, "Longer step names": "A name may be 1 to 4,294,967,295 and every number up to ten digits long."
+
+pub a-name-is-in-its-range : (n : ℕ) → (nameFits present n ≡ true) ↔ ((1 ≤ n) × (n ≤ 4294967295))
+a-name-is-in-its-range = fits-iff present
+
+-- so of a record's names, which have 32 bits, only 0 is outside
+pub only-0-is-outside : (n : ℕ) → n < 2 ^ 32 → (nameFits present n ≡ true) ↔ (n ≡ 0 → ⊥)
+only-0-is-outside = word-fits
+
+-- what a version reads, a wider one reads as the same facts: every sheet of 01's reads as before
+pub a-wider-version-reads-the-same : {v w : Version} → v .greatest ≤ w .greatest → Limits v → Limits w → (s : List ℕ)
+    → readBy v s .number ≡ 0 → readBy w s ≡ readBy v s
+a-wider-version-reads-the-same {v} {w} = wider-reads v w
 
 -- ---- "Kept: the last writer in the done list of each new-route variable, and all that these need, over and over."
 
@@ -289,7 +332,7 @@ pub found-routes-meet-the-rows : (l : List Edition) → AllMeet l → (n : ℕ) 
 found-routes-meet-the-rows = meets-found
 
 pub routes-that-meet-are-not-refused : (old new : Route) → Meets old → Meets new → (done : List ℕ)
-    → checked (jobOf old new done) ≡ first (doneRows scope (jobLine (jobOf old new done) + 1) 0 done)
+    → checked (jobOf old new done) ≡ first (doneRows present (jobLine (jobOf old new done) + 1) 0 done)
 routes-that-meet-are-not-refused = routes-pass
 
 -- "21 .. with 1 .. a shelf handed in with over 8 editions or with numbers that don't rise within 1 to 65,535"

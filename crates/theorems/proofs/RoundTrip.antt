@@ -12,7 +12,7 @@ use Rattle.refusal.proofs.Rows.{head-passed, row-passed, cond-zero-elim}
 use Rattle.route.specs.declared.Step.{Step}
 use Rattle.job.specs.Job.{Job}
 use Rattle.records.specs.Overlaid.{overlaid}
-use Rattle.version.specs.Limits.{scope}
+use Rattle.version.specs.Limits.{present}
 use Rattle.facts.specs.Facts.{readOf, jobRead}
 use Rattle.facts.specs.SheetRows.{filled, sheetOf}
 use Rattle.facts.specs.LinesOf.{asRecord, asRecords}
@@ -105,7 +105,7 @@ module _ (s : List ℕ) (old new : List Step) (done : List ℕ) (ok : countsRead
   success = took (readOf s) (length old) (length new) (length done) ok
 
   abbrev sheet-is : readOf s ≡ sheetOf (jobRead (readOf s))
-  sheet-is = read-sheetOf scope s (success .reads)
+  sheet-is = read-sheetOf present s (success .reads)
 
   -- the entries filled are the sheet's job
   pub read-lent : ReadsInto s (jobRead (readOf s)) old new done

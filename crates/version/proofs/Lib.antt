@@ -1,3 +1,3 @@
--- What the limits of a version give, and that 01's version keeps to them.
+-- What the limits of a version give, and that both versions keep to them.
 pub mod Tens
 pub mod Limits

@@ -15,6 +15,11 @@ impl Version {
         digits: 5,
         greatest: 65535,
     };
+    // The present one: ten digits, and names to 4,294,967,295.
+    pub const PRESENT: Version = Version {
+        digits: 10,
+        greatest: 4294967295,
+    };
 
     pub fn name_fits(self, n: u64) -> bool
         ensures { λ r. ⌜ r ≡ nameFits self n ⌝ }

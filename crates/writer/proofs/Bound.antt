@@ -1,5 +1,5 @@
--- "No sheet that reads is longer than 18,136 bytes": the longest step line has 130 bytes besides its name, a head 9,
--- the job line 6, a done line 8 besides its name. Assumes nothing.
+-- No sheet that reads is longer than its version allows: the longest step line has 130 bytes besides its name, a head
+-- 9, the job line 6, a done line 8 besides its name. Assumes nothing.
 use mathlib.Core.Path.{_≡_, refl, sym, ap, _∙_, subst}
 use mathlib.Core.Bool.{Bool, true, false, cond}
 use mathlib.Core.List.{List, [], _∷_}
@@ -12,10 +12,10 @@ use borrow.Author.Tests.{ltb-true, ltb-false}
 use Rattle.mask.proofs.Truth.{both}
 use Rattle.refusal.specs.Rows.{first}
 use Rattle.refusal.specs.declared.Outcome.{Outcome}
-use Rattle.version.specs.Limits.{scope, Limits}
+use Rattle.version.specs.Limits.{present, Limits}
 use Rattle.version.specs.declared.Version.{Version}
 use Rattle.version.proofs.Tens.{tenth}
-use Rattle.version.proofs.Limits.{scope-limits, name-short}
+use Rattle.version.proofs.Limits.{present-limits, name-short}
 use Rattle.job.specs.Lines.{lineRows}
 use Rattle.layout.specs.Words.{spelling}
 use Rattle.layout.specs.Text.{Form, Lines, digits, number, entries, listed, stepLine, wordLine, jobLine, stepLines}
@@ -139,11 +139,11 @@ bounded {v} limits s z =
     (long-text v limits (r .lines) (lines-fine v (r .lines) (r .passes)))
 
 -- nor is a text that is written
-pub written-length : (j : J.Job) → Passes (lineRows j) → length (written j) ≤ longest scope
+pub written-length : (j : J.Job) → Passes (lineRows j) → length (written j) ≤ longest present
 unfolding written
 written-length j h =
     let (old, new) = rows-wide j h in
-    let passes : Passes (sheetRows scope (linesOf (asRecords j))) =
+    let passes : Passes (sheetRows present (linesOf (asRecords j))) =
     ap (λ (rows : List Outcome). eqb (first rows .number) 0) (tie (asRecords j) old new ∙ rows-as-records j) ∙ h in
-    subst (λ (x : Lines). length (text x) ≤ longest scope) (lines-same j)
-    (long-text scope scope-limits (linesOf (asRecords j)) (lines-fine scope (linesOf (asRecords j)) passes))
+    subst (λ (x : Lines). length (text x) ≤ longest present) (lines-same j)
+    (long-text present present-limits (linesOf (asRecords j)) (lines-fine present (linesOf (asRecords j)) passes))

@@ -1,9 +1,8 @@
 -- Reading and writing undo each other.
 -- Assumes nothing.
 use mathlib.Core.Path.{_≡_, sym, ap, _∙_}
-use mathlib.Core.Bool.{true, false, false≢true}
 use mathlib.Core.List.{List, _++_, map}
-use Prim.Native.Nat.{ℕ, _+_, _-_, _≤_}
+use Prim.Native.Nat.{ℕ, _+_, _-_}
 use native.Mathlib.Omega.{arith}
 use lib.Dec.{eqb}
 use lib.ListN.{length, replicate, length-map}
@@ -12,21 +11,20 @@ use Rattle.refusal.specs.Rows.{first}
 use Rattle.refusal.specs.declared.Outcome.{Outcome}
 use Rattle.version.specs.Limits.{Limits}
 use Rattle.version.specs.declared.Version.{Version}
-use Rattle.version.proofs.Limits.{scope-limits}
+use Rattle.version.proofs.Limits.{present-limits}
 use Rattle.job.specs.Job.{Job}
 use Rattle.job.specs.Lines.{lineRows}
 use Rattle.layout.specs.Text.{Lines, text}
-use Rattle.layout.proofs.Complete.{complete}
 use Rattle.layout.proofs.Sound.{sound}
 use Rattle.facts.specs.Forms.{recordOf}
-use Rattle.facts.specs.Facts.{factsOf, readBy, readOf, jobRead}
+use Rattle.facts.specs.Facts.{readBy, readOf, jobRead}
 use Rattle.facts.specs.SheetRows.{sheetRows, filled, factsRecord, sheetOf}
 use Rattle.facts.specs.declared.Sheet.{Sheet}
-use Rattle.facts.proofs.RowsFold.{Stand, stands, fails, facts-stand, filled-steps}
+use Rattle.facts.proofs.RowsFold.{filled-steps}
 use Rattle.facts.specs.LinesOf.{linesOf, AllWide, asRecords}
-use Rattle.facts.proofs.PassingLines.{Passes, AllLines, lines-fine, lines-short}
+use Rattle.facts.proofs.PassingLines.{Passes, AllLines, lines-fine}
 use Rattle.facts.proofs.Ties.{tie}
-use Rattle.facts.proofs.Records.{ReadAs, records-forms, lines-back, read-is, reads-as}
+use Rattle.facts.proofs.Records.{ReadAs, records-forms, lines-back, reads-as, text-reads}
 use Rattle.facts.proofs.Widths.{lines-same, rows-as-records, rows-wide}
 use Rattle.writer.specs.Written.{written}
 
@@ -72,21 +70,12 @@ read-sheetOf v s z = r .facts ∙ ap sheetOf (sym (ap jobRead (r .facts) ∙ sam
           done = take-append-seam (x .done) (replicate (64 - length (x .done)) 0) i;
         }
 
-pub standing : (v : Version) (x : Lines) → Passes (sheetRows v x) → factsOf v x ≡ factsRecord x
-standing v x h = go (facts-stand v x)
-  where
-    go : Stand (factsOf v x) (sheetRows v x) (factsRecord x) (length (x .done) ≤ 64) → factsOf v x ≡ factsRecord x
-    go (stands e q few) = q
-    go (fails e q) = absurd (false≢true (sym e ∙ h))
-
 -- what is written of records whose lines a version allows, it reads back
 pub lines-then-read : {v : Version} → Limits v → (j : Job) → AllWide (j .old) → AllWide (j .new)
     → Passes (sheetRows v (linesOf j)) → readBy v (written j) ≡ sheetOf j
 unfolding written linesOf factsRecord
 lines-then-read {v} limits j old new passes =
-    read-is v (text (linesOf j)) (linesOf j) (complete v limits (linesOf j)
-    (lines-short v limits (linesOf j) (lines-fine v (linesOf j) passes)))
-    ∙ standing v (linesOf j) passes
+    text-reads limits (linesOf j) passes
     ∙ (λ i. record {
       number = 0;
       second = 0;
@@ -103,5 +92,5 @@ unfolding written
 write-then-read j h =
     let (old, new) = rows-wide j h in
     ap (λ (x : Lines). readOf (text x)) (sym (lines-same j))
-    ∙ lines-then-read scope-limits (asRecords j) old new
+    ∙ lines-then-read present-limits (asRecords j) old new
     (ap (λ (rows : List Outcome). eqb (first rows .number) 0) (tie (asRecords j) old new ∙ rows-as-records j) ∙ h)

@@ -6,7 +6,7 @@ use Prim.Native.Nat.{ℕ, _+_, _≤_}
 use lib.ListN.{length, take, drop}
 use lib.Seq.{take-append-seam}
 use borrow.Author.Tests.{eq-eqb}
-use Rattle.version.proofs.Limits.{scope-limits}
+use Rattle.version.proofs.Limits.{present-limits}
 use Rattle.job.specs.Job.{Job}
 use Rattle.job.specs.Lines.{lineRows}
 use Rattle.facts.specs.Facts.{readOf, jobRead}
@@ -50,7 +50,7 @@ pub read-writes : (s o : List ℕ) → readOf s .number ≡ 0 → length s ≤ l
     × (outAfter (jobRead (readOf s)) o ≡ s ++ drop (length s) o)
 read-writes s o z room =
     let j : Job = jobRead (readOf s) in
-    let same : written j ≡ s = read-then-write scope-limits s z in (
+    let same : written j ≡ s = read-then-write present-limits s z in (
       sym (text-answer j (read-lines s z) (length o) _
           (sym (fits-answer s (length o) room) ∙ ap (λ (t : List ℕ). wroteText t (length o)) (sym same))),
       sym (text-out j (read-lines s z) o _ (sym (fits-out s o room) ∙ ap (λ (t : List ℕ). outWith t o) (sym same))),

@@ -9,7 +9,7 @@ use Rattle.facts.specs.LinesOf.{linesOf}
 unfoldable pub written : Job → List ℕ
 written j = text (linesOf j)
 
--- "No sheet that reads is longer than 18,136 bytes": in a version 192 names have all its digits, and the rest has
--- 17,176 bytes
+-- "No sheet that reads is longer than 18,136 bytes", and in 02 "a sheet that reads has at most 19,096 bytes": in a
+-- version 192 names have all its digits, and the rest has 17,176 bytes
 abbrev pub longest : Version → ℕ
 longest v = 17176 + 192 * v .digits

@@ -82,10 +82,10 @@ fn at_the_limits() {
 /// One step that loops on its place, done 64 times: the longest rows.
 #[test]
 fn on_a_job_with_long_rows() {
-    let route = "(step 65535 (in 0) (out 1) (read) (write))\n(step 7 (in 1) (out 1) (read 0) (write 0 31))\n";
+    let route = "(step 4294967295 (in 0) (out 1) (read) (write))\n(step 7 (in 1) (out 1) (read 0) (write 0 31))\n";
     for done in [1, 15, 16, 17, 63] {
         let sheet = format!(
-            "(old 2)\n{route}(new 2)\n{route}(job)\n(done 65535)\n{}",
+            "(old 2)\n{route}(new 2)\n{route}(job)\n(done 4294967295)\n{}",
             "(done 7)\n".repeat(done)
         );
         same_in_all_slices(sheet.as_bytes());

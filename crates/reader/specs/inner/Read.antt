@@ -5,7 +5,7 @@ use Prim.Native.Nat.{ℕ, _≤_}
 use Rattle.flat.specs.Flat.{stepsIn}
 use Rattle.route.specs.declared.Step.{Step}
 use Rattle.route.specs.declared.Route.{Route}
-use Rattle.version.specs.Limits.{scope}
+use Rattle.version.specs.Limits.{present}
 use Rattle.version.specs.declared.Version.{Version}
 use Rattle.facts.specs.Facts.{failed, readBy}
 use Rattle.reader.specs.declared.Counts.{Counts}
@@ -29,9 +29,9 @@ pub record ReadInto (v : Version) (s : List ℕ) (r : Counts) (old new done : Li
   pub new-steps : r .number ≡ 0 → stepsIn new ≡ readBy v s .new .steps
   pub done-names : r .number ≡ 0 → done ≡ readBy v s .done
 
--- by 01's version
+-- by the present version
 abbrev pub ReadTo : List ℕ → Counts → List ℕ → List ℕ → List ℕ → Type 0
-ReadTo s r old new done = ReadInto scope s r old new done
+ReadTo s r old new done = ReadInto present s r old new done
 
 -- a route by value of these steps
 abbrev pub routeIn : ℕ → ℕ → List Step → Route

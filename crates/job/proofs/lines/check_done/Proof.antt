@@ -5,7 +5,7 @@ use native.Mathlib.Omega.{arith}
 use borrow.Author.Needs.{needs}
 use lib.ListN.{length, drop}
 use Rattle.refusal.specs.Rows.{first}
-use Rattle.version.specs.Limits.{scope}
+use Rattle.version.specs.Limits.{present}
 use Rattle.job.specs.Lines.{doneRows}
 use Rattle.job.proofs.Rows.{done-over, done-refused, done-passed, done-end}
 use Rattle.job.proofs.lines.check_done.Statement.{statement}
@@ -13,8 +13,8 @@ use Rattle.job.proofs.lines.check_done.Tie as tie
 
 abbrev Inv-loop : tie.InvT-loop
 Inv-loop done line i₀ i =
-    (i ≤ length done) × ((i ≤ 64) × (first (doneRows scope (line + i) i (drop i done))
-    ≡ first (doneRows scope line 0 done)))
+    (i ≤ length done) × ((i ≤ 64) × (first (doneRows present (line + i) i (drop i done))
+    ≡ first (doneRows present line 0 done)))
 
 abbrev μ-loop : tie.MeasureT-loop
 μ-loop done line i₀ i = length done - i
@@ -23,7 +23,7 @@ loop-holds : tie.Need-loop-holds Inv-loop μ-loop
 loop-holds c =
     let a = c .before .args in
     let start : a .line + 0 ≡ a .line = omega arith in
-    (omega arith, (omega arith, ap (λ (n : ℕ). first (doneRows scope n 0 (a .done .now))) start))
+    (omega arith, (omega arith, ap (λ (n : ℕ). first (doneRows present n 0 (a .done .now))) start))
 
 returns : tie.Need-returns Inv-loop μ-loop
 returns c = search (needs, done-over)

@@ -1,8 +1,8 @@
--- `reader::lists::read_by`: part by part.
+-- `reader::lists::read_lists_by`: part by part.
 use Rattle.reader.proofs.WholeSheet.{read-broken, read-refused, read-facts}
 use borrow.Author.Needs.{needs}
-use Rattle.reader.proofs.lists.read_by.Statement.{statement}
-use Rattle.reader.proofs.lists.read_by.Tie as tie
+use Rattle.reader.proofs.lists.read_lists_by.Statement.{statement}
+use Rattle.reader.proofs.lists.read_lists_by.Tie as tie
 
 dones-requires : tie.Need-dones-requires
 dones-requires c κs = let start : tie.Start = search in search needs
@@ -48,7 +48,7 @@ returns-3 c =
     (new-head .new-head .ensures) (new-steps .steps2 .ensures) (job .job-head .ensures) (done .dones .ensures)
     (start .pre .1 .1 .1) (held .if1 .left) (search)
 
-pub read-by-spec : {M : Type 1} → statement M
-read-by-spec = tie.close (tie.spec (λ c κs. search needs) (λ c κs. search needs) (λ c κs. search needs)
+pub read-lists-by-spec : {M : Type 1} → statement M
+read-lists-by-spec = tie.close (tie.spec (λ c κs. search needs) (λ c κs. search needs) (λ c κs. search needs)
     (λ c κs. search needs) (λ c κs. search needs) dones-requires (λ c κs. search needs) returns (λ c κs. search needs)
     returns-2 returns-3)
