@@ -53,8 +53,8 @@ module _ (line i : ℕ) (done : List ℕ) (whole o : Outcome) where
         refused : doneRow present (line + i) i (getD done i 0) ≡ refuse 4 (line + i)
         refused = unfold doneRow in row-refuses _ 4 (line + i) _ (le-ltb i 64 high) refl
 
-    pub done-refused : (f : Bool) → i < 64 → f ≡ nameFits present (getD done i 0) → not f ≡ true → o ≡ refuse 2 (line + i)
-        → o ≡ whole
+    pub done-refused : (f : Bool) → i < 64 → f ≡ nameFits present (getD done i 0) → not f ≡ true
+        → o ≡ refuse 2 (line + i) → o ≡ whole
     done-refused f low is fails to =
         to ∙ sym (head-refuses _ _ refl)
         ∙ ap (λ (x : Outcome). first (x ∷ doneRows present (line + i + 1) (i + 1) (drop (suc i) done))) (sym refused)

@@ -1,5 +1,5 @@
--- The bound is met: in each version a sheet as long as its bound reads. Each route has 64 steps, each with a name of all
--- its digits and four lists of eight entries of two digits; 64 such names are done. Its length and its rows compute;
+-- The bound is met: in each version a sheet as long as its bound reads. Each route has 64 steps, each with a name of
+-- all digits and four lists of eight entries of two digits; 64 such names are done. Its length and its rows compute;
 -- that it reads follows by laws. Assumes nothing.
 use mathlib.Core.Path.{_≡_, refl, ap}
 use mathlib.Core.List.{List, [], _∷_, map}
