@@ -16,7 +16,7 @@ impl<'a> Job<'a> {
     /// The job of the sheet, by the rows to 9.
     pub fn of(sheet: &'a Sheet) -> Result<Job<'a>, Refusal> {
         net::run(sheet)?;
-        let step = |name: &u32| sheet.old.step(*name);
+        let step = |name: &u64| sheet.old.step(*name);
         // Row 8 has found every name.
         let done: Vec<&Step> = sheet.done.iter().filter_map(step).collect();
         let kept = slice::kept(&done, &sheet.new);

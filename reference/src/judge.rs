@@ -23,7 +23,7 @@ pub struct Moved {
     pub order: Vec<usize>,
     pub marking: Marking,
     /// Each new-route variable that isn't blank, and its last writer.
-    pub values: Vec<(u32, usize)>,
+    pub values: Vec<(u64, usize)>,
 }
 
 /// Judges the job of these facts: rows 14, 4, 2, 3, 5 and 6 to 13.

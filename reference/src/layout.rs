@@ -61,7 +61,7 @@ impl Reader<'_> {
     }
 
     /// A list: its word, then entries with one space before each.
-    fn list(&mut self, word: &str) -> Result<Vec<u32>, Refusal> {
+    fn list(&mut self, word: &str) -> Result<Vec<u64>, Refusal> {
         self.take(word)?;
         let mut entries = Vec::new();
         while self.peek() == Some(b' ') {
@@ -74,7 +74,7 @@ impl Reader<'_> {
 
     /// One to five digits, and no digit after a leading 0. A digit too many is
     /// not taken, so the layout breaks there: no form goes on with a digit.
-    fn number(&mut self) -> Result<u32, Refusal> {
+    fn number(&mut self) -> Result<u64, Refusal> {
         let first = self.digit().ok_or(self.broken())?;
         let mut value = first;
         let mut digits = 1;
@@ -87,10 +87,10 @@ impl Reader<'_> {
     }
 
     /// Takes a digit, if one is next.
-    fn digit(&mut self) -> Option<u32> {
+    fn digit(&mut self) -> Option<u64> {
         let byte = self.peek().filter(u8::is_ascii_digit)?;
         self.at += 1;
-        Some(u32::from(byte - b'0'))
+        Some(u64::from(byte - b'0'))
     }
 
     /// Takes exactly these bytes.

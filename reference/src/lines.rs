@@ -4,9 +4,9 @@ use crate::refusal::{refuse_if, Refusal};
 use crate::sheet::{Route, Sheet, Step};
 use std::ops::RangeInclusive;
 
-pub const PLACES: RangeInclusive<u32> = 1..=64;
-pub const NAMES: RangeInclusive<u32> = 1..=65_535;
-pub const VARIABLES: RangeInclusive<u32> = 0..=31;
+pub const PLACES: RangeInclusive<u64> = 1..=64;
+pub const NAMES: RangeInclusive<u64> = 1..=65_535;
+pub const VARIABLES: RangeInclusive<u64> = 0..=31;
 pub const MOST_STEPS: usize = 64;
 pub const MOST_DONE: usize = 64;
 pub const MOST_ENTRIES: usize = 8;
@@ -38,7 +38,7 @@ pub fn check_route(route: &Route, head: usize) -> Result<(), Refusal> {
 }
 
 /// Row 2 for a step: a number outside its range, or a place not below N.
-fn out_of_range(step: &Step, places: u32) -> bool {
+fn out_of_range(step: &Step, places: u64) -> bool {
     let mut all_places = step.ins.iter().chain(&step.outs);
     let mut all_variables = step.reads.iter().chain(&step.writes);
     !NAMES.contains(&step.name)

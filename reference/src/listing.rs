@@ -21,7 +21,7 @@ fn moved(facts: &Moved) -> String {
             lines.push(form("after", &[vec![*occurrence], others.clone()].concat()));
         }
     }
-    let places: Vec<u32> = facts.marking.iter().copied().collect();
+    let places: Vec<u64> = facts.marking.iter().copied().collect();
     lines.push(form("order", &facts.order));
     lines.push(form("marking", &places));
     for (variable, writer) in &facts.values {

@@ -6,7 +6,7 @@ use crate::sheet::{Route, Sheet, Step};
 use std::collections::BTreeSet;
 
 /// The places with a token.
-pub type Marking = BTreeSet<u32>;
+pub type Marking = BTreeSet<u64>;
 
 /// The start: a token on each place that is an out-place of no step.
 pub fn start(route: &Route) -> Marking {
@@ -46,7 +46,7 @@ pub fn fire(marking: &Marking, step: &Step) -> Result<Marking, Refusal> {
 
 /// Rows 6 and 7 of one route: a place in no step, no start place.
 pub fn check_places(route: &Route, head: usize) -> Result<(), Refusal> {
-    let used = |place: &u32| {
+    let used = |place: &u64| {
         let mut steps = route.steps.iter();
         steps.any(|step| step.ins.contains(place) || step.outs.contains(place))
     };

@@ -70,7 +70,7 @@ pub fn bytes(dice: &mut Dice) -> Vec<u8> {
 }
 
 /// Names of steps that fire in turn from the route's start, at most so many.
-pub fn run_at_random(route: &Route, length: usize, dice: &mut Dice) -> Vec<u32> {
+pub fn run_at_random(route: &Route, length: usize, dice: &mut Dice) -> Vec<u64> {
     let mut marking = net::start(route);
     let mut names = Vec::new();
     while names.len() < length {
@@ -90,7 +90,7 @@ pub fn run_at_random(route: &Route, length: usize, dice: &mut Dice) -> Vec<u32> 
 
 /// Makes a done list that the old route may not run: a strange name, two
 /// entries swapped, or one left out.
-pub fn spoil(done: &mut Vec<u32>, dice: &mut Dice) {
+pub fn spoil(done: &mut Vec<u64>, dice: &mut Dice) {
     if done.is_empty() {
         return;
     }

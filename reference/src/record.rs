@@ -22,17 +22,17 @@ pub struct RouteByValue {
 }
 
 /// The mask of these bits.
-pub fn mask(bits: impl IntoIterator<Item = u32>) -> u64 {
+pub fn mask(bits: impl IntoIterator<Item = u64>) -> u64 {
     bits.into_iter().fold(0, |mask, bit| mask | 1 << bit)
 }
 
 impl Record {
     /// The record of a step whose numbers are in range.
     pub fn of(step: &Step) -> Record {
-        let places = |list: &[u32]| mask(list.iter().copied());
-        let variables = |list: &[u32]| mask(list.iter().copied()) as u32;
+        let places = |list: &[u64]| mask(list.iter().copied());
+        let variables = |list: &[u64]| mask(list.iter().copied()) as u32;
         Record {
-            name: step.name,
+            name: step.name.try_into().expect("a name in range"),
             ins: places(&step.ins),
             outs: places(&step.outs),
             reads: variables(&step.reads),
@@ -43,7 +43,7 @@ impl Record {
     /// The step of this record, in range or not.
     pub fn step(&self) -> Step {
         Step {
-            name: self.name,
+            name: self.name.into(),
             ins: entries(self.ins),
             outs: entries(self.outs),
             reads: entries(self.reads.into()),
@@ -83,7 +83,7 @@ impl RouteByValue {
         let mut records = self.records.to_vec();
         records.resize(taken, Record::default());
         Route {
-            places: self.places,
+            places: self.places.into(),
             steps: records.iter().map(Record::step).collect(),
         }
     }

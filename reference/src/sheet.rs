@@ -7,31 +7,32 @@ use crate::refusal::{refuse_if, Refusal};
 /// A step: its name, its places, and the variables read and written.
 #[derive(Clone, Debug, PartialEq, Eq)]
 pub struct Step {
-    pub name: u32,
-    pub ins: Vec<u32>,
-    pub outs: Vec<u32>,
-    pub reads: Vec<u32>,
-    pub writes: Vec<u32>,
+    pub name: u64,
+    pub ins: Vec<u64>,
+    pub outs: Vec<u64>,
+    pub reads: Vec<u64>,
+    pub writes: Vec<u64>,
 }
 
 /// A route: the number N of its places, and its steps.
 #[derive(Clone, Debug, PartialEq, Eq)]
 pub struct Route {
-    pub places: u32,
+    pub places: u64,
     pub steps: Vec<Step>,
 }
 
-/// The facts of a sheet. They need not be in range: `lines` says whether they are.
+/// The facts of a sheet. They need not be in range: `lines` says whether they are,
+/// of numbers as they were read, which u64 has room for.
 #[derive(Clone, Debug, PartialEq, Eq)]
 pub struct Sheet {
     pub old: Route,
     pub new: Route,
-    pub done: Vec<u32>,
+    pub done: Vec<u64>,
 }
 
 impl Route {
     /// The route's step of this name.
-    pub fn step(&self, name: u32) -> Option<&Step> {
+    pub fn step(&self, name: u64) -> Option<&Step> {
         self.steps.iter().find(|step| step.name == name)
     }
 }
@@ -59,7 +60,7 @@ impl Sheet {
 }
 
 /// The entries of a list that a record holds as a bit mask, place p at bit p.
-pub fn entries(mask: u64) -> Vec<u32> {
+pub fn entries(mask: u64) -> Vec<u64> {
     (0..64).filter(|bit| mask >> bit & 1 == 1).collect()
 }
 

@@ -76,7 +76,7 @@ impl Shelf {
         &self,
         edition: u32,
         target: u32,
-        done: &[u32],
+        done: &[u64],
         work: &mut [u8],
     ) -> Result<Moved, Refusal> {
         refuse_if(work.len() < WORK, 14, 0)?;

@@ -10,26 +10,26 @@ use std::collections::BTreeSet;
 pub type Occurrences = BTreeSet<usize>;
 
 /// The last occurrence before this one that writes the variable.
-pub fn last_writer_before(done: &[&Step], occurrence: usize, variable: u32) -> Option<usize> {
+pub fn last_writer_before(done: &[&Step], occurrence: usize, variable: u64) -> Option<usize> {
     (1..occurrence)
         .rev()
         .find(|&o| done[o - 1].writes.contains(&variable))
 }
 
 /// The last writer of the variable in the whole done list.
-pub fn last_writer(done: &[&Step], variable: u32) -> Option<usize> {
+pub fn last_writer(done: &[&Step], variable: u64) -> Option<usize> {
     last_writer_before(done, done.len() + 1, variable)
 }
 
 /// What an occurrence needs: the last earlier writer of each variable it reads.
 pub fn needs(done: &[&Step], occurrence: usize) -> Occurrences {
     let reads = &done[occurrence - 1].reads;
-    let writer = |variable: &u32| last_writer_before(done, occurrence, *variable);
+    let writer = |variable: &u64| last_writer_before(done, occurrence, *variable);
     reads.iter().filter_map(writer).collect()
 }
 
 /// The route's variables: all that its steps read or write.
-pub fn variables(route: &Route) -> BTreeSet<u32> {
+pub fn variables(route: &Route) -> BTreeSet<u64> {
     let lists = |step: &Step| [step.reads.clone(), step.writes.clone()].concat();
     route.steps.iter().flat_map(lists).collect()
 }

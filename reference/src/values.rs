@@ -7,7 +7,7 @@ use crate::sheet::Route;
 pub type Held = Option<u64>;
 
 /// An occurrence's function for a variable, from the list of what it read.
-pub type Function<'a> = &'a dyn Fn(usize, u32, &[Held]) -> u64;
+pub type Function<'a> = &'a dyn Fn(usize, u64, &[Held]) -> u64;
 
 /// Where a replay ends.
 #[derive(Clone, Debug, PartialEq, Eq)]
@@ -20,7 +20,7 @@ pub struct End {
 }
 
 /// Replays the list on the route, from its start with all variables blank.
-pub fn replay(route: &Route, names: &[u32], list: &[usize], function: Function) -> End {
+pub fn replay(route: &Route, names: &[u64], list: &[usize], function: Function) -> End {
     let mut end = End {
         taken: 0,
         marking: net::start(route),
@@ -33,7 +33,7 @@ pub fn replay(route: &Route, names: &[u32], list: &[usize], function: Function) 
         let Ok(next) = net::fire(&end.marking, step) else {
             break;
         };
-        let held = |variable: &u32| end.variables[*variable as usize];
+        let held = |variable: &u64| end.variables[*variable as usize];
         let read: Vec<Held> = step.reads.iter().map(held).collect();
         for &variable in &step.writes {
             end.variables[variable as usize] = Some(function(occurrence, variable, &read));

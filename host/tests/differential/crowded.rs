@@ -12,7 +12,7 @@ use reference::sheet::{self, Route, Sheet, Step};
 /// again and again.
 fn route(dice: &mut Dice) -> Route {
     let count = [62, 63, 64, 64, 64, 65, 66, 67][dice.below(8)];
-    let step = |number: u32| Step {
+    let step = |number: u64| Step {
         name: number + 1,
         ins: vec![number.min(1)],
         outs: vec![1],
@@ -54,9 +54,9 @@ fn put_fault(step: &mut Step, dice: &mut Dice) {
 }
 
 /// The first step and then any, at times with a strange name.
-fn done(dice: &mut Dice) -> Vec<u32> {
+fn done(dice: &mut Dice) -> Vec<u64> {
     let count = [60, 62, 63, 64, 64, 65, 66, 67][dice.below(8)];
-    let mut names: Vec<u32> = (0..count).map(|_| dice.from_to(2, 62) as u32).collect();
+    let mut names: Vec<u64> = (0..count).map(|_| dice.from_to(2, 62) as u64).collect();
     names[0] = 1;
     for _ in 0..[0, 0, 0, 1, 2][dice.below(5)] {
         let at = near_the_end(count, dice);

@@ -7,13 +7,13 @@ use reference::sheet::{Route, Sheet, Step};
 /// The old route has its steps side by side, all done in any order. The new
 /// route has the same steps and some places that they share.
 pub fn sheet(dice: &mut Dice) -> Sheet {
-    let count = dice.from_to(8, 16) as u32;
-    let step = |number: u32| Step {
+    let count = dice.from_to(8, 16) as u64;
+    let step = |number: u64| Step {
         name: number + 1,
         ins: vec![number],
         outs: vec![count + number],
         reads: match dice.below(6) {
-            0 => vec![dice.below(count as usize) as u32],
+            0 => vec![dice.below(count as usize) as u64],
             _ => vec![],
         },
         writes: vec![number],
@@ -26,7 +26,7 @@ pub fn sheet(dice: &mut Dice) -> Sheet {
     for _ in 0..dice.from_to(1, 6) {
         share_a_place(&mut new, dice);
     }
-    let mut done: Vec<u32> = (1..=count).collect();
+    let mut done: Vec<u64> = (1..=count).collect();
     dice.shuffle(&mut done);
     Sheet { old, new, done }
 }

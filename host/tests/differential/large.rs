@@ -33,8 +33,8 @@ fn net_beside(facts: &Sheet, dice: &mut Dice) -> Route {
         steps: Vec::new(),
     };
     for name in fresh_names(facts, dice) {
-        let middle = net.places + dice.from_to(1, most) as u32;
-        let end = middle + dice.from_to(1, most) as u32;
+        let middle = net.places + dice.from_to(1, most) as u64;
+        let end = middle + dice.from_to(1, most) as u64;
         let (ins, outs) = match net.steps.last() {
             _ if end <= room => ((net.places..middle).collect(), (middle..end).collect()),
             Some(last) => (last.outs.clone(), last.outs.clone()),
@@ -53,16 +53,16 @@ fn net_beside(facts: &Sheet, dice: &mut Dice) -> Route {
 }
 
 /// Names that are in neither route, at most so many that 64 steps aren't passed.
-fn fresh_names(facts: &Sheet, dice: &mut Dice) -> BTreeSet<u32> {
+fn fresh_names(facts: &Sheet, dice: &mut Dice) -> BTreeSet<u64> {
     let count = 64 - facts.old.steps.len().max(facts.new.steps.len());
     let names = (0..dice.below(count + 1)).map(|_| any_name(dice));
-    let fresh = |name: &u32| facts.old.step(*name).is_none() && facts.new.step(*name).is_none();
+    let fresh = |name: &u64| facts.old.step(*name).is_none() && facts.new.step(*name).is_none();
     names.filter(fresh).collect()
 }
 
 /// No variables; so many times in a hundred, one to eight.
-fn some_variables(percent: usize, dice: &mut Dice) -> Vec<u32> {
-    let mut variables: Vec<u32> = (0..32).collect();
+fn some_variables(percent: usize, dice: &mut Dice) -> Vec<u64> {
+    let mut variables: Vec<u64> = (0..32).collect();
     dice.shuffle(&mut variables);
     let some = dice.chance(percent);
     variables.truncate(if some { dice.from_to(1, 8) } else { 0 });
@@ -72,7 +72,7 @@ fn some_variables(percent: usize, dice: &mut Dice) -> Vec<u32> {
 
 /// Puts a net beside the route, on places of its own.
 fn put_beside(route: &mut Route, net: &Route) {
-    let shift = |list: &[u32]| list.iter().map(|place| route.places + place).collect();
+    let shift = |list: &[u64]| list.iter().map(|place| route.places + place).collect();
     let shifted = net.steps.iter().map(|step| Step {
         ins: shift(&step.ins),
         outs: shift(&step.outs),
@@ -84,7 +84,7 @@ fn put_beside(route: &mut Route, net: &Route) {
 
 /// Numbers the places anew, and lists the steps in another order.
 fn number_anew(route: &mut Route, dice: &mut Dice) {
-    let mut number: Vec<u32> = (0..route.places).collect();
+    let mut number: Vec<u64> = (0..route.places).collect();
     dice.shuffle(&mut number);
     for step in &mut route.steps {
         for list in [&mut step.ins, &mut step.outs] {

@@ -98,7 +98,7 @@ fn names_at_their_limits() {
         let all = [0, 1, 65_535, 65_536, u32::MAX].map(|name| {
             let mut facts = facts_a();
             facts.old.list[at].name = name;
-            facts.done[at] = name;
+            facts.done[at] = name.into();
             facts
         });
         compare_each("names", &all);
@@ -108,7 +108,7 @@ fn names_at_their_limits() {
 #[test]
 fn done_lists_at_their_limits() {
     for length in [0, 1, 63, 64, 65, 66, 100] {
-        let all = [0, 10, 65_535, 65_536, u32::MAX].map(|name| {
+        let all = [0, 10, 65_535, 65_536, u32::MAX.into()].map(|name| {
             let mut facts = facts_a();
             facts.done.resize(length, name);
             facts
@@ -153,7 +153,7 @@ fn a_record_with_every_number_at_its_largest() {
     };
     let mut facts = with_records(vec![largest; 64], u64::MAX);
     facts.old.places = u32::MAX;
-    facts.done = vec![u32::MAX; 100];
+    facts.done = vec![u32::MAX.into(); 100];
     compare_each("largest", &[facts]);
 }
 

@@ -105,7 +105,7 @@ fn shelves() -> Vec<Shelf> {
     all
 }
 
-fn judge(pair: [u32; 2], done: &[u32], work: usize) -> String {
+fn judge(pair: [u32; 2], done: &[u64], work: usize) -> String {
     judge_editions(pair, done, fill(work, 9))
 }
 
@@ -184,7 +184,7 @@ fn pairs_judged_from_each_shelf() {
 /// Each route as the edition and as the target, with done lists at their limits.
 #[test]
 fn routes_judged_from_a_shelf() {
-    let lists: [&[u32]; 9] = [
+    let lists: [&[u64]; 9] = [
         &[],
         &[10],
         &[10, 20, 30],
@@ -238,7 +238,7 @@ fn a_shelf_with_every_number_at_its_largest() {
         let shelf = Shelf { len, editions };
         let script = hand_in(&shelf)
             + &put(most, &edition.route)
-            + &judge([most, most], &[most; 100], WORK)
+            + &judge([most, most], &[most.into(); 100], WORK)
             + &put(1, &right())
             + &judge([1, 1], &[10], WORK);
         assert_eq!(compare_script("largest-shelf", &script).len(), 5);

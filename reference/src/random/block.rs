@@ -5,7 +5,7 @@ use super::dice::Dice;
 
 #[derive(Clone, Copy, Debug, PartialEq, Eq)]
 pub enum Kind {
-    Step(u32),
+    Step(u64),
     Sequence,
     Parallel,
     Choice,
@@ -22,10 +22,10 @@ pub struct Block {
 }
 
 /// A step's places: its name, in-places and out-places.
-pub type Arrow = (u32, Vec<u32>, Vec<u32>);
+pub type Arrow = (u64, Vec<u64>, Vec<u64>);
 
 impl Block {
-    pub fn step(name: u32) -> Block {
+    pub fn step(name: u64) -> Block {
         Block {
             kind: Kind::Step(name),
             parts: Vec::new(),
@@ -37,7 +37,7 @@ impl Block {
     }
 
     /// A random tree with these steps as its leaves.
-    pub fn random(names: &[u32], dice: &mut Dice) -> Block {
+    pub fn random(names: &[u64], dice: &mut Dice) -> Block {
         if let [name] = names {
             return Block::step(*name);
         }
@@ -71,7 +71,7 @@ impl Block {
     }
 
     /// The names of the block's steps.
-    pub fn names(&self) -> Vec<u32> {
+    pub fn names(&self) -> Vec<u64> {
         match self.kind {
             Kind::Step(name) => vec![name],
             _ => self.parts.iter().flat_map(Block::names).collect(),
@@ -94,7 +94,7 @@ impl Block {
     }
 
     /// Lays the whole tree out; gives the number of places and the steps.
-    pub fn lay_out(&self) -> (u32, Vec<Arrow>) {
+    pub fn lay_out(&self) -> (u64, Vec<Arrow>) {
         let mut net = Layout::default();
         let from = net.fresh(self.width(false));
         let to = net.fresh(self.width(true));
@@ -114,18 +114,18 @@ impl Block {
 /// The net drawn so far.
 #[derive(Default)]
 struct Layout {
-    places: u32,
+    places: u64,
     arrows: Vec<Arrow>,
 }
 
 impl Layout {
-    fn fresh(&mut self, count: usize) -> Vec<u32> {
+    fn fresh(&mut self, count: usize) -> Vec<u64> {
         let first = self.places;
-        self.places += count as u32;
+        self.places += count as u64;
         (first..self.places).collect()
     }
 
-    fn lay(&mut self, block: &Block, from: &[u32], to: &[u32]) {
+    fn lay(&mut self, block: &Block, from: &[u64], to: &[u64]) {
         match block.kind {
             Kind::Step(name) => self.arrows.push((name, from.to_vec(), to.to_vec())),
             Kind::Sequence => self.lay_sequence(&block.parts, from, to),
@@ -142,7 +142,7 @@ impl Layout {
         }
     }
 
-    fn lay_sequence(&mut self, parts: &[Block], from: &[u32], to: &[u32]) {
+    fn lay_sequence(&mut self, parts: &[Block], from: &[u64], to: &[u64]) {
         let mut near = from.to_vec();
         for (index, part) in parts.iter().enumerate() {
             let far = match parts.get(index + 1) {
@@ -155,7 +155,7 @@ impl Layout {
     }
 
     /// Each part gets the places that it needs, the last one all the rest.
-    fn lay_parallel(&mut self, parts: &[Block], from: &[u32], to: &[u32]) {
+    fn lay_parallel(&mut self, parts: &[Block], from: &[u64], to: &[u64]) {
         let (mut from, mut to) = (from, to);
         for (index, part) in parts.iter().enumerate() {
             let last = index + 1 == parts.len();

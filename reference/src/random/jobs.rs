@@ -51,9 +51,9 @@ fn unchanged(job: Sheet) -> Sheet {
 }
 
 /// One to three entries below the bound.
-fn some(bound: usize, dice: &mut Dice) -> Vec<u32> {
-    let mut list: Vec<u32> = (0..dice.from_to(1, 3))
-        .map(|_| dice.below(bound) as u32)
+fn some(bound: usize, dice: &mut Dice) -> Vec<u64> {
+    let mut list: Vec<u64> = (0..dice.from_to(1, 3))
+        .map(|_| dice.below(bound) as u64)
         .collect();
     list.sort();
     list.dedup();
@@ -61,7 +61,7 @@ fn some(bound: usize, dice: &mut Dice) -> Vec<u32> {
 }
 
 /// No entry, or one to three.
-fn perhaps(bound: usize, dice: &mut Dice) -> Vec<u32> {
+fn perhaps(bound: usize, dice: &mut Dice) -> Vec<u64> {
     if dice.chance(45) {
         vec![]
     } else {
@@ -81,7 +81,7 @@ fn any_route(dice: &mut Dice) -> Route {
     let places = dice.from_to(1, 5);
     let count = dice.from_to(1, places + 1);
     let step = |name| Step {
-        name: name as u32,
+        name: name as u64,
         ins: some(places, dice),
         outs: some(places, dice),
         reads: perhaps(3, dice),
@@ -89,7 +89,7 @@ fn any_route(dice: &mut Dice) -> Route {
     };
     Route {
         steps: (1..=count).map(step).collect(),
-        places: places as u32,
+        places: places as u64,
     }
 }
 
@@ -128,11 +128,11 @@ fn swap_places(steps: &mut [Step], one: usize, other: usize) {
 
 /// A chain of these steps: the k-th goes from place k to place k + 1, and each
 /// writes a variable; at times it reads the one before.
-fn chain_of(names: &[u32], reads: bool) -> Route {
-    let step = |(place, &name): (usize, &u32)| Step {
+fn chain_of(names: &[u64], reads: bool) -> Route {
+    let step = |(place, &name): (usize, &u64)| Step {
         name,
-        ins: vec![place as u32],
-        outs: vec![place as u32 + 1],
+        ins: vec![place as u64],
+        outs: vec![place as u64 + 1],
         reads: if reads && name % 5 == 2 {
             vec![(name - 2) % 32]
         } else {
@@ -141,7 +141,7 @@ fn chain_of(names: &[u32], reads: bool) -> Route {
         writes: vec![(name - 1) % 32],
     };
     Route {
-        places: names.len() as u32 + 1,
+        places: names.len() as u64 + 1,
         steps: names.iter().enumerate().map(step).collect(),
     }
 }
@@ -149,7 +149,7 @@ fn chain_of(names: &[u32], reads: bool) -> Route {
 /// A chain, as it was, turned round or with neighbours swapped.
 fn chain(dice: &mut Dice) -> Sheet {
     let counts = [2, 3, 5, 8, 15, 16, 16, 17, 18, 32, 63];
-    let names: Vec<u32> = (1..=counts[dice.below(counts.len())]).collect();
+    let names: Vec<u64> = (1..=counts[dice.below(counts.len())]).collect();
     let mut order = names.clone();
     match dice.below(4) {
         0 => {}
@@ -177,7 +177,7 @@ fn chain(dice: &mut Dice) -> Sheet {
 /// 10, then 20 and 30 side by side, each building on itself, up to 64 done in
 /// all: kept at, under and over 16, straight and not.
 fn building(dice: &mut Dice) -> Sheet {
-    let step = |name, ins: &[u32], outs: &[u32], variable: u32| Step {
+    let step = |name, ins: &[u64], outs: &[u64], variable: u64| Step {
         name,
         ins: ins.to_vec(),
         outs: outs.to_vec(),
@@ -213,7 +213,7 @@ fn building(dice: &mut Dice) -> Sheet {
 /// for others, and at times for each other.
 fn beside(dice: &mut Dice) -> Sheet {
     let count = [2, 3, 4, 5, 6, 7, 16][dice.below(7)];
-    let step = |at: u32| Step {
+    let step = |at: u64| Step {
         name: 65_535 - at,
         ins: vec![at],
         outs: vec![count + at],
@@ -233,14 +233,14 @@ fn beside(dice: &mut Dice) -> Sheet {
         } else {
             (low, high)
         };
-        waits(&mut new.steps[at], count + other as u32);
+        waits(&mut new.steps[at], count + other as u64);
     }
     let done = run_at_random(&old, count as usize, dice);
     Sheet { old, new, done }
 }
 
 /// The step takes a token from this place too, and puts it back.
-fn waits(step: &mut Step, place: u32) {
+fn waits(step: &mut Step, place: u64) {
     if step.outs.contains(&place) || step.ins.len() == 8 || step.outs.len() == 8 {
         return;
     }
@@ -254,7 +254,7 @@ fn waits(step: &mut Step, place: u32) {
 /// on over shared places, so that some orders fire and others get stuck.
 fn tangled(dice: &mut Dice) -> Sheet {
     let count = [3, 4, 5, 6, 7, 8, 12, 16][dice.below(8)];
-    let step = |at: u32| Step {
+    let step = |at: u64| Step {
         name: at + 1,
         ins: vec![at],
         outs: vec![count + at],
@@ -279,7 +279,7 @@ fn tangled(dice: &mut Dice) -> Sheet {
 
 /// Lets the steps take and fill shared places, so that they fire in this order.
 fn share(route: &mut Route, order: &[usize], dice: &mut Dice) {
-    let (mut full, mut empty): (Vec<u32>, Vec<u32>) = (vec![], vec![]);
+    let (mut full, mut empty): (Vec<u64>, Vec<u64>) = (vec![], vec![]);
     for &at in order {
         let step = &mut route.steps[at];
         if !full.is_empty() && dice.chance(65) {
@@ -300,8 +300,8 @@ fn share(route: &mut Route, order: &[usize], dice: &mut Dice) {
 }
 
 /// Eight variables, rising.
-fn eight(dice: &mut Dice) -> Vec<u32> {
-    let mut all: Vec<u32> = (0..32).collect();
+fn eight(dice: &mut Dice) -> Vec<u64> {
+    let mut all: Vec<u64> = (0..32).collect();
     dice.shuffle(&mut all);
     all.truncate(8);
     all.sort();
@@ -311,9 +311,9 @@ fn eight(dice: &mut Dice) -> Vec<u32> {
 /// 64 places in layers of eight, up to 64 steps from each layer to the next and
 /// from the last back to the second, with 8 entries in each list.
 fn crowded(dice: &mut Dice) -> Sheet {
-    let layer = |at: u32| -> Vec<u32> { (8 * at..8 * at + 8).collect() };
+    let layer = |at: u64| -> Vec<u64> { (8 * at..8 * at + 8).collect() };
     let count = [8, 9, 16, 64][dice.below(4)];
-    let step = |at: u32| Step {
+    let step = |at: u64| Step {
         name: 65_535 - at,
         ins: layer(at % 8),
         outs: layer(if at % 8 == 7 { 1 } else { at % 8 + 1 }),

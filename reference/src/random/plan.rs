@@ -8,16 +8,16 @@ use std::collections::BTreeMap;
 /// The variables that a step reads and writes.
 #[derive(Clone, Debug, PartialEq, Eq, Default)]
 pub struct Data {
-    pub reads: Vec<u32>,
-    pub writes: Vec<u32>,
+    pub reads: Vec<u64>,
+    pub writes: Vec<u64>,
 }
 
 #[derive(Clone, Debug)]
 pub struct Plan {
     pub tree: Block,
-    pub data: BTreeMap<u32, Data>,
+    pub data: BTreeMap<u64, Data>,
     /// The variables that steps draw from.
-    pub pool: Vec<u32>,
+    pub pool: Vec<u64>,
 }
 
 impl Plan {
@@ -25,7 +25,7 @@ impl Plan {
     pub fn random(least: usize, most: usize, dice: &mut Dice) -> Plan {
         let mut plan = Plan::empty(dice);
         let count = dice.from_to(least, most);
-        let names: Vec<u32> = (0..count).map(|_| plan.fresh_step(dice)).collect();
+        let names: Vec<u64> = (0..count).map(|_| plan.fresh_step(dice)).collect();
         let tree = Block::random(&names, dice);
         plan.begin(tree, dice);
         if dice.chance(50) {
@@ -36,7 +36,7 @@ impl Plan {
 
     /// Gives each step a variable of its own to write, and little to read.
     fn tidy(&mut self, dice: &mut Dice) {
-        let mut own: Vec<u32> = (0..32).collect();
+        let mut own: Vec<u64> = (0..32).collect();
         dice.shuffle(&mut own);
         for (name, variable) in self.tree.names().into_iter().zip(&own) {
             let reads = match dice.below(4) {
@@ -55,7 +55,7 @@ impl Plan {
         let counts = [dice.from_to(1, 3), dice.from_to(1, 2)];
         let mut parts = Vec::new();
         for count in counts {
-            let names: Vec<u32> = (0..count).map(|_| plan.fresh_step(dice)).collect();
+            let names: Vec<u64> = (0..count).map(|_| plan.fresh_step(dice)).collect();
             parts.push(Block::random(&names, dice));
         }
         for data in plan.data.values_mut() {
@@ -69,7 +69,7 @@ impl Plan {
     }
 
     fn empty(dice: &mut Dice) -> Plan {
-        let mut pool: Vec<u32> = (0..32).collect();
+        let mut pool: Vec<u64> = (0..32).collect();
         dice.shuffle(&mut pool);
         pool.truncate(dice.from_to(2, 16));
         Plan {
@@ -95,7 +95,7 @@ impl Plan {
     }
 
     /// A step with a name of its own and random data.
-    pub fn fresh_step(&mut self, dice: &mut Dice) -> u32 {
+    pub fn fresh_step(&mut self, dice: &mut Dice) -> u64 {
         let mut name = any_name(dice);
         while self.data.contains_key(&name) {
             name = any_name(dice);
@@ -109,7 +109,7 @@ impl Plan {
     }
 
     /// Rising variables from the pool; the weights say how often 0, 1, 2, ...
-    pub fn some_variables(&self, weights: &[usize], dice: &mut Dice) -> Vec<u32> {
+    pub fn some_variables(&self, weights: &[usize], dice: &mut Dice) -> Vec<u64> {
         let mut roll = dice.below(100);
         let mut count = 0;
         while count + 1 < weights.len() && roll >= weights[count] {
@@ -126,19 +126,19 @@ impl Plan {
     /// Draws the route, with the places numbered and the steps listed at random.
     pub fn draw(&self, dice: &mut Dice) -> Route {
         let (places, mut arrows) = self.tree.lay_out();
-        let mut number: Vec<u32> = (0..places).collect();
+        let mut number: Vec<u64> = (0..places).collect();
         if dice.chance(60) {
             dice.shuffle(&mut number);
         }
         if dice.chance(30) {
             dice.shuffle(&mut arrows);
         }
-        let renumber = |list: &[u32]| {
-            let mut list: Vec<u32> = list.iter().map(|&p| number[p as usize]).collect();
+        let renumber = |list: &[u64]| {
+            let mut list: Vec<u64> = list.iter().map(|&p| number[p as usize]).collect();
             list.sort();
             list
         };
-        let step = |(name, ins, outs): &(u32, Vec<u32>, Vec<u32>)| Step {
+        let step = |(name, ins, outs): &(u64, Vec<u64>, Vec<u64>)| Step {
             name: *name,
             ins: renumber(ins),
             outs: renumber(outs),
@@ -151,7 +151,7 @@ impl Plan {
 }
 
 /// A name in its range, of any length.
-pub fn any_name(dice: &mut Dice) -> u32 {
+pub fn any_name(dice: &mut Dice) -> u64 {
     let most = [9, 99, 999, 9_999, 65_535][dice.below(5)];
-    dice.from_to(1, most) as u32
+    dice.from_to(1, most) as u64
 }

@@ -18,13 +18,13 @@ pub struct Records {
 pub struct Facts {
     pub old: Records,
     pub new: Records,
-    pub done: Vec<u32>,
+    pub done: Vec<u64>,
 }
 
 impl Records {
     pub fn of(route: &Route) -> Records {
         Records {
-            places: route.places,
+            places: route.places.try_into().expect("places in range"),
             len: route.steps.len() as u64,
             list: route.steps.iter().map(Record::of).collect(),
         }
@@ -39,7 +39,7 @@ impl Records {
     /// The route of all the records.
     fn route(&self) -> Route {
         Route {
-            places: self.places,
+            places: self.places.into(),
             steps: self.list.iter().map(Record::step).collect(),
         }
     }
@@ -205,8 +205,8 @@ fn some_variables(mask: u32, dice: &mut Dice) -> u32 {
 }
 
 /// A name at or past its limits, or 63 and more done.
-pub(super) fn spoil_done(done: &mut Vec<u32>, dice: &mut Dice) {
-    let name = any(&[0, 1, 65_535, 65_536, u32::MAX], dice);
+pub(super) fn spoil_done(done: &mut Vec<u64>, dice: &mut Dice) {
+    let name = any(&[0, 1, 65_535, 65_536, u32::MAX.into()], dice);
     if done.is_empty() || dice.chance(50) {
         let length = any(&[63, 64, 65, 66, 100], dice);
         let name = done.last().copied().unwrap_or(name);

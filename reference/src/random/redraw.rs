@@ -83,13 +83,13 @@ fn swap(plan: &mut Plan, admits: &dyn Fn(&Block, &Block) -> bool, dice: &mut Dic
 /// Two neighbours change places of which none writes what the other reads or writes.
 fn swap_unrelated(plan: &mut Plan, dice: &mut Dice) {
     let data = plan.data.clone();
-    let touches = |one: u32, other: u32| {
+    let touches = |one: u64, other: u64| {
         let (one, other) = (&data[&one], &data[&other]);
         let mut writes = one.writes.iter();
         writes.any(|v| other.reads.contains(v) || other.writes.contains(v))
     };
     let unrelated = |one: &Block, other: &Block| {
-        let related = |a: &u32| {
+        let related = |a: &u64| {
             other
                 .names()
                 .iter()
@@ -138,7 +138,7 @@ fn add_step(plan: &mut Plan, dice: &mut Dice) {
 
 /// A step reads or writes other variables.
 fn change_data(plan: &mut Plan, dice: &mut Dice) {
-    let names: Vec<u32> = plan.data.keys().copied().collect();
+    let names: Vec<u64> = plan.data.keys().copied().collect();
     let name = names[dice.below(names.len())];
     let mut data = plan.data[&name].clone();
     if dice.chance(50) {
@@ -152,7 +152,7 @@ fn change_data(plan: &mut Plan, dice: &mut Dice) {
 /// One step gets or changes a place, wherever that leads.
 pub fn change_a_place(route: &mut Route, dice: &mut Dice) {
     let at = dice.below(route.steps.len());
-    let place = dice.below(route.places as usize) as u32;
+    let place = dice.below(route.places as usize) as u64;
     let step = &mut route.steps[at];
     let kind = dice.below(6);
     let entry = dice.below(step.ins.len().min(step.outs.len()));

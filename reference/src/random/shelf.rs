@@ -206,7 +206,7 @@ impl Loft {
     }
 
     /// A done list that the edition mostly runs.
-    fn done(&self, number: u32, dice: &mut Dice) -> Vec<u32> {
+    fn done(&self, number: u32, dice: &mut Dice) -> Vec<u64> {
         let edition = self.stored().iter().find(|e| e.number == number);
         let route = edition.map(|edition| edition.route.route());
         let Some(route) = route.filter(jobs::opens) else {

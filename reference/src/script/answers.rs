@@ -47,7 +47,7 @@ fn places(marking: Marking) -> Vec<u64> {
 
 /// Occurrences as a mask, occurrence k at bit k - 1.
 fn bits<'a>(occurrences: impl IntoIterator<Item = &'a usize>) -> u64 {
-    mask(occurrences.into_iter().map(|&o| o as u32 - 1))
+    mask(occurrences.into_iter().map(|&o| o as u64 - 1))
 }
 
 /// A lent slice afterwards: its length, then runs, each a count and a number.
@@ -130,10 +130,9 @@ fn writers(moved: &Moved) -> Vec<u64> {
 
 pub fn read(bytes: &[u8]) -> Vec<u64> {
     let numbers = |facts: Sheet| {
-        let names: Vec<u64> = facts.done.iter().map(|&name| name.into()).collect();
-        let done = vec![names.len() as u64];
+        let done = vec![facts.done.len() as u64];
         let (old, new) = (route_numbers(&facts.old), route_numbers(&facts.new));
-        [old, new, done, padded(names, ROWS)].concat()
+        [old, new, done, padded(facts.done, ROWS)].concat()
     };
     let route = 2 + FIELDS * ROWS;
     line(sheet::read(bytes).map(numbers), 2 * route + 1 + ROWS)
@@ -148,7 +147,7 @@ fn route_numbers(route: &Route) -> Vec<u64> {
 
 /// Places and len.
 fn head_numbers(route: &Route) -> Vec<u64> {
-    vec![route.places.into(), route.steps.len() as u64]
+    vec![route.places, route.steps.len() as u64]
 }
 
 fn records(route: &Route) -> Vec<Record> {
@@ -164,7 +163,7 @@ pub fn read_into(bytes: &[u8], room: [usize; 3]) -> Vec<u64> {
         writes: BEFORE,
     };
     let (mut old, mut new) = (vec![seven; room[0]], vec![seven; room[1]]);
-    let mut done = vec![BEFORE; room[2]];
+    let mut done = vec![u64::from(BEFORE); room[2]];
     let answer = sheet::read_into(bytes, room);
     if let Ok(facts) = &answer {
         old[..facts.old.steps.len()].copy_from_slice(&records(&facts.old));
@@ -228,7 +227,7 @@ pub fn put(on: &mut Shelf, number: u32, route: &RouteByValue) -> Vec<u64> {
 pub fn judge_editions(
     shelf: &Shelf,
     [edition, target]: [u32; 2],
-    done: &[u32],
+    done: &[u64],
     mut work: Vec<u8>,
 ) -> Vec<u64> {
     judged(shelf.judge(edition, target, done, &mut work), &work)

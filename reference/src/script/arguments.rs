@@ -49,7 +49,7 @@ pub fn route(script: &mut Numbers, lent: bool) -> Option<Route> {
     if !lent {
         return Some(by_value(script)?.route());
     }
-    let places = word(script)?;
+    let places = word(script)?.into();
     let records = counted(script, MOST_LENT, record)?;
     let steps = records.iter().map(Record::step).collect();
     Some(Route { places, steps })
@@ -79,8 +79,8 @@ fn edition(script: &mut Numbers) -> Option<Edition> {
 }
 
 /// NAMES: a lent list of done names.
-pub fn names(script: &mut Numbers) -> Option<Vec<u32>> {
-    counted(script, MOST_LENT, word)
+pub fn names(script: &mut Numbers) -> Option<Vec<u64>> {
+    counted(script, MOST_LENT, |script| word(script).map(u64::from))
 }
 
 /// BYTES: a lent slice of bytes.

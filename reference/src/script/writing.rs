@@ -59,7 +59,7 @@ fn counted_records(records: &[Record]) -> String {
 }
 
 /// NAMES.
-pub fn names(names: &[u32]) -> String {
+pub fn names(names: &[u64]) -> String {
     counted(names.len(), names)
 }
 
@@ -84,6 +84,6 @@ pub fn put(number: u32, of: &RouteByValue) -> String {
 }
 
 /// Operation 22: a job of an edition is judged against a target.
-pub fn judge_editions([edition, target]: [u32; 2], done: &[u32], work: String) -> String {
+pub fn judge_editions([edition, target]: [u32; 2], done: &[u64], work: String) -> String {
     operation(22, &[words([edition, target]), names(done), work])
 }

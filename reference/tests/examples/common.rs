@@ -31,26 +31,26 @@ pub const NEW: &str = new!();
 pub const SHEET: &str = concat!(old!(), new!(), "(job)\n(done 10)\n(done 20)\n(done 30)\n");
 
 /// The sheet of these routes and done names.
-pub fn sheet(old: &str, new: &str, done: &[u32]) -> String {
+pub fn sheet(old: &str, new: &str, done: &[u64]) -> String {
     let lines: String = done.iter().map(|name| format!("(done {name})\n")).collect();
     format!("{old}{new}(job)\n{lines}")
 }
 
 /// The sheet of these routes and done names has this listing.
 #[track_caller]
-pub fn lists(old: &str, new: &str, done: &[u32], listing: &str) {
+pub fn lists(old: &str, new: &str, done: &[u64], listing: &str) {
     assert_eq!(listing_of(sheet(old, new, done).as_bytes()), listing);
 }
 
 /// Both routes with these places and steps.
-pub fn both(places: u32, steps: &str) -> (String, String) {
+pub fn both(places: u64, steps: &str) -> (String, String) {
     let head = |word| format!("({word} {places})\n{steps}");
     (head("old"), head("new"))
 }
 
 /// A chain of steps 1, 2, ... in the order given: step s writes variable
 /// (s - 1) modulo 32, and the k-th one goes from place k to place k + 1.
-pub fn chain(word: &str, names: &[u32]) -> String {
+pub fn chain(word: &str, names: &[u64]) -> String {
     let mut text = format!("({word} {})\n", names.len() + 1);
     for (place, name) in names.iter().enumerate() {
         let (next, variable) = (place + 1, (name - 1) % 32);
@@ -61,9 +61,9 @@ pub fn chain(word: &str, names: &[u32]) -> String {
 
 /// Two routes and a done list: the new chain is the old one turned round, and
 /// all is done.
-pub fn turned_round(count: u32) -> (String, String, Vec<u32>) {
-    let names: Vec<u32> = (1..=count).collect();
-    let reversed: Vec<u32> = (1..=count).rev().collect();
+pub fn turned_round(count: u64) -> (String, String, Vec<u64>) {
+    let names: Vec<u64> = (1..=count).collect();
+    let reversed: Vec<u64> = (1..=count).rev().collect();
     (chain("old", &names), chain("new", &reversed), names)
 }
 
@@ -86,7 +86,7 @@ pub fn with_lines(changes: &[(usize, &str)]) -> String {
 }
 
 /// A step line; each list is given with the spaces before its entries.
-pub fn step(name: u32, ins: &str, outs: &str, reads: &str, writes: &str) -> String {
+pub fn step(name: u64, ins: &str, outs: &str, reads: &str, writes: &str) -> String {
     format!("(step {name} (in{ins}) (out{outs}) (read{reads}) (write{writes}))\n")
 }
 

@@ -24,12 +24,12 @@ fn seventeen_kept_are_refused() {
 /// precedence the first before the last.
 #[test]
 fn sixteen_kept_without_a_fit_order() {
-    let line = |name: u32, ins: &str| {
+    let line = |name: u64, ins: &str| {
         let reads = if name == 16 { " 0" } else { "" };
         let (out, writes) = (format!(" {}", 15 + name), format!(" {}", name - 1));
         step(name, ins, &out, reads, &writes)
     };
-    let names: Vec<u32> = (1..=16).collect();
+    let names: Vec<u64> = (1..=16).collect();
     let rest: String = (2..=16)
         .map(|name| line(name, &format!(" {}", name - 1)))
         .collect();
@@ -54,7 +54,7 @@ fn a_straight_job_may_keep_all_64() {
 
 #[test]
 fn places_64_and_65() {
-    let names: Vec<u32> = (1..=63).collect();
+    let names: Vec<u64> = (1..=63).collect();
     let (old, new) = (chain("old", &names), chain("new", &names));
     let listing = listing_of(sheet(&old, &new, &names).as_bytes());
     assert!(listing.starts_with("(moved (kept 63) (dropped 0))\n"));
@@ -98,7 +98,7 @@ fn the_empty_sheet() {
 fn the_longest_sheet_that_reads() {
     let lists = "(in 56 57 58 59 60 61 62 63) (out 48 49 50 51 52 53 54 55) \
                  (read 24 25 26 27 28 29 30 31) (write 16 17 18 19 20 21 22 23)";
-    let steps = |last: u32| -> String {
+    let steps = |last: u64| -> String {
         let names = last - 63..=last;
         names
             .map(|name| format!("(step {name} {lists})\n"))

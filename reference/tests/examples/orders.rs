@@ -44,14 +44,14 @@ fn rows_17_and_18() {
 }
 
 /// A sheet whose two routes are the same.
-fn unchanged(places: u32, steps: &[String], done: &[u32]) -> String {
+fn unchanged(places: u64, steps: &[String], done: &[u64]) -> String {
     let steps = steps.concat();
     let done: String = done.iter().map(|name| format!("(done {name})\n")).collect();
     format!("(old {places})\n{steps}(new {places})\n{steps}(job)\n{done}")
 }
 
 /// 10 and 20 side by side; 10 has no data.
-fn side_by_side(done: &[u32]) -> String {
+fn side_by_side(done: &[u64]) -> String {
     let steps = [step(10, " 0", " 1", "", ""), step(20, " 2", " 3", "", " 0")];
     unchanged(4, &steps, done)
 }

@@ -10,14 +10,14 @@ use reference::slice::slice;
 
 #[test]
 fn fire_answers_18_and_0() {
-    let step = |ins: &[u32], outs: &[u32]| Step {
+    let step = |ins: &[u64], outs: &[u64]| Step {
         name: 1,
         ins: ins.to_vec(),
         outs: outs.to_vec(),
         reads: vec![],
         writes: vec![],
     };
-    let on = |places: &[u32]| Marking::from_iter(places.iter().copied());
+    let on = |places: &[u64]| Marking::from_iter(places.iter().copied());
     let no = Err(refusal(18, 0));
     assert_eq!(fire(&on(&[0]), &step(&[0], &[1])), Ok(on(&[1])));
     assert_eq!(fire(&on(&[0, 2]), &step(&[0], &[0, 1])), Ok(on(&[0, 1, 2])));

@@ -4,7 +4,7 @@ use crate::common::{line_refused, refusal, refused, step, with_line, with_lines,
 use reference::sheet::{job_part, read, read_into, write};
 
 /// A route's lines with so many steps, each from 0 to 1.
-fn many(word: &str, count: u32) -> String {
+fn many(word: &str, count: u64) -> String {
     let steps = (1..=count).map(|name| step(name, " 0", " 1", "", ""));
     format!("({word} 2)\n{}", steps.collect::<String>())
 }

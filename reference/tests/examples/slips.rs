@@ -32,7 +32,7 @@ fn last_two_swapped(data: [(&str, &str); 3]) -> (String, String) {
     let line = |index: usize, place: usize| {
         let (reads, writes) = data[index];
         let (from, to) = (format!(" {place}"), format!(" {}", place + 1));
-        step(10 * (index as u32 + 1), &from, &to, reads, writes)
+        step(10 * (index as u64 + 1), &from, &to, reads, writes)
     };
     let old = [line(0, 0), line(1, 1), line(2, 2)].concat();
     let new = [line(0, 0), line(2, 1), line(1, 2)].concat();

@@ -9,9 +9,9 @@ use reference::slice;
 use reference::values::{replay, Held};
 
 /// A function for each occurrence and variable, got from a key by hashing.
-fn hashed(key: u64) -> impl Fn(usize, u32, &[Held]) -> u64 {
+fn hashed(key: u64) -> impl Fn(usize, u64, &[Held]) -> u64 {
     move |occurrence, variable, read| {
-        let begin = mix(key ^ mix(occurrence as u64) ^ mix(1_000 + u64::from(variable)));
+        let begin = mix(key ^ mix(occurrence as u64) ^ mix(1_000 + variable));
         read.iter().fold(begin, |hash, held| match held {
             None => mix(hash ^ 1),
             Some(value) => mix(hash.rotate_left(7) ^ value),

@@ -15,9 +15,9 @@ const READ_INTO: u64 = 16;
 const LENT: u64 = 10;
 
 /// A step between two sets of places.
-fn step(name: u32, places: [&[u32]; 2], variables: [&[u32]; 2]) -> Step {
-    let [ins, outs] = places.map(<[u32]>::to_vec);
-    let [reads, writes] = variables.map(<[u32]>::to_vec);
+fn step(name: u64, places: [&[u64]; 2], variables: [&[u64]; 2]) -> Step {
+    let [ins, outs] = places.map(<[u64]>::to_vec);
+    let [reads, writes] = variables.map(<[u64]>::to_vec);
     Step {
         name,
         ins,
@@ -27,14 +27,14 @@ fn step(name: u32, places: [&[u32]; 2], variables: [&[u32]; 2]) -> Step {
     }
 }
 
-fn route(places: u32, steps: &[Step]) -> Route {
+fn route(places: u64, steps: &[Step]) -> Route {
     Route {
         places,
         steps: steps.to_vec(),
     }
 }
 
-fn job(old: &Route, new: &Route, done: &[u32]) -> Sheet {
+fn job(old: &Route, new: &Route, done: &[u64]) -> Sheet {
     Sheet {
         old: old.clone(),
         new: new.clone(),
@@ -86,7 +86,7 @@ fn long_jobs() -> String {
 
 /// Short jobs: other writes, other variables, longer routes, other place counts.
 fn jobs() -> String {
-    let ten = |writes: &[u32]| step(10, [&[0], &[1]], [&[], writes]);
+    let ten = |writes: &[u64]| step(10, [&[0], &[1]], [&[], writes]);
     let twenty = step(20, [&[1], &[2]], [&[0], &[1]]);
     let old = route(2, &[ten(&[0])]);
     let other_writes = job(&old, &route(3, &[ten(&[1]), twenty.clone()]), &[10]);
@@ -119,8 +119,8 @@ fn jobs() -> String {
 /// Two steps that put a token on one place: neither can follow the other, unless
 /// a third takes it away.
 fn searches() -> String {
-    let one = |places: [&[u32]; 2]| step(10, places, [&[], &[0]]);
-    let two = |places: [&[u32]; 2]| step(20, places, [&[], &[1]]);
+    let one = |places: [&[u64]; 2]| step(10, places, [&[], &[0]]);
+    let two = |places: [&[u64]; 2]| step(20, places, [&[], &[1]]);
     let three = step(30, [&[2], &[3]], [&[1], &[2]]);
     let old = [one([&[0], &[1]]), two([&[1], &[2]]), three.clone()];
     let new = [one([&[0], &[2]]), two([&[1], &[2]]), three];
