@@ -5,6 +5,8 @@
 use crate::refusal::Refusal;
 use crate::sheet::{Route, Sheet, Step};
 
+const MOST_DIGITS: usize = 10;
+
 /// The bytes of a sheet, and the offset of the first one not yet taken.
 struct Reader<'a> {
     bytes: &'a [u8],
@@ -72,13 +74,13 @@ impl Reader<'_> {
         Ok(entries)
     }
 
-    /// One to five digits, and no digit after a leading 0. A digit too many is
+    /// One to `MOST_DIGITS` digits, and none after a leading 0. A digit too many is
     /// not taken, so the layout breaks there: no form goes on with a digit.
     fn number(&mut self) -> Result<u64, Refusal> {
         let first = self.digit().ok_or(self.broken())?;
         let mut value = first;
         let mut digits = 1;
-        while first != 0 && digits < 5 {
+        while first != 0 && digits < MOST_DIGITS {
             let Some(digit) = self.digit() else { break };
             value = value * 10 + digit;
             digits += 1;

@@ -5,7 +5,7 @@ use crate::sheet::{Route, Sheet, Step};
 use std::ops::RangeInclusive;
 
 pub const PLACES: RangeInclusive<u64> = 1..=64;
-pub const NAMES: RangeInclusive<u64> = 1..=65_535;
+pub const NAMES: RangeInclusive<u64> = 1..=4_294_967_295;
 pub const VARIABLES: RangeInclusive<u64> = 0..=31;
 pub const MOST_STEPS: usize = 64;
 pub const MOST_DONE: usize = 64;

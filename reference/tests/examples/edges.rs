@@ -1,4 +1,5 @@
-//! The examples that 01 asks to be run, at the edges of its limits.
+//! The examples that 01 asks to be run, at the edges of its limits, with names as
+//! long as 02 has them.
 
 use crate::common::{both, chain, lists, sheet, step, turned_round, NEW, OLD};
 use reference::print::listing_of;
@@ -69,12 +70,14 @@ fn places_64_and_65() {
 
 #[test]
 fn names_at_the_edge() {
-    let old = OLD.replace("(step 10 ", "(step 65535 ");
-    let new = old.replace("(old", "(new");
     let listing = "(moved (kept 1) (dropped 0))\n(order 1)\n(marking 1)\n(value 0 1)\n";
-    lists(&old, &new, &[65_535], listing);
-    lists(OLD, NEW, &[65_535], "(refused 8 10)\n");
-    lists(OLD, NEW, &[65_536], "(refused 2 10)\n");
+    for name in [65_535, 65_536, 4_294_967_295] {
+        let old = OLD.replace("(step 10 ", &format!("(step {name} "));
+        let new = old.replace("(old", "(new");
+        lists(&old, &new, &[name], listing);
+        lists(OLD, NEW, &[name], "(refused 8 10)\n");
+    }
+    lists(OLD, NEW, &[4_294_967_296], "(refused 2 10)\n");
     lists(OLD, NEW, &[0], "(refused 2 10)\n");
 }
 
@@ -104,10 +107,10 @@ fn the_longest_sheet_that_reads() {
             .map(|name| format!("(step {name} {lists})\n"))
             .collect()
     };
-    let old = format!("(old 64)\n{}", steps(65_535));
-    let new = format!("(new 64)\n{}", steps(20_000));
-    let text = sheet(&old, &new, &[65_535; 64]);
-    assert_eq!(text.len(), 18_136);
+    let old = format!("(old 64)\n{}", steps(4_294_967_295));
+    let new = format!("(new 64)\n{}", steps(1_000_000_063));
+    let text = sheet(&old, &new, &[4_294_967_295; 64]);
+    assert_eq!(text.len(), 19_096);
     let facts = reference::sheet::read(text.as_bytes()).unwrap();
     assert_eq!(reference::sheet::text(&facts), text);
 }

@@ -1,8 +1,10 @@
-//! 01's examples, the rows of its table, orders handed in, slips, and the shelf.
+//! 01's examples, the rows of its table, orders handed in, slips, and 02's names
+//! and shelf.
 
 mod common;
 mod edges;
 mod letters;
+mod names;
 mod orders;
 mod row_1;
 mod rows_job;

@@ -48,7 +48,7 @@ fn row_2() {
         for line in [line + 1, line + 3] {
             for wrong in [
                 step(0, " 0", " 1", "", " 0"),
-                step(65_536, " 0", " 1", "", " 0"),
+                step(4_294_967_296, " 0", " 1", "", " 0"),
                 step(10, " 4", " 1", "", " 0"),
                 step(10, " 0", " 0 4", "", " 0"),
                 step(10, " 0", " 1", " 32", " 0"),
@@ -60,9 +60,10 @@ fn row_2() {
     }
     for line in [10, 12] {
         line_refused(line, "(done 0)\n", 2);
-        line_refused(line, "(done 65536)\n", 2);
+        line_refused(line, "(done 4294967296)\n", 2);
     }
-    assert!(read(with_line(2, &step(65_535, " 3", " 0", " 31", " 0")).as_bytes()).is_ok());
+    let most = step(4_294_967_295, " 3", " 0", " 31", " 0");
+    assert!(read(with_line(2, &most).as_bytes()).is_ok());
 }
 
 #[test]

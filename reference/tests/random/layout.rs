@@ -79,11 +79,11 @@ fn after(texts: &Texts, byte: u8) -> Texts {
     }
 }
 
-/// One to five digits and no leading zero, save 0 itself.
+/// One to ten digits and no leading zero, save 0 itself.
 fn number() -> Texts {
-    let maybe = || or(Empty, Byte(b'0', b'9'));
-    let rest = chain(vec![maybe(), maybe(), maybe(), maybe()]);
-    or(exactly("0"), then(Byte(b'1', b'9'), rest))
+    let more = |rest| or(Empty, then(Byte(b'0', b'9'), rest));
+    let nine = (0..9).fold(Empty, |rest, _| more(rest));
+    or(exactly("0"), then(Byte(b'1', b'9'), nine))
 }
 
 fn list(word: &str) -> Texts {

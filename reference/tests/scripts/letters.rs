@@ -1,5 +1,5 @@
-//! 01's examples A to L through scripts: every operation on the records, by
-//! value and lent, and on the sheet.
+//! 01's examples A to L through scripts, A with long names too: every operation
+//! on the records, by value and lent, and on the sheet.
 
 use crate::common::{answers, counted, facts_a, numbers_of, padded, records, slice};
 use crate::common::{Facts, Numbers};
@@ -11,6 +11,7 @@ macro_rules! files {
             include_str!(concat!("../../../examples/letters/", $letter, ".sheet")),
             include_str!(concat!("../../../examples/letters/", $letter, ".listing")),
         ]
+        .map(String::from)
     };
 }
 
@@ -27,7 +28,7 @@ struct Moved {
 }
 
 struct Letter {
-    files: [&'static str; 2],
+    files: [String; 2],
     facts: Facts,
     /// The old route's marking.
     run: Result<u64, Refusal>,
@@ -97,7 +98,7 @@ impl Letter {
     }
 
     fn check_writing(&self, write: u64, facts: &str) {
-        let sheet = numbers_of(self.files[0]);
+        let sheet = numbers_of(&self.files[0]);
         let length = sheet.len() as u64;
         let out = slice(&[sheet, vec![7, 7]].concat());
         let written = [vec![0, 0, length], out].concat();
@@ -107,8 +108,8 @@ impl Letter {
     }
 
     fn check_sheet(&self) {
-        let sheet = counted(&numbers_of(self.files[0]));
-        let listing = numbers_of(self.files[1]);
+        let sheet = counted(&numbers_of(&self.files[0]));
+        let listing = numbers_of(&self.files[1]);
         let length = listing.len() as u64;
         let work = [vec![8_192], self.work(8_192)].concat();
         let out = slice(&[listing, vec![7]].concat());
@@ -125,7 +126,7 @@ impl Letter {
     }
 
     fn check_reading(&self) {
-        let sheet = counted(&numbers_of(self.files[0]));
+        let sheet = counted(&numbers_of(&self.files[0]));
         let Facts { old, new, done } = &self.facts;
         let lengths = [old.list.len(), new.list.len(), done.len()].map(|n| n as u64);
         let read = [
@@ -160,7 +161,7 @@ fn refuses_short_work(judge: u64, facts: &str) {
 }
 
 /// A letter that a row to 9 refuses.
-fn refused_early(files: [&'static str; 2], facts: Facts, refusal: Refusal) -> Letter {
+fn refused_early(files: [String; 2], facts: Facts, refusal: Refusal) -> Letter {
     let tried = [refusal[0], refusal[1], 0];
     Letter {
         files,
@@ -173,8 +174,7 @@ fn refused_early(files: [&'static str; 2], facts: Facts, refusal: Refusal) -> Le
     }
 }
 
-#[test]
-fn a() {
+fn letter_a() -> Letter {
     let moved = Moved {
         kept: 7,
         dropped: 0,
@@ -202,7 +202,25 @@ fn a() {
             (vec![], [16, 1, 0]),
         ],
     }
-    .check();
+}
+
+#[test]
+fn a() {
+    letter_a().check();
+}
+
+/// Another name in the place of 10 changes its sheet and nothing else; 65,556
+/// is 20 in its last 16 bits.
+#[test]
+fn a_with_long_names() {
+    for name in [65_536, 65_556, 100_000, (1 << 32) - 2, (1 << 32) - 1] {
+        let mut letter = letter_a();
+        letter.facts.old.list[0][0] = name;
+        letter.facts.new.list[1][0] = name;
+        letter.facts.done[0] = name;
+        letter.files[0] = letter.files[0].replace(" 10", &format!(" {name}"));
+        letter.check();
+    }
 }
 
 #[test]

@@ -235,7 +235,9 @@ fn the_routes_own_rows() {
         edition
     };
     let shelf = Shelf::numbered(&[8]);
-    shelf.refuses(&with(0, 0, 65_536), [2, 2]);
+    shelf.refuses(&with(0, 0, 0), [2, 2]);
+    shelf.takes(&with(0, 0, 65_536));
+    shelf.takes(&with(0, 0, (1 << 32) - 1));
     shelf.refuses(&with(2, 1, 16), [2, 4]);
     shelf.refuses(&with(1, 2, 0), [3, 3]);
     shelf.refuses(&with(1, 3, 0x1ff), [3, 3]);
