@@ -7,6 +7,7 @@ pub mod block;
 pub mod damage;
 pub mod dice;
 pub mod jobs;
+pub mod names;
 pub mod orders;
 pub mod plan;
 pub mod records;
@@ -96,7 +97,7 @@ pub fn spoil(done: &mut Vec<u64>, dice: &mut Dice) {
     }
     let at = dice.below(done.len());
     match dice.below(3) {
-        0 => done[at] = plan::any_name(dice),
+        0 => done[at] = names::other(done[at], dice),
         1 => {
             let other = dice.below(done.len());
             done.swap(at, other);

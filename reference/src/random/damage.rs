@@ -2,6 +2,34 @@
 //! moved, doubled and left out.
 
 use super::dice::Dice;
+use super::names;
+use super::records::any;
+use std::ops::Range;
+
+/// Words that numbers stand after.
+const WORDS: [&[u8]; 8] = [
+    b"old", b"new", b"step", b"in", b"out", b"read", b"write", b"done",
+];
+
+const SHORT: [&str; 13] = [
+    "0", "1", "2", "3", "4", "8", "31", "32", "63", "64", "65", "00", "01",
+];
+
+/// Names of all lengths, numbers past them, and more digits than a number has.
+const LONG: [&str; 12] = [
+    "65535",
+    "65536",
+    "99999",
+    "100000",
+    "4294967294",
+    "4294967295",
+    "4294967296",
+    "4294967297",
+    "9999999999",
+    "10000000000",
+    "99999999999",
+    "0123456789",
+];
 
 /// The sheet with one to three kinds of damage.
 pub fn damage(sheet: &[u8], dice: &mut Dice) -> Vec<u8> {
@@ -46,23 +74,55 @@ fn damage_bytes(mut bytes: Vec<u8>, dice: &mut Dice) -> Vec<u8> {
     bytes
 }
 
-/// One number becomes another, which may be at or past an edge of its range.
+/// One number becomes another; half of them stand after a word drawn first.
 fn change_number(bytes: Vec<u8>, dice: &mut Dice) -> Vec<u8> {
-    let digit = |at: usize| bytes.get(at).is_some_and(u8::is_ascii_digit);
-    let begins: Vec<usize> = (0..bytes.len())
-        .filter(|&at| digit(at) && (at == 0 || !digit(at - 1)))
-        .collect();
-    if begins.is_empty() {
+    let mut numbers = numbers(&bytes);
+    if numbers.is_empty() {
         return bytes;
     }
-    let begin = begins[dice.below(begins.len())];
-    let end = (begin..).find(|&at| !digit(at)).unwrap_or(bytes.len());
-    let numbers = [
-        "0", "1", "2", "3", "4", "8", "31", "32", "63", "64", "65", "65535", "65536", "99999",
-        "00", "01", "100000",
-    ];
-    let number = numbers[dice.below(numbers.len())].as_bytes();
-    [&bytes[..begin], number, &bytes[end..]].concat()
+    if dice.chance(50) {
+        let word = any(&WORDS, dice);
+        let after_word = |number: &Range<usize>| word_before(&bytes, number.start) == word;
+        let some: Vec<_> = numbers.iter().filter(|n| after_word(n)).cloned().collect();
+        numbers = if some.is_empty() { numbers } else { some };
+    }
+    let number = numbers[dice.below(numbers.len())].clone();
+    let other = other_number(&bytes[number.clone()], dice);
+    let rest = &bytes[number.end..];
+    [&bytes[..number.start], other.as_bytes(), rest].concat()
+}
+
+/// Where digits stand, as many in a row as there are.
+fn numbers(bytes: &[u8]) -> Vec<Range<usize>> {
+    let digit = |at: usize| bytes.get(at).is_some_and(u8::is_ascii_digit);
+    let begins = (0..bytes.len()).filter(|&at| digit(at) && (at == 0 || !digit(at - 1)));
+    let end = |begin| (begin..).find(|&at| !digit(at)).unwrap_or(begin);
+    begins.map(|begin| begin..end(begin)).collect()
+}
+
+/// The word of the form that this byte stands in, if the form has one.
+fn word_before(bytes: &[u8], at: usize) -> &[u8] {
+    let open = bytes[..at].iter().rposition(|&byte| byte == b'(');
+    let form = &bytes[open.map_or(at, |open| open + 1)..at];
+    form.split(|byte| !byte.is_ascii_lowercase())
+        .next()
+        .unwrap_or(form)
+}
+
+/// A number at or past an edge of its range, at times one made of these digits.
+fn other_number(digits: &[u8], dice: &mut Dice) -> String {
+    let digits = String::from_utf8_lossy(digits);
+    let length = any(&[10, 11], dice);
+    match dice.below(20) {
+        0..=9 => any(&SHORT, dice).to_string(),
+        10..=14 => any(&LONG, dice).to_string(),
+        15 => format!("{digits:0>length$}"),
+        16 => format!("{digits:0<length$}"),
+        _ => {
+            let number = digits.parse().unwrap_or(1);
+            names::alike(number, any(&[8, 16, 16, 32, 32], dice), dice).to_string()
+        }
+    }
 }
 
 /// One line moved, doubled, doubled many times or left out.

@@ -3,7 +3,7 @@
 //! to 12 refuse or that leave nothing to keep.
 
 use super::dice::Dice;
-use super::{plan, run_at_random, spoil};
+use super::{names, run_at_random, spoil};
 use crate::fit;
 use crate::job::Job;
 use crate::net;
@@ -22,6 +22,9 @@ pub fn job(dice: &mut Dice) -> Sheet {
         17..=18 => beside(dice),
         _ => crowded(dice),
     };
+    if dice.chance(40) {
+        names::rename(&mut job, dice);
+    }
     if dice.chance(25) {
         twist(&mut job, dice);
     }
@@ -343,7 +346,10 @@ fn twist(job: &mut Sheet, dice: &mut Dice) {
         2 => close(&mut job.old),
         3 => close(&mut job.new),
         4..=8 => spoil(&mut job.done, dice),
-        9..=10 => job.new.steps[at].name = plan::any_name(dice),
+        9..=10 => {
+            let name = &mut job.new.steps[at].name;
+            *name = names::other(*name, dice);
+        }
         11 => job.new.steps[at].reads = perhaps(32, dice),
         12 => without_data(job, at),
         _ => job.new.steps[at].writes = perhaps(32, dice),

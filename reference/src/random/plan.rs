@@ -2,6 +2,7 @@
 
 use super::block::{Block, Kind};
 use super::dice::Dice;
+use super::names;
 use crate::sheet::{Route, Step};
 use std::collections::BTreeMap;
 
@@ -96,10 +97,8 @@ impl Plan {
 
     /// A step with a name of its own and random data.
     pub fn fresh_step(&mut self, dice: &mut Dice) -> u64 {
-        let mut name = any_name(dice);
-        while self.data.contains_key(&name) {
-            name = any_name(dice);
-        }
+        let taken: Vec<u64> = self.data.keys().copied().collect();
+        let name = names::fresh(&taken, dice);
         let data = Data {
             reads: self.some_variables(&[50, 35, 10, 5], dice),
             writes: self.some_variables(&[12, 70, 13, 5], dice),
@@ -148,10 +147,4 @@ impl Plan {
         let steps = arrows.iter().map(step).collect();
         Route { places, steps }
     }
-}
-
-/// A name in its range, of any length.
-pub fn any_name(dice: &mut Dice) -> u64 {
-    let most = [9, 99, 999, 9_999, 65_535][dice.below(5)];
-    dice.from_to(1, most) as u64
 }

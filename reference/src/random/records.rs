@@ -1,6 +1,7 @@
 //! Records of a job, right ones and ones that are wrong at every limit.
 
 use super::dice::Dice;
+use super::names;
 use crate::record::{Record, RouteByValue};
 use crate::script::writing;
 use crate::sheet::{Route, Sheet};
@@ -121,7 +122,7 @@ fn lengthen(route: &mut Records, dice: &mut Dice) {
         return;
     };
     let length = any(&[63, 64, 64, 65, 65, 66, 100], dice);
-    let mut name = 65_535;
+    let mut name = any(&[65_535, 65_540, u32::MAX], dice);
     while route.list.len() < length {
         while route.list.iter().any(|record| record.name == name) {
             name -= 1;
@@ -150,7 +151,7 @@ pub(super) fn add_past_len(route: &mut Records, dice: &mut Dice) {
             return;
         }
         let mut record = any(&route.list, dice);
-        record.name = any(&[record.name, 0, 7, 65_536], dice);
+        record.name = any(&[record.name, 0, 7, 65_536, u32::MAX], dice);
         route.list.push(record);
     }
 }
@@ -163,7 +164,10 @@ pub(super) fn spoil_record(route: &mut Records, dice: &mut Dice) {
     let other = any(&route.list, dice);
     let record = &mut route.list[at];
     match dice.below(12) {
-        0..=1 => record.name = any(&[0, 1, 65_535, 65_536, 65_537, u32::MAX], dice),
+        0..=1 => {
+            let name = some_name(other.name.into(), dice);
+            record.name = name.try_into().expect("a name of 32 bits");
+        }
         2..=3 => record.name = other.name,
         4..=5 => record.ins = some_mask(record.ins, route.places, dice),
         6..=7 => record.outs = some_mask(record.outs, route.places, dice),
@@ -204,9 +208,16 @@ fn some_variables(mask: u32, dice: &mut Dice) -> u32 {
     any(&[&masks[..], &[mask | 1 << 31, mask ^ 1]].concat(), dice)
 }
 
-/// A name at or past its limits, or 63 and more done.
+/// 0, a name at its limits, or one that may end as this one does; below 2^32.
+fn some_name(name: u64, dice: &mut Dice) -> u64 {
+    let other = names::other(name, dice);
+    let most = u32::MAX.into();
+    any(&[0, 0, 0, 1, 65_535, 65_536, most, other, other], dice)
+}
+
+/// A name by `some_name`, or 63 and more done.
 pub(super) fn spoil_done(done: &mut Vec<u64>, dice: &mut Dice) {
-    let name = any(&[0, 1, 65_535, 65_536, u32::MAX.into()], dice);
+    let name = some_name(done.last().copied().unwrap_or(1), dice);
     if done.is_empty() || dice.chance(50) {
         let length = any(&[63, 64, 65, 66, 100], dice);
         let name = done.last().copied().unwrap_or(name);

@@ -3,10 +3,10 @@
 //! and shelves handed in are wrong at times.
 
 use super::dice::Dice;
-use super::plan::{self, Plan};
+use super::plan::Plan;
 use super::records::{add_past_len, any, spoil_done, spoil_record, Records};
 use super::script::{self, ENDING, MOST_BYTES};
-use super::{jobs, redraw, run_at_random, spoil};
+use super::{jobs, names, redraw, run_at_random, spoil};
 use crate::record::RouteByValue;
 use crate::script::writing;
 use crate::sheet::{Route, Sheet};
@@ -210,7 +210,7 @@ impl Loft {
         let edition = self.stored().iter().find(|e| e.number == number);
         let route = edition.map(|edition| edition.route.route());
         let Some(route) = route.filter(jobs::opens) else {
-            return (0..dice.below(4)).map(|_| plan::any_name(dice)).collect();
+            return (0..dice.below(4)).map(|_| names::any_name(dice)).collect();
         };
         let most = any(&[6, 9, 9, 14, 18, 64], dice);
         let length = if dice.chance(60) {

@@ -1,6 +1,6 @@
 //! Longer step names (02, A.2): names and digits at their limits, worked by hand.
 
-use crate::common::{lists, refused, with_line, NEW, OLD};
+use crate::common::{lists, refused, with_line, NEW, OLD, SHEET};
 
 /// Example A's listing.
 const MOVED: &str = include_str!("../../../examples/letters/A.listing");
@@ -25,12 +25,8 @@ const NAMES: usize = 4;
 
 /// Example A with this number at the `#` of a line, and its offset there.
 fn with_number((line, form): (usize, &str), number: &str) -> (String, usize) {
-    let before: usize = with_line(line, "")
-        .lines()
-        .take(line - 1)
-        .map(|l| l.len() + 1)
-        .sum();
-    let offset = before + form.find('#').unwrap();
+    let lines = SHEET.split_inclusive('\n').take(line - 1);
+    let offset = lines.map(str::len).sum::<usize>() + form.find('#').unwrap();
     (with_line(line, &form.replace('#', number)), offset)
 }
 

@@ -1,6 +1,7 @@
 //! Random sheets: what 01 says must hold of each of them.
 
 mod layout;
+mod names;
 mod orders;
 mod sheets;
 mod shelf;

@@ -265,12 +265,14 @@ fn shelves_are_bad_in_every_way() {
         let len = shelf.stored().len();
         let past = shelf.entries[len..].iter().any(|e| *e != Entry::blank());
         let wrong = |entry: &Entry| entry.refused_as_old().is_some();
+        let long = |entry: &Entry| entry.records.iter().step_by(5).any(|&name| name > 65_535);
         let kinds = [
             (faults.is_empty(), "good"),
             (faults.is_empty() && len == 8, "full"),
             (past, "entries past len"),
             (shelf.entries.iter().any(|e| e.len > 64), "route of over 64"),
             (shelf.stored().iter().any(wrong), "wrong route"),
+            (shelf.stored().iter().any(long), "long name"),
         ];
         let met = kinds.into_iter().filter(|(met, _)| *met);
         for kind in met.map(|(_, kind)| kind).chain(faults) {
@@ -278,7 +280,7 @@ fn shelves_are_bad_in_every_way() {
         }
     }
     println!("shelves handed in: {counts:?}");
-    assert_eq!(counts.len(), 10);
+    assert_eq!(counts.len(), 11);
     assert!(counts.values().all(|count| *count >= LEAST));
 }
 
