@@ -1,6 +1,6 @@
 //! Jobs for scripts: small nets that loop and branch, jobs with kept at and
-//! over 16, done lists up to 64, routes at their limits, and twists that rows 6
-//! to 12 refuse or that leave nothing to keep.
+//! over 16, done lists up to 64, routes at their limits, other names, and twists
+//! that rows 6 to 12 refuse or that leave nothing to keep.
 
 use super::dice::Dice;
 use super::{names, run_at_random, spoil};

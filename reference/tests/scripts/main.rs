@@ -4,6 +4,7 @@
 mod common;
 mod direct;
 mod letters;
+mod names;
 mod random;
 mod random_shelves;
 mod rows;
