@@ -3,7 +3,7 @@
 //! long, while most often no more are kept than the second program can search.
 
 use reference::random::dice::Dice;
-use reference::random::{self, plan::any_name, run_at_random};
+use reference::random::{self, names::any_name, run_at_random};
 use reference::sheet::{Route, Sheet, Step};
 use std::collections::BTreeSet;
 

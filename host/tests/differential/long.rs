@@ -8,15 +8,18 @@ use reference::random;
 use reference::random::dice::Dice;
 use reference::sheet;
 
-/// A sheet with a line, or an entry of a list, thousands of times; at times
-/// with a broken byte somewhere.
+/// A sheet with a line, an entry of a list, or a digit thousands of times; at
+/// times with a broken byte somewhere.
 fn long_sheet(dice: &mut Dice) -> Vec<u8> {
     let text = sheet::text(&random::sheet(dice));
     let times = dice.from_to(1_000, 20_000);
-    let (after, more) = match dice.below(4) {
-        0 => ("(job)\n", "(done 65535)\n"),
+    let (after, more) = match dice.below(7) {
+        0 => ("(job)\n", "(done 4294967295)\n"),
         1 => ("(in", " 0"),
         2 => ("(write", " 31"),
+        3 => ("(out", " 4294967296"),
+        4 => ("(old ", "7"),
+        5 => ("(step ", "4294967296"),
         _ => (")\n", "(step 1 (in 0) (out 1) (read) (write))\n"),
     };
     let at = text.find(after).expect("no such form") + after.len();
@@ -38,5 +41,5 @@ fn long_sheets() {
         compare_listing(&bytes, &mut tally, dice);
         compare_try(&bytes, &[], dice);
     });
-    tally.finish("long sheets", "moved", 3, &[1, 3, 4]);
+    tally.finish("long sheets", "moved", 3, &[1, 2, 3, 4]);
 }

@@ -92,23 +92,47 @@ fn lengths_that_are_not_those_of_the_records() {
     }
 }
 
+/// At their limits, and such as end with the 8 or 16 bits of 10, 20 or 30.
+const NAMES: [u32; 10] = [
+    0,
+    1,
+    65_535,
+    65_536,
+    266,
+    65_546,
+    65_556,
+    131_102,
+    u32::MAX - 1,
+    u32::MAX,
+];
+
 #[test]
 fn names_at_their_limits() {
     for at in 0..3 {
-        let all = [0, 1, 65_535, 65_536, u32::MAX].map(|name| {
+        let all = NAMES.map(|name| {
             let mut facts = facts_a();
             facts.old.list[at].name = name;
             facts.done[at] = name.into();
             facts
         });
         compare_each("names", &all);
+        let in_both = NAMES.map(|name| {
+            let mut facts = facts_a();
+            let records = facts.old.list.iter_mut().chain(&mut facts.new.list);
+            for record in records.filter(|record| u64::from(record.name) == facts.done[at]) {
+                record.name = name;
+            }
+            facts.done[at] = name.into();
+            facts
+        });
+        compare_each("names-in-both", &in_both);
     }
 }
 
 #[test]
 fn done_lists_at_their_limits() {
     for length in [0, 1, 63, 64, 65, 66, 100] {
-        let all = [0, 10, 65_535, 65_536, u32::MAX.into()].map(|name| {
+        let all = [0, 10, 65_535, 65_536, 65_546, u32::MAX.into()].map(|name| {
             let mut facts = facts_a();
             facts.done.resize(length, name);
             facts

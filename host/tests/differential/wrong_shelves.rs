@@ -38,7 +38,8 @@ fn right() -> RouteByValue {
 
 /// Routes that put refuses by each of the rows, and right ones at a limit.
 fn routes() -> Vec<RouteByValue> {
-    let mut all = vec![right(), chain(&[]), chain(&[10, 10]), chain(&[10, 65_536])];
+    let mut all = vec![right(), chain(&[]), chain(&[10, 10]), chain(&[10, 0])];
+    all.extend([65_536, 65_546, u32::MAX].map(|name| chain(&[10, name])));
     all.extend([0, 3, 5, 64, 65, u32::MAX].map(|places| RouteByValue { places, ..right() }));
     all.extend([0, 2, 4, 64, 65, 1 << 32, u64::MAX].map(|len| RouteByValue { len, ..right() }));
     for mask in [0, 0x1ff, 1 << 63, 1, 8 | 1] {
@@ -184,7 +185,7 @@ fn pairs_judged_from_each_shelf() {
 /// Each route as the edition and as the target, with done lists at their limits.
 #[test]
 fn routes_judged_from_a_shelf() {
-    let lists: [&[u64]; 9] = [
+    let lists: [&[u64]; 11] = [
         &[],
         &[10],
         &[10, 20, 30],
@@ -192,6 +193,8 @@ fn routes_judged_from_a_shelf() {
         &[40],
         &[0],
         &[65_536],
+        &[10, 65_546],
+        &[10, 4_294_967_295],
         &[10; 64],
         &[10; 65],
     ];

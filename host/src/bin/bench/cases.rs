@@ -55,6 +55,7 @@ pub fn cases() -> Vec<Case> {
     };
     vec![
         case("usual job, moved by search", sheet(OLD, NEW, &DONE), true),
+        case("usual job, ten-digit names", long_names(), false),
         case("refused by row 12, last done", changed(), false),
         case("full sheet, straight", full(), true),
         case("long listing, straight", looped(), false),
@@ -69,6 +70,13 @@ fn sheet(old: &str, new: &str, done: &[u32]) -> String {
         let _ = writeln!(text, "(done {name})");
     }
     text
+}
+
+/// The usual job with 4,000,000,000 more in each name.
+fn long_names() -> String {
+    let longer = |text: &str, word: &str| text.replace(word, &format!("{word}4000000"));
+    let [old, new] = [OLD, NEW].map(|route| longer(route, "(step "));
+    longer(&sheet(&old, &new, &DONE), "(done ")
 }
 
 /// The usual job, but the new route's 180 reads one variable more.
@@ -125,12 +133,12 @@ fn worst() -> String {
     sheet(&old, &new, &done)
 }
 
-/// The longest sheet that reads, 18,136 bytes. Its places below 10 are in no
+/// The longest sheet that reads, 19,096 bytes. Its places below 10 are in no
 /// step, so row 6 refuses it.
 fn longest() -> String {
     let list: String = (0..8).map(|i| entry(20 + i)).collect();
     let steps: String = (0..64)
-        .map(|i| step(10_000 + i, &list, &list, &list, &list))
+        .map(|i| step(4_000_000_000 + i, &list, &list, &list, &list))
         .collect();
-    both(64, &steps, &[65_535; 64])
+    both(64, &steps, &[u32::MAX; 64])
 }

@@ -8,14 +8,14 @@ use reference::sheet::{self, Route, Sheet, Step};
 
 const SLICE: u64 = 3;
 const TRY: u64 = 4;
-const JUDGE: u64 = 5;
+pub const JUDGE: u64 = 5;
 const READ: u64 = 6;
 const PRINT: u64 = 9;
 const READ_INTO: u64 = 16;
-const LENT: u64 = 10;
+pub const LENT: u64 = 10;
 
 /// A step between two sets of places.
-fn step(name: u64, places: [&[u64]; 2], variables: [&[u64]; 2]) -> Step {
+pub fn step(name: u64, places: [&[u64]; 2], variables: [&[u64]; 2]) -> Step {
     let [ins, outs] = places.map(<[u64]>::to_vec);
     let [reads, writes] = variables.map(<[u64]>::to_vec);
     Step {
@@ -27,14 +27,14 @@ fn step(name: u64, places: [&[u64]; 2], variables: [&[u64]; 2]) -> Step {
     }
 }
 
-fn route(places: u64, steps: &[Step]) -> Route {
+pub fn route(places: u64, steps: &[Step]) -> Route {
     Route {
         places,
         steps: steps.to_vec(),
     }
 }
 
-fn job(old: &Route, new: &Route, done: &[u64]) -> Sheet {
+pub fn job(old: &Route, new: &Route, done: &[u64]) -> Sheet {
     Sheet {
         old: old.clone(),
         new: new.clone(),
@@ -42,21 +42,21 @@ fn job(old: &Route, new: &Route, done: &[u64]) -> Sheet {
     }
 }
 
-fn on_records(number: u64, job: &Sheet, last: &[String]) -> String {
+pub fn on_records(number: u64, job: &Sheet, last: &[String]) -> String {
     let facts = Facts::of(job).text(number > LENT);
     operation(number, &[&[facts], last].concat())
 }
 
-fn read(text: &str) -> String {
+pub fn read(text: &str) -> String {
     operation(READ, &[bytes(text.as_bytes())])
 }
 
-fn print(job: &Sheet, out: usize) -> String {
+pub fn print(job: &Sheet, out: usize) -> String {
     let sheet = bytes(sheet::text(job).as_bytes());
     operation(PRINT, &[sheet, fill(WORK, 7), fill(out, 9)])
 }
 
-fn judge(job: &Sheet) -> String {
+pub fn judge(job: &Sheet) -> String {
     on_records(JUDGE, job, &[fill(WORK, 7)])
 }
 

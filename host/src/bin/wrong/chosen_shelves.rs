@@ -59,6 +59,7 @@ pub fn script() -> String {
         bad_shelves(),
         pairs(),
         unused_entries(),
+        long_names(),
     ];
     parts.concat()
 }
@@ -90,7 +91,7 @@ fn routes_rows() -> String {
         with(|route| route.len = 0),
         with(|route| route.len = 65),
         with(|route| route.places = 65),
-        with(|route| route.records[1].name = 65_536),
+        with(|route| route.records[1].name = 0),
         with(|route| route.records[1].outs = 0),
         with(|route| route.records[1].name = 10),
         with(|route| route.places = 4),
@@ -159,4 +160,14 @@ fn unused_entries() -> String {
     longer.len = 2;
     longer.editions[6] = Edition::blank();
     hand_in(&longer) + &put(2, &new()) + &put(9, &new()) + &put(9, &old()) + &judge(2, 9, WORK)
+}
+
+/// Two steps whose names end with the same 16 bits, one way round and the other.
+fn long_names() -> String {
+    let [mut one, mut other] = [old(), new()];
+    one.records[1].name = 65_546;
+    other.records[0].name = 65_546;
+    other.records[2].name = u32::MAX;
+    let judged = judge_editions([1, 2], &[10, 65_546], fill(WORK, 7));
+    hand_in(&Shelf::empty()) + &put(1, &one) + &put(2, &other) + &judged
 }

@@ -1,7 +1,7 @@
 //! Scripts and the second program's answers to them.
 
 use crate::edit::root;
-use crate::{chosen, chosen_shelves};
+use crate::{chosen, chosen_names, chosen_shelves};
 use reference::random::dice::{mix, Dice};
 use reference::random::{script, shelf};
 use reference::script::numbers::MOST_BYTES;
@@ -45,10 +45,12 @@ impl Script {
     }
 }
 
-/// The first has drive's own script and the chosen operations before its random ones.
+/// The first has drive's own script and chosen operations before its random ones,
+/// the second those with long names.
 pub fn all() -> Vec<Script> {
     let own = fs::read_to_string(root().join("crates/drive/stdin")).expect("no script of drive's");
-    let begins = [own + &chosen::script() + &chosen_shelves::script()].into_iter();
+    let first = own + &chosen::script() + &chosen_shelves::script();
+    let begins = [first, chosen_names::script()].into_iter();
     let begins = begins.chain(iter::repeat(String::new()));
     let texts = begins.zip(0..SCRIPTS);
     let texts = texts.map(|(begin, number)| long(begin, script, number));
