@@ -4,18 +4,23 @@
 
 use crate::refusal::Refusal;
 use crate::sheet::{Route, Sheet, Step};
-
-const MOST_DIGITS: usize = 10;
+use crate::version::Version;
 
 /// The bytes of a sheet, and the offset of the first one not yet taken.
 struct Reader<'a> {
     bytes: &'a [u8],
     at: usize,
+    most_digits: usize,
 }
 
 /// Reads the facts of a sheet that keeps the layout. The numbers may be out of range.
-pub fn read(bytes: &[u8]) -> Result<Sheet, Refusal> {
-    Reader { bytes, at: 0 }.sheet()
+pub fn read(bytes: &[u8], version: &Version) -> Result<Sheet, Refusal> {
+    let mut reader = Reader {
+        bytes,
+        at: 0,
+        most_digits: version.most_digits,
+    };
+    reader.sheet()
 }
 
 impl Reader<'_> {
@@ -74,13 +79,13 @@ impl Reader<'_> {
         Ok(entries)
     }
 
-    /// One to `MOST_DIGITS` digits, and none after a leading 0. A digit too many is
+    /// One digit and up to the most, and none after a leading 0. A digit too many is
     /// not taken, so the layout breaks there: no form goes on with a digit.
     fn number(&mut self) -> Result<u64, Refusal> {
         let first = self.digit().ok_or(self.broken())?;
         let mut value = first;
         let mut digits = 1;
-        while first != 0 && digits < MOST_DIGITS {
+        while first != 0 && digits < self.most_digits {
             let Some(digit) = self.digit() else { break };
             value = value * 10 + digit;
             digits += 1;

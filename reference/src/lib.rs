@@ -20,3 +20,4 @@ pub mod sheet;
 pub mod shelf;
 pub mod slice;
 pub mod values;
+pub mod version;

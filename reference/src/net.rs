@@ -3,6 +3,7 @@
 use crate::lines;
 use crate::refusal::{refuse, refuse_if, Refusal};
 use crate::sheet::{Route, Sheet, Step};
+use crate::version::Version;
 use std::collections::BTreeSet;
 
 /// The places with a token.
@@ -56,7 +57,7 @@ pub fn check_places(route: &Route, head: usize) -> Result<(), Refusal> {
 
 /// Runs the done list on the old route, by the rows to 9; gives its marking.
 pub fn run(sheet: &Sheet) -> Result<Marking, Refusal> {
-    lines::check(sheet)?;
+    lines::check(sheet, &Version::PRESENT)?;
     check_places(&sheet.old, sheet.old_line())?;
     check_places(&sheet.new, sheet.new_line())?;
     let mut marking = start(&sheet.old);

@@ -3,6 +3,7 @@
 use crate::layout;
 use crate::lines;
 use crate::refusal::{refuse_if, Refusal};
+use crate::version::Version;
 
 /// A step: its name, its places, and the variables read and written.
 #[derive(Clone, Debug, PartialEq, Eq)]
@@ -64,10 +65,16 @@ pub fn entries(mask: u64) -> Vec<u64> {
     (0..64).filter(|bit| mask >> bit & 1 == 1).collect()
 }
 
-/// Reads a sheet by rows 1, 4, 2, 3 and 5; the lent lists are as long as needed.
+/// Reads a sheet of the present version by rows 1, 4, 2, 3 and 5; the lent lists
+/// are as long as needed.
 pub fn read(bytes: &[u8]) -> Result<Sheet, Refusal> {
-    let sheet = layout::read(bytes)?;
-    lines::check(&sheet)?;
+    read_by(bytes, &Version::PRESENT)
+}
+
+/// The same by the limits of any version.
+pub fn read_by(bytes: &[u8], version: &Version) -> Result<Sheet, Refusal> {
+    let sheet = layout::read(bytes, version)?;
+    lines::check(&sheet, version)?;
     Ok(sheet)
 }
 
@@ -103,7 +110,7 @@ pub fn job_part(bytes: &[u8]) -> (Result<(), Refusal>, &[u8]) {
 
 /// Writes a sheet into the out slice: rows 4, 2, 3, 5 and 15. Gives the bytes written.
 pub fn write(sheet: &Sheet, out: &mut [u8]) -> Result<usize, Refusal> {
-    lines::check(sheet)?;
+    lines::check(sheet, &Version::PRESENT)?;
     let text = text(sheet);
     refuse_if(out.len() < text.len(), 15, text.len())?;
     out[..text.len()].copy_from_slice(text.as_bytes());

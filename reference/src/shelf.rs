@@ -6,6 +6,7 @@ use crate::net;
 use crate::record::RouteByValue;
 use crate::refusal::{refuse, refuse_if, Refusal};
 use crate::sheet::{Route, Sheet};
+use crate::version::Version;
 use std::ops::RangeInclusive;
 
 pub const MOST_EDITIONS: usize = 8;
@@ -97,6 +98,6 @@ impl Shelf {
 
 /// Rows 4, 2, 3, 5, 6 and 7 of a route, as an old route meets them.
 fn check_as_old(route: &Route) -> Result<(), Refusal> {
-    lines::check_route(route, HEAD)?;
+    lines::check_route(route, HEAD, &Version::PRESENT)?;
     net::check_places(route, HEAD)
 }

@@ -112,7 +112,7 @@ fn word_before(bytes: &[u8], at: usize) -> &[u8] {
 /// A number at or past an edge of its range, at times one made of these digits.
 fn other_number(digits: &[u8], dice: &mut Dice) -> String {
     let digits = String::from_utf8_lossy(digits);
-    let length = any(&[10, 11], dice);
+    let length = any(&[5, 6, 10, 11], dice);
     match dice.below(20) {
         0..=9 => any(&SHORT, dice).to_string(),
         10..=14 => any(&LONG, dice).to_string(),

@@ -3,9 +3,12 @@
 
 use super::dice::Dice;
 use super::records::any;
-use crate::lines::NAMES;
 use crate::sheet::{Sheet, Step};
+use crate::version::Version;
 use std::collections::BTreeMap;
+
+/// Names are drawn by its limits.
+const NAMES: Version = Version::PRESENT;
 
 /// Where a name gets one digit more, or one bit more than 8, 16, 31 or 32.
 const EDGES: [u64; 6] = [256, 65_536, 100_000, 1_000_000_000, 1 << 31, 1 << 32];
@@ -15,7 +18,7 @@ pub fn any_name(dice: &mut Dice) -> u64 {
     match dice.below(20) {
         0..=13 => up_to(any(&[9, 99, 999, 9_999, 65_535], dice), dice),
         14..=17 => near(any(&EDGES, dice), dice),
-        _ => up_to(any(&[9_999_999, *NAMES.end()], dice), dice),
+        _ => up_to(any(&[9_999_999, NAMES.greatest_name], dice), dice),
     }
 }
 
@@ -26,7 +29,7 @@ fn up_to(most: u64, dice: &mut Dice) -> u64 {
 /// One of the two names before an edge or of those at it.
 fn near(edge: u64, dice: &mut Dice) -> u64 {
     let name = edge - 2 + dice.below(4) as u64;
-    name.min(*NAMES.end())
+    name.min(NAMES.greatest_name)
 }
 
 /// Another number with the same last bits, so many of them.
@@ -38,7 +41,7 @@ pub fn alike(number: u64, bits: u32, dice: &mut Dice) -> u64 {
 pub fn other(name: u64, dice: &mut Dice) -> u64 {
     let bits = any(&[8, 16, 16], dice);
     let alike = alike(name, bits, dice);
-    if NAMES.contains(&alike) && dice.chance(50) {
+    if NAMES.is_name(alike) && dice.chance(50) {
         alike
     } else {
         any_name(dice)
@@ -47,12 +50,25 @@ pub fn other(name: u64, dice: &mut Dice) -> u64 {
 
 /// A name that none of these is.
 pub fn fresh(taken: &[u64], dice: &mut Dice) -> u64 {
+    not_taken(taken, || match taken.len() {
+        0 => any_name(dice),
+        _ if dice.chance(60) => any_name(dice),
+        _ => other(any(taken, dice), dice),
+    })
+}
+
+/// The same with at most five digits; few of these are over 65,535.
+fn fresh_of_five(taken: &[u64], dice: &mut Dice) -> u64 {
+    not_taken(taken, || match dice.below(30) {
+        0 => any(&[65_535, 65_536, 65_537, 99_999], dice),
+        _ => up_to(any(&[99, 9_999, 65_535], dice), dice),
+    })
+}
+
+/// Draws until a name is none of these.
+fn not_taken(taken: &[u64], mut draw: impl FnMut() -> u64) -> u64 {
     loop {
-        let name = match taken.len() {
-            0 => any_name(dice),
-            _ if dice.chance(60) => any_name(dice),
-            _ => other(any(taken, dice), dice),
-        };
+        let name = draw();
         if !taken.contains(&name) {
             return name;
         }
@@ -61,6 +77,16 @@ pub fn fresh(taken: &[u64], dice: &mut Dice) -> u64 {
 
 /// Gives each name of the job a fresh one, the same wherever it stands.
 pub fn rename(job: &mut Sheet, dice: &mut Dice) {
+    rename_by(fresh, job, dice);
+}
+
+/// The same with names of at most five digits: sheets that most often read by 01's
+/// version too.
+pub fn shorten(job: &mut Sheet, dice: &mut Dice) {
+    rename_by(fresh_of_five, job, dice);
+}
+
+fn rename_by(fresh: fn(&[u64], &mut Dice) -> u64, job: &mut Sheet, dice: &mut Dice) {
     let steps = job.old.steps.iter_mut().chain(&mut job.new.steps);
     let of_steps = steps.map(|step: &mut Step| &mut step.name);
     let mut names: BTreeMap<u64, u64> = BTreeMap::new();

@@ -67,6 +67,19 @@ pub fn turned_round(count: u64) -> (String, String, Vec<u64>) {
     (chain("old", &names), chain("new", &reversed), names)
 }
 
+/// All lists, routes and the done list as long as they may be: the last old and
+/// new names are these, and the old one is done over and over.
+pub fn longest(old: u64, new: u64) -> String {
+    let lists = "(in 56 57 58 59 60 61 62 63) (out 48 49 50 51 52 53 54 55) \
+                 (read 24 25 26 27 28 29 30 31) (write 16 17 18 19 20 21 22 23)";
+    let route = |word: &str, last: u64| {
+        let names = last - 63..=last;
+        let steps = names.map(|name| format!("(step {name} {lists})\n"));
+        format!("({word} 64)\n{}", steps.collect::<String>())
+    };
+    sheet(&route("old", old), &route("new", new), &[old; 64])
+}
+
 pub fn refusal(number: u32, second: usize) -> Refusal {
     Refusal { number, second }
 }

@@ -1,7 +1,7 @@
 //! The examples that 01 asks to be run, at the edges of its limits, with names as
 //! long as 02 has them.
 
-use crate::common::{both, chain, lists, sheet, step, turned_round, NEW, OLD};
+use crate::common::{both, chain, lists, longest, sheet, step, turned_round, NEW, OLD};
 use reference::print::listing_of;
 
 #[test]
@@ -99,17 +99,7 @@ fn the_empty_sheet() {
 
 #[test]
 fn the_longest_sheet_that_reads() {
-    let lists = "(in 56 57 58 59 60 61 62 63) (out 48 49 50 51 52 53 54 55) \
-                 (read 24 25 26 27 28 29 30 31) (write 16 17 18 19 20 21 22 23)";
-    let steps = |last: u64| -> String {
-        let names = last - 63..=last;
-        names
-            .map(|name| format!("(step {name} {lists})\n"))
-            .collect()
-    };
-    let old = format!("(old 64)\n{}", steps(4_294_967_295));
-    let new = format!("(new 64)\n{}", steps(1_000_000_063));
-    let text = sheet(&old, &new, &[4_294_967_295; 64]);
+    let text = longest(4_294_967_295, 1_000_000_063);
     assert_eq!(text.len(), 19_096);
     let facts = reference::sheet::read(text.as_bytes()).unwrap();
     assert_eq!(reference::sheet::text(&facts), text);

@@ -1,5 +1,5 @@
-//! 01's examples, the rows of its table, orders handed in, slips, and 02's names
-//! and shelf.
+//! 01's examples, the rows of its table, orders handed in, slips, 02's names and
+//! shelf, and 01's version of the layout.
 
 mod common;
 mod edges;
@@ -11,3 +11,4 @@ mod rows_job;
 mod rows_sheet;
 mod shelf;
 mod slips;
+mod version;

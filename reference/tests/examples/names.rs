@@ -7,7 +7,7 @@ const MOVED: &str = include_str!("../../../examples/letters/A.listing");
 
 /// Each place of a line of example A where a number may stand, as `#`. Names
 /// come first.
-const NUMBERS: [(usize, &str); 12] = [
+pub const NUMBERS: [(usize, &str); 12] = [
     (2, "(step # (in 0) (out 1) (read) (write 0))\n"),
     (8, "(step # (in 2) (out 3) (read 0 1) (write 2))\n"),
     (10, "(done #)\n"),
@@ -21,10 +21,10 @@ const NUMBERS: [(usize, &str); 12] = [
     (8, "(step 30 (in 2) (out 3) (read 0 #) (write 2))\n"),
     (3, "(step 20 (in 1) (out 2) (read) (write 1 #))\n"),
 ];
-const NAMES: usize = 4;
+pub const NAMES: usize = 4;
 
 /// Example A with this number at the `#` of a line, and its offset there.
-fn with_number((line, form): (usize, &str), number: &str) -> (String, usize) {
+pub fn with_number((line, form): (usize, &str), number: &str) -> (String, usize) {
     let lines = SHEET.split_inclusive('\n').take(line - 1);
     let offset = lines.map(str::len).sum::<usize>() + form.find('#').unwrap();
     (with_line(line, &form.replace('#', number)), offset)

@@ -2,8 +2,9 @@
 //! how sheets that begin so go on; row 1's offset is where none does.
 
 use reference::layout;
-use reference::random::{self, damage::damage, dice::Dice};
+use reference::random::{self, damage::damage, dice::Dice, names::shorten};
 use reference::sheet;
+use reference::version::Version;
 use std::rc::Rc;
 
 /// A set of texts.
@@ -79,39 +80,39 @@ fn after(texts: &Texts, byte: u8) -> Texts {
     }
 }
 
-/// One to ten digits and no leading zero, save 0 itself.
-fn number() -> Texts {
+/// One to so many digits and no leading zero, save 0 itself.
+fn number(most: usize) -> Texts {
     let more = |rest| or(Empty, then(Byte(b'0', b'9'), rest));
-    let nine = (0..9).fold(Empty, |rest, _| more(rest));
-    or(exactly("0"), then(Byte(b'1', b'9'), nine))
+    let others = (1..most).fold(Empty, |rest, _| more(rest));
+    or(exactly("0"), then(Byte(b'1', b'9'), others))
 }
 
-fn list(word: &str) -> Texts {
-    let entries = many(then(exactly(" "), number()));
+fn list(word: &str, most: usize) -> Texts {
+    let entries = many(then(exactly(" "), number(most)));
     chain(vec![exactly(&format!(" ({word}")), entries, exactly(")")])
 }
 
-fn line(word: &str) -> Texts {
+fn line(word: &str, most: usize) -> Texts {
     let head = exactly(&format!("({word} "));
-    chain(vec![head, number(), exactly(")\n")])
+    chain(vec![head, number(most), exactly(")\n")])
 }
 
-fn sheets() -> Texts {
+/// All sheets whose numbers have at most so many digits.
+fn sheets(most: usize) -> Texts {
     let step = || {
-        let lists = ["in", "out", "read", "write"].map(list);
+        let lists = ["in", "out", "read", "write"].map(|word| list(word, most));
         let [ins, outs, reads, writes] = lists;
-        let head = then(exactly("(step "), number());
+        let head = then(exactly("(step "), number(most));
         chain(vec![head, ins, outs, reads, writes, exactly(")\n")])
     };
-    let old = then(line("old"), many(step()));
-    let new = then(line("new"), many(step()));
-    let job = then(exactly("(job)\n"), many(line("done")));
+    let old = then(line("old", most), many(step()));
+    let new = then(line("new", most), many(step()));
+    let job = then(exactly("(job)\n"), many(line("done", most)));
     chain(vec![old, new, job])
 }
 
-/// Row 1's second number for these bytes, if they are no sheet.
-fn breaks_at(bytes: &[u8]) -> Option<usize> {
-    let mut left = sheets();
+/// Row 1's second number for these bytes, if they are none of the sheets.
+fn breaks_at(mut left: Texts, bytes: &[u8]) -> Option<usize> {
     for (offset, &byte) in bytes.iter().enumerate() {
         left = after(&left, byte);
         if matches!(left, None) {
@@ -121,25 +122,35 @@ fn breaks_at(bytes: &[u8]) -> Option<usize> {
     (!holds_empty(&left)).then_some(bytes.len())
 }
 
+/// How the sheet reads by a version whose numbers have at most so many digits:
+/// whole, broken, or ended early.
+fn compare(bytes: &[u8], version: &Version, most: usize) -> usize {
+    let read = layout::read(bytes, version);
+    let offset = read.err().map(|refusal| refusal.second);
+    let text = String::from_utf8_lossy(bytes);
+    assert_eq!(offset, breaks_at(sheets(most), bytes), "of sheet\n{text}");
+    match offset {
+        Option::None => 0,
+        Some(offset) => 1 + usize::from(offset == bytes.len()),
+    }
+}
+
 #[test]
 fn row_1_is_where_no_sheet_begins_so() {
     let seed = crate::seed();
     println!("layout: seed {seed}, 600 sheets");
-    let mut dice = Dice::new(seed);
-    let mut counts = [0; 3];
-    for _ in 0..600 {
-        let whole = sheet::text(&random::sheet(&mut dice)).into_bytes();
-        let bytes = damage(&whole, &mut dice);
-        let read = layout::read(&bytes);
-        let text = String::from_utf8_lossy(&bytes);
-        let offset = read.as_ref().err().map(|refusal| refusal.second);
-        assert_eq!(offset, breaks_at(&bytes), "of sheet\n{text}");
-        let class = match offset {
-            Option::None => 0,
-            Some(offset) => 1 + usize::from(offset == bytes.len()),
-        };
-        counts[class] += 1;
+    for (version, most) in [(Version::PRESENT, 10), (Version::OF_01, 5)] {
+        let mut dice = Dice::new(seed);
+        let mut counts = [0; 3];
+        for _ in 0..600 {
+            let mut facts = random::sheet(&mut dice);
+            if dice.chance(50) {
+                shorten(&mut facts, &mut dice);
+            }
+            let bytes = damage(sheet::text(&facts).as_bytes(), &mut dice);
+            counts[compare(&bytes, &version, most)] += 1;
+        }
+        println!("{most} digits: whole, broken, ended early: {counts:?}");
+        assert!(counts.iter().all(|&count| count > 5));
     }
-    println!("whole, broken, ended early: {counts:?}");
-    assert!(counts.iter().all(|&count| count > 20));
 }

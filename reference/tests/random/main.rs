@@ -6,6 +6,7 @@ mod orders;
 mod sheets;
 mod shelf;
 mod values;
+mod version;
 
 use reference::judge::{judge, Moved, WORK};
 use reference::random::{self, dice::mix, dice::Dice};

@@ -7,6 +7,7 @@ use reference::print::{listing_of, print};
 use reference::random::{self, damage::damage};
 use reference::refusal::Refusal;
 use reference::sheet;
+use reference::version::Version;
 use std::collections::BTreeMap;
 
 /// What became of a sheet, as a word.
@@ -54,7 +55,7 @@ fn every_outcome_is_met() {
 fn writing_what_was_read_gives_the_bytes_back() {
     for_each_sheet("read and write", &mut |facts, dice| {
         let text = sheet::text(facts).into_bytes();
-        assert_eq!(&layout::read(&text).unwrap(), facts);
+        assert_eq!(&layout::read(&text, &Version::PRESENT).unwrap(), facts);
         for bytes in [damage(&text, dice), text] {
             if let Ok(read) = sheet::read(&bytes) {
                 let mut out = vec![0; bytes.len()];
