@@ -1,6 +1,7 @@
 //! Scripts: operations with their arguments, as numbers, and what each answers.
 //! A script has a shelf in hand, at first the empty one: 20 hands in another, 21
-//! puts an edition on it, 22 judges a job of one of its editions.
+//! puts an edition on it, 22 judges a job of one of its editions. 23 reads a sheet
+//! by 01's version, as 6 does by the present one.
 
 pub mod answers;
 pub mod arguments;
@@ -9,6 +10,7 @@ pub mod writing;
 
 use crate::sheet::Sheet;
 use crate::shelf::Shelf;
+use crate::version::Version;
 use arguments::{by_value, bytes, fill, names, record, route, word};
 use numbers::Numbers;
 
@@ -47,7 +49,7 @@ fn one(operation: u64, script: &mut Numbers, shelf: &mut Shelf) -> Option<Vec<u6
             &bytes(script)?,
         )),
         5 | 15 => Some(answers::judge(&facts(operation, script)?, fill(script)?)),
-        6 => Some(answers::read(&bytes(script)?)),
+        6 => Some(answers::read(&bytes(script)?, &Version::PRESENT)),
         7 => Some(answers::job_part(&bytes(script)?)),
         8 | 18 => Some(answers::write(&facts(operation, script)?, fill(script)?)),
         9 => Some(answers::print(
@@ -67,6 +69,7 @@ fn one(operation: u64, script: &mut Numbers, shelf: &mut Shelf) -> Option<Vec<u6
             let (done, work) = (names(script)?, fill(script)?);
             Some(answers::judge_editions(shelf, numbers, &done, work))
         }
+        23 => Some(answers::read(&bytes(script)?, &Version::OF_01)),
         _ => None,
     }
 }

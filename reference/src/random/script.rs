@@ -2,7 +2,7 @@
 
 use super::dice::Dice;
 use super::records::Facts;
-use super::{damage, jobs, orders};
+use super::{damage, jobs, names, orders};
 use crate::judge::WORK;
 use crate::print::listing_of;
 use crate::record::Record;
@@ -16,7 +16,7 @@ pub const MOST_BYTES: usize = 60_000;
 pub(super) const ENDING: usize = 2_000;
 
 /// Each operation, and how often it is drawn.
-const OPERATIONS: [(u64, usize); 16] = [
+const OPERATIONS: [(u64, usize); 17] = [
     (1, 5),
     (2, 5),
     (3, 6),
@@ -33,10 +33,11 @@ const OPERATIONS: [(u64, usize); 16] = [
     (15, 9),
     (16, 6),
     (18, 5),
+    (23, 6),
 ];
 
 /// How an operation begins that is none, or that has an argument past its limit.
-pub const PAST_A_LIMIT: [&str; 36] = [
+pub const PAST_A_LIMIT: [&str; 38] = [
     "0",
     "11",
     "17",
@@ -72,7 +73,9 @@ pub const PAST_A_LIMIT: [&str; 36] = [
     "22 1 2 1 4294967296",
     "22 1 2 0 20001",
     "22 1 2 0 1 256",
-    "23",
+    "23 20001",
+    "23 1 256",
+    "24",
 ];
 
 /// A random script. Few end in the middle of an operation, have a strange word
@@ -117,7 +120,7 @@ pub(super) fn operation(dice: &mut Dice) -> String {
     let number = number(dice);
     let arguments = match number {
         1 => fire(dice),
-        6 | 7 | 9 | 10 | 16 => of_sheet(number, dice),
+        6 | 7 | 9 | 10 | 16 | 23 => of_sheet(number, dice),
         _ => of_records(number, dice),
     };
     writing::operation(number, &arguments)
@@ -177,11 +180,14 @@ fn spoiled(job: &Sheet, dice: &mut Dice) -> Facts {
 
 /// The arguments of an operation on a sheet.
 fn of_sheet(number: u64, dice: &mut Dice) -> Vec<String> {
-    let job = jobs::job(dice);
+    let mut job = jobs::job(dice);
+    if matches!(number, 6 | 23) && dice.chance(50) {
+        names::shorten(&mut job, dice);
+    }
     let mut text = sheet::text(&job).into_bytes();
     match dice.below(100) {
-        0..=14 => text = damage::damage(&text, dice),
-        15..=29 => text = sheet::text(&spoiled(&job, dice).sheet()).into_bytes(),
+        0..=19 => text = damage::damage(&text, dice),
+        20..=34 => text = sheet::text(&spoiled(&job, dice).sheet()).into_bytes(),
         _ => {}
     }
     let mut arguments = vec![bytes(&text)];

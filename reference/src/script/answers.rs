@@ -10,6 +10,7 @@ use crate::refusal::Refusal;
 use crate::sheet::{self, entries, Route, Sheet};
 use crate::shelf::{Edition, Shelf};
 use crate::slice;
+use crate::version::Version;
 
 /// Rows of a table, entries of an order, records of a route by value, done names.
 const ROWS: usize = 64;
@@ -128,14 +129,15 @@ fn writers(moved: &Moved) -> Vec<u64> {
     writers
 }
 
-pub fn read(bytes: &[u8]) -> Vec<u64> {
+pub fn read(bytes: &[u8], version: &Version) -> Vec<u64> {
     let numbers = |facts: Sheet| {
         let done = vec![facts.done.len() as u64];
         let (old, new) = (route_numbers(&facts.old), route_numbers(&facts.new));
         [old, new, done, padded(facts.done, ROWS)].concat()
     };
     let route = 2 + FIELDS * ROWS;
-    line(sheet::read(bytes).map(numbers), 2 * route + 1 + ROWS)
+    let answer = sheet::read_by(bytes, version).map(numbers);
+    line(answer, 2 * route + 1 + ROWS)
 }
 
 /// A route by value: places, len and its records, those past the last blank.

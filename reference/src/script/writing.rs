@@ -73,6 +73,16 @@ pub fn fill(length: usize, byte: u8) -> String {
     format!("{length} {byte}")
 }
 
+/// Operation 6: a sheet is read by the present version.
+pub fn read(sheet: &[u8]) -> String {
+    operation(6, &[bytes(sheet)])
+}
+
+/// Operation 23: a sheet is read by 01's version.
+pub fn read_by_01(sheet: &[u8]) -> String {
+    operation(23, &[bytes(sheet)])
+}
+
 /// Operation 20: a shelf is handed in.
 pub fn hand_in(in_hand: &Shelf) -> String {
     operation(20, &[shelf(in_hand)])

@@ -9,4 +9,5 @@ mod random;
 mod random_shelves;
 mod rows;
 mod shelf;
+mod version;
 mod words;

@@ -48,7 +48,7 @@ pub fn operations() -> impl Iterator<Item = (&'static str, u64, &'static [u64])>
 }
 
 /// The rows that each operation can meet, 0 for a success.
-const ROWS: [(u64, &[u64]); 15] = [
+const ROWS: [(u64, &[u64]); 16] = [
     (1, &[0, 18]),
     (2, &[0, 2, 3, 4, 5, 6, 7, 8, 9]),
     (3, &[0, 2, 3, 4, 5, 6, 7, 8, 9]),
@@ -64,6 +64,7 @@ const ROWS: [(u64, &[u64]); 15] = [
     (15, &[0, 2, 3, 4, 5, 6, 7, 8, 9, 10, 11, 12, 13, 14]),
     (16, &[0, 1, 2, 3, 4, 5, 15]),
     (18, &[0, 2, 3, 4, 5, 15]),
+    (23, &[0, 1, 2, 3, 4, 5]),
 ];
 
 #[test]
