@@ -25,5 +25,6 @@ mod slices;
 mod some_order;
 mod table;
 mod tally;
+mod versions;
 mod wrong_scripts;
 mod wrong_shelves;

@@ -8,8 +8,9 @@ use reference::random::script;
 use reference::script::numbers::MOST_BYTES;
 use std::thread;
 
-/// Operations over records by value, over sheets, and over lent lists.
-const OPERATIONS: [u32; 16] = [1, 2, 3, 4, 5, 6, 7, 8, 9, 10, 12, 13, 14, 15, 16, 18];
+/// Operations over records by value, over sheets, and over lent lists; reading by
+/// 01's version.
+const OPERATIONS: [u32; 17] = [1, 2, 3, 4, 5, 6, 7, 8, 9, 10, 12, 13, 14, 15, 16, 18, 23];
 
 /// These answer without a refusal number: the job part, a shelf handed in.
 const WITHOUT_NUMBER: [u64; 2] = [7, 20];

@@ -3,13 +3,12 @@
 
 use reference::judge::WORK;
 use reference::random::records::Facts;
-use reference::script::writing::{bytes, fill, operation};
+use reference::script::writing::{self, bytes, fill, operation};
 use reference::sheet::{self, Route, Sheet, Step};
 
 const SLICE: u64 = 3;
 const TRY: u64 = 4;
 pub const JUDGE: u64 = 5;
-const READ: u64 = 6;
 const PRINT: u64 = 9;
 const READ_INTO: u64 = 16;
 pub const LENT: u64 = 10;
@@ -48,7 +47,7 @@ pub fn on_records(number: u64, job: &Sheet, last: &[String]) -> String {
 }
 
 pub fn read(text: &str) -> String {
-    operation(READ, &[bytes(text.as_bytes())])
+    writing::read(text.as_bytes())
 }
 
 pub fn print(job: &Sheet, out: usize) -> String {

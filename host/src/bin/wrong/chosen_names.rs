@@ -3,7 +3,7 @@
 
 use crate::chosen::{job, judge, on_records, print, read, route, step, JUDGE, LENT};
 use reference::judge::WORK;
-use reference::script::writing::{bytes, fill, operation};
+use reference::script::writing::{bytes, fill, operation, read_by_01};
 use reference::sheet::{self, Route, Sheet, Step};
 
 const RUN: u64 = 2;
@@ -30,21 +30,43 @@ pub fn script() -> String {
         numbers("in 0", &[100_000, 4_294_967_296, 10_000_000_000]),
         numbers("read 0", &[100_000, 4_294_967_296, 10_000_000_000]),
         long_names(),
+        both_versions(),
     ];
     parts.concat()
 }
 
-/// A sheet that moves straight, with longer numbers in the place of one. Some of
-/// them end with its 16 or 32 bits.
+/// Tries an order on sheets with longer numbers in the place of one. Some of them
+/// end with its 16 or 32 bits.
 fn numbers(word_and_number: &str, longer: &[u64]) -> String {
-    let route = "2)\n(step 1 (in 0) (out 1) (read 0) (write))\n";
-    let text = format!("(old {route}(new {route}(job)\n(done 1)\n");
-    let word = word_and_number.trim_end_matches(|c: char| c.is_ascii_digit());
     let tried = |number: &u64| {
-        let sheet = text.replacen(word_and_number, &format!("{word}{number}"), 1);
+        let sheet = with_number(word_and_number, *number);
         operation(TRY_SHEET, &[bytes(sheet.as_bytes()), bytes(&[1])])
     };
     longer.iter().map(tried).collect()
+}
+
+/// A sheet that moves straight, with another number behind a word.
+fn with_number(word_and_number: &str, number: u64) -> String {
+    let route = "2)\n(step 1 (in 0) (out 1) (read 0) (write))\n";
+    let text = format!("(old {route}(new {route}(job)\n(done 1)\n");
+    let word = word_and_number.trim_end_matches(|c: char| c.is_ascii_digit());
+    text.replacen(word_and_number, &format!("{word}{number}"), 1)
+}
+
+/// Sheets at the limits of 01's version, which the present one reads if only a
+/// name passes them: each is read by both.
+fn both_versions() -> String {
+    let names = [65_535, 65_536, 99_999, 100_000, 4_294_967_295];
+    let others = [99_999, 100_000];
+    let of = |word_and_number, numbers: &[u64]| -> String {
+        let sheets = numbers.iter().map(|&n| with_number(word_and_number, n));
+        sheets
+            .map(|sheet| read_by_01(sheet.as_bytes()) + &read(&sheet))
+            .collect()
+    };
+    let words = ["old 2", "new 2", "in 0", "out 1", "read 0"];
+    let of_names = of("step 1", &names) + &of("done 1", &names);
+    of_names + &words.map(|word| of(word, &others)).concat()
 }
 
 /// Steps in a row, each with a variable of its own.
