@@ -61,7 +61,7 @@ pub fn judge(job: &Sheet) -> String {
 
 /// Every operation of this file, as one script.
 pub fn script() -> String {
-    [long_jobs(), jobs(), searches(), sheets()].concat()
+    [long_jobs(), jobs(), searches(), seventeen_kept(), sheets()].concat()
 }
 
 /// Jobs of 64 and 65 done steps on a route that goes round, and a route of 65 steps.
@@ -102,6 +102,7 @@ fn jobs() -> String {
     [
         judge(&other_writes),
         on_records(SLICE, &other_variables, &[]),
+        on_records(SLICE + LENT, &other_variables, &[]),
         print(&longer, 7_100),
         on_records(SLICE + LENT, &fewer_places, &[]),
         on_records(TRY, &longer, &[bytes(&[1, 1])]),
@@ -128,6 +129,20 @@ fn searches() -> String {
         judge(&job(&route(3, &old[..2]), &route(3, &new[..2]), &[10, 20])),
     ]
     .concat()
+}
+
+/// Steps in a row, each with a variable of its own, of which the last two change
+/// places: all are kept.
+fn seventeen_kept() -> String {
+    let row = |order: &[u64]| {
+        let steps = (0..).zip(order);
+        let steps = steps.map(|(at, &n)| step(n + 1, [&[at], &[at + 1]], [&[], &[n]]));
+        route(order.len() as u64 + 1, &steps.collect::<Vec<Step>>())
+    };
+    let old: Vec<u64> = (0..17).collect();
+    let new = [&old[..15], &[16, 15]].concat();
+    let done: Vec<u64> = (1..=17).collect();
+    judge(&job(&row(&old), &row(&new), &done))
 }
 
 /// Sheets with an entry or a letter too many, without the end of their last line, or

@@ -31,6 +31,7 @@ pub fn script() -> String {
         numbers("read 0", &[100_000, 4_294_967_296, 10_000_000_000]),
         long_names(),
         both_versions(),
+        longest(),
     ];
     parts.concat()
 }
@@ -74,6 +75,19 @@ fn row(names: &[u64]) -> Route {
     let one = |(at, &name): (u64, &u64)| step(name, [&[at], &[at + 1]], [&[], &[at]]);
     let steps: Vec<Step> = (0..).zip(names).map(one).collect();
     route(names.len() as u64 + 1, &steps)
+}
+
+/// The longest sheet's records, written into as many bytes as 01's longest has, and
+/// into one too few.
+fn longest() -> String {
+    let [high, low] = [56, 24].map(|first| (first..first + 8).collect::<Vec<u64>>());
+    let names: Vec<u64> = (4_000_000_000..).take(64).collect();
+    let steps = names.iter();
+    let steps = steps.map(|&name| step(name, [&high, &high], [&low, &low]));
+    let route = route(64, &steps.collect::<Vec<Step>>());
+    let job = job(&route, &route, &names);
+    let write = |room| on_records(WRITE, &job, &[fill(room, 9)]);
+    [18_136, 19_095].map(write).concat()
 }
 
 /// The job of a row whose last two steps change places; their names and the
