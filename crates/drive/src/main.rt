@@ -6,6 +6,7 @@
 //     2, 3, 4, 5, 8      run, slice, try, judge and write over two routes by value and a done list; then the order, the
 //                        work or the out slice
 //     6, 7, 9, 10        read, the job part, print and try over a sheet; then both slices, or the order
+//     23                 as 6, by 01's version
 //     12, 13, 14, 15, 18 as 2 to 5 and 8, over lent lists
 //     16                 read into lent lists of three lengths
 //     20, 21, 22         over the shelf in hand, the empty one at first: a whole shelf handed in; put, a number and a

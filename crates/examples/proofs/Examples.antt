@@ -1,4 +1,4 @@
--- Every sheet of the table gives its listing, by computing the whole way from the sheet's bytes to the listing's.
+-- Every sheet of the tables gives its listing, by computing the whole way from the sheet's bytes to the listing's.
 use mathlib.Core.Path.{refl}
 use Rattle.mask.specs.Mask.{has, membersFrom, members, collect, count}
 use Rattle.route.specs.Steps.{stepsOf, union, names, lookup}
@@ -33,6 +33,7 @@ use Rattle.listing_lines.specs.Lines.{valueLines, refusedLine}
 use Rattle.listing.specs.Listing.{movedText, listing}
 use Rattle.ops.specs.Print.{sheetAnswer, listingOf}
 use Rattle.examples.specs.Table.{codes, bytes, AllPrint, table}
+use Rattle.examples.specs.LongNames.{longNames}
 
 -- The definitions on the way, a name for each stage: to open the name opens all on its line.
 
@@ -76,3 +77,7 @@ the-listing = tt
 pub examples : AllPrint table
 unfolding codes bytes the-layout the-facts the-masks the-routes the-run the-slice the-judge the-listing
 examples = (refl, (refl, (refl, (refl, (refl, (refl, (refl, (refl, (refl, (refl, (refl, (refl, tt))))))))))))
+
+pub long-names : AllPrint longNames
+unfolding codes bytes the-layout the-facts the-masks the-routes the-run the-slice the-judge the-listing
+long-names = (refl, (refl, (refl, (refl, (refl, (refl, (refl, (refl, (refl, (refl, (refl, tt)))))))))))

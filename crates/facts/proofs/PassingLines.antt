@@ -9,7 +9,7 @@ use lib.Dec.{eqb, ltb, leb}
 use lib.ListN.{length, length-append}
 use borrow.Author.Tests.{leb-true, ltb-true}
 use Rattle.mask.proofs.Truth.{both}
-use Rattle.version.proofs.Limits.{low-short, name-short}
+use Rattle.version.proofs.Limits.{fits-iff, low-short, name-short}
 use Rattle.refusal.specs.Rows.{first}
 use Rattle.refusal.specs.declared.Outcome.{Outcome}
 use Rattle.refusal.proofs.Rows.{head-passed, unless-elim, rows-passed}
@@ -19,6 +19,7 @@ use Rattle.version.specs.Limits.{Limits}
 use Rattle.version.specs.declared.Version.{Version}
 use Rattle.layout.specs.Text.{Form, Lines, Shorts, ShortForm, ShortForms, ShortLines}
 use Rattle.facts.specs.Forms.{allBelow, rising, listFits, formFits, formLists, formRow}
+use Rattle.facts.specs.Names.{Within, formNames, NamesTo}
 use Rattle.facts.specs.SheetRows.{formRows, afterForms, routeFormRows, sheetRows}
 
 abbrev pub Passes : List Outcome → Type 0
@@ -88,7 +89,7 @@ forms-fine v (f ∷ l) line places earlier few h =
       omega (arith, rest .1, length-append earlier (f .name ∷ [])),
     )
 
-abbrev pub AllNamed : Version → List ℕ → Type 0
+abbrev AllNamed : Version → List ℕ → Type 0
 AllNamed v [] = Unit {0}
 AllNamed v (n ∷ l) = (nameFits v n ≡ true) × AllNamed v l
 
@@ -147,6 +148,23 @@ lines-fine v x h =
       done = done .0;
       doneFew = omega (arith, done .1);
     }
+
+-- ---- every name is in its version's range
+
+forms-within : (v : Version) (places : ℕ) (l : List Form) → AllFine v places l → Within (v .greatest) (formNames l)
+forms-within v places [] fine = tt
+forms-within v places (f ∷ l) fine = (fits-iff v (f .name) .0 (fine .0 .name), forms-within v places l (fine .1))
+
+names-within : (v : Version) (l : List ℕ) → AllNamed v l → Within (v .greatest) l
+names-within v [] h = tt
+names-within v (n ∷ l) h = (fits-iff v n .0 (h .0), names-within v l (h .1))
+
+pub lines-named : (v : Version) (x : Lines) → AllLines v x → NamesTo (v .greatest) x
+lines-named v x h = record {
+  old = forms-within v (x .oldPlaces) (x .old) (h .old);
+  new = forms-within v (x .newPlaces) (x .new) (h .new);
+  done = names-within v (x .done) (h .done);
+}
 
 -- ---- every number is short
 

@@ -148,6 +148,11 @@ reads-as v s z = go (parse v s) refl
         record { lines = x; parsed = e; passes = passed .0; facts = read-is v s x e ∙ passed .1 }
     go (Parsed.broken r) e = absurd (not-broken v s r z e)
 
+-- its records have its lines
+pub read-back : (v : Version) (s : List ℕ) (r : ReadAs v s) → linesOf (jobRead (readBy v s)) ≡ r .lines
+read-back v s r = ap (λ (y : Sheet). linesOf (jobRead y)) (r .facts)
+    ∙ lines-back v (r .lines) (lines-fine v (r .lines) (r .passes))
+
 -- a sheet that reads passes the rows of its lines
 pub read-lines : (s : List ℕ) → readOf s .number ≡ 0 → LinesPass (jobRead (readOf s))
 read-lines s z = let r = reads-as present s z in ap (λ (y : Sheet). first (lineRows (jobRead y)) .number) (r .facts)

@@ -23,8 +23,7 @@ use Rattle.facts.specs.SheetRows.{formRows, afterForms, routeFormRows, s
 use Rattle.facts.specs.LinesOf.{linesOf}
 use Rattle.facts.specs.declared.Sheet.{Sheet}
 use Rattle.facts.proofs.RowsFold.{reads-facts, rows-answer}
-use Rattle.facts.proofs.PassingLines.{lines-fine}
-use Rattle.facts.proofs.Records.{read-is, lines-back}
+use Rattle.facts.proofs.Records.{read-is, read-back}
 
 -- ---- no line answers 1
 
@@ -94,10 +93,10 @@ sheet-facts {v} limits s x = read-is v s (x .lines) (ap (parse v) (x .same) ∙ 
 pub sheet-lines : {v : Version} (limits : Limits v) (s : List ℕ) (x : IsSheet v s) → readBy v s .number ≡ 0
     → linesOf (jobRead (readBy v s)) ≡ x .lines
 sheet-lines {v} limits s x z =
-    let is = sheet-facts limits s x in
+    let parsed = ap (parse v) (x .same) ∙ complete v limits (x .lines) (x .short) in
+    let is = read-is v s (x .lines) parsed in
     let (passes, facts) = reads-facts v (x .lines) (ap (λ (y : Sheet). y .number) (sym is) ∙ z) in
-    ap (λ (y : Sheet). linesOf (jobRead y)) (is ∙ facts)
-    ∙ lines-back v (x .lines) (lines-fine v (x .lines) passes)
+    read-back v s (record { lines = x .lines; parsed = parsed; passes = passes; facts = is ∙ facts })
 
 -- sound: bytes that reading answers otherwise than by 1 are a sheet
 pub read-sheet : {v : Version} (limits : Limits v) (s : List ℕ) → (readBy v s .number ≡ 1 → ⊥) → IsSheet v s

@@ -418,6 +418,7 @@ module _ (v : Version) (x : Lines) where
       go (fails e q) = absurd (eqb-false (first (sheetRows v x) .number) 0 e
           (sym (ap (λ (s : Sheet). s .number) q) ∙ z))
 
+  -- where its rows pass, it gives them
   pub rows-facts : eqb (first (sheetRows v x) .number) 0 ≡ true → factsOf v x ≡ factsRecord x
   rows-facts h = go facts-stand
     where

@@ -1,75 +1,104 @@
--- What a version reads, one that allows each of its names reads as the same facts: a name that both allow is the only
--- place where a row asks for the version. Assumes nothing.
-use mathlib.Core.Path.{_≡_, refl, sym, ap, ap₂, _∙_}
-use mathlib.Core.Bool.{Bool, true, not, _&&_}
+-- Versions compared: a row asks for the version only where it looks at a name, so lines whose names both allow have the
+-- same rows in both. Assumes nothing.
+use mathlib.Core.Path.{_≡_, refl, sym, ap, ap₂, _∙_, subst}
+use mathlib.Core.Logic.{_↔_}
+use mathlib.Core.Bool.{not}
 use mathlib.Core.List.{List, [], _∷_, _++_}
 use Prim.Native.Nat.{ℕ, _+_, _≤_}
-use lib.Dec.{eqb, ltb}
+use native.Mathlib.Nat.{le-refl}
+use native.Mathlib.Omega.{arith}
+use lib.Dec.{eqb}
 use lib.ListN.{length}
 use Rattle.refusal.specs.Rows.{unless, first}
 use Rattle.refusal.specs.declared.Outcome.{Outcome}
 use Rattle.version.specs.Limits.{nameFits, Limits}
 use Rattle.version.specs.declared.Version.{Version}
-use Rattle.version.proofs.Limits.{fits-wider}
-use Rattle.job.specs.Lines.{placesFit, among, doneRow, doneRows}
+use Rattle.version.proofs.Limits.{fits-iff}
+use Rattle.job.specs.Lines.{placesFit, doneRow, doneRows}
 use Rattle.layout.specs.Text.{Form, Lines}
 use Rattle.layout.proofs.Sound.{sound}
-use Rattle.facts.specs.Forms.{allBelow, formFits, formLists, formRow}
-use Rattle.facts.specs.Facts.{readBy}
-use Rattle.facts.specs.SheetRows.{formRows, afterForms, routeFormRows, sheetRows}
-use Rattle.facts.proofs.PassingLines.{AllFine, AllNamed, AllLines, lines-fine}
-use Rattle.facts.proofs.Records.{reads-as, text-reads}
+use Rattle.facts.specs.Forms.{formFits, formRow}
+use Rattle.facts.specs.Facts.{readBy, jobRead}
+use Rattle.facts.specs.LinesOf.{linesOf}
+use Rattle.facts.specs.Names.{Within, formNames, NamesTo}
+use Rattle.facts.specs.SheetRows.{formRows, afterForms, routeFormRows, sheetRows, factsRecord}
+use Rattle.facts.specs.declared.Sheet.{Sheet}
+use Rattle.facts.proofs.PassingLines.{lines-fine, lines-named}
+use Rattle.facts.proofs.Records.{ReadAs, reads-as, text-reads, read-back}
 
-module _ (v w : Version) (wider : v .greatest ≤ w .greatest) where
-  name-same : (n : ℕ) → nameFits v n ≡ true → nameFits w n ≡ nameFits v n
-  name-same n h = fits-wider v w n wider h ∙ sym h
+module _ (v w : Version) (g : ℕ) (in-v : g ≤ v .greatest) (in-w : g ≤ w .greatest) where
+  name-same : (n : ℕ) → (1 ≤ n) × (n ≤ g) → nameFits w n ≡ nameFits v n
+  name-same n (low, high) =
+      fits-iff w n .1 (low, omega (arith, high, in-w)) ∙ sym (fits-iff v n .1 (low, omega (arith, high, in-v)))
 
-  forms-same : (l : List Form) (line places : ℕ) (earlier : List ℕ) → AllFine v places l
+  form-same : (line places above : ℕ) (earlier : List ℕ) (f : Form) → (1 ≤ f .name) × (f .name ≤ g)
+      → formRow w line places above earlier f ≡ formRow v line places above earlier f
+  unfolding formRow formFits
+  form-same line places above earlier f h = rw (name-same (f .name) h)
+
+  forms-same : (l : List Form) (line places : ℕ) (earlier : List ℕ) → Within g (formNames l)
       → formRows w line places earlier l ≡ formRows v line places earlier l
-  unfolding formRows formRow formFits
-  forms-same [] line places earlier fine = refl
-  forms-same (f ∷ l) line places earlier fine =
-      ap₂ {C = List Outcome}
-      (λ (t : Bool) (k : List Outcome).
-      first
-      (unless (ltb (length earlier) 64) 4 line
-      ∷ unless (t && (allBelow places (f .ins)
-      && (allBelow places (f .outs) && (allBelow 32 (f .reads) && allBelow 32 (f .writes))))) 2 line
-      ∷ unless (formLists f) 3 line
-      ∷ unless (not (among (f .name) earlier)) 5 line
-      ∷ [])
-      ∷ k)
-      (name-same (f .name) (fine .0 .name))
-      (forms-same l (line + 1) places (earlier ++ (f .name ∷ [])) (fine .1))
+  unfolding formRows
+  forms-same [] line places earlier h = refl
+  forms-same (f ∷ l) line places earlier h = ap₂ {C = List Outcome} (λ (o : Outcome) (k : List Outcome). o ∷ k)
+      (form-same line places (length earlier) earlier f (h .0))
+      (forms-same l (line + 1) places (earlier ++ (f .name ∷ [])) (h .1))
 
-  route-same : (line places : ℕ) (l : List Form) → AllFine v places l
+  route-same : (line places : ℕ) (l : List Form) → Within g (formNames l)
       → routeFormRows w line places l ≡ routeFormRows v line places l
   unfolding routeFormRows
-  route-same line places l fine =
+  route-same line places l h =
       ap (λ (k : List Outcome). unless (placesFit places) 2 line
       ∷ (k ++ (unless (not (eqb (length l) 0)) 4 (afterForms line l) ∷ [])))
-      (forms-same l (line + 1) places [] fine)
+      (forms-same l (line + 1) places [] h)
 
-  dones-same : (l : List ℕ) (line above : ℕ) → AllNamed v l → doneRows w line above l ≡ doneRows v line above l
+  dones-same : (l : List ℕ) (line above : ℕ) → Within g l → doneRows w line above l ≡ doneRows v line above l
   unfolding doneRows doneRow
-  dones-same [] line above fine = refl
-  dones-same (n ∷ l) line above fine =
-      ap₂ {C = List Outcome}
-      (λ (t : Bool) (k : List Outcome). first (unless (ltb above 64) 4 line ∷ unless t 2 line ∷ []) ∷ k)
-      (name-same n (fine .0))
-      (dones-same l (line + 1) (above + 1) (fine .1))
+  dones-same [] line above h = refl
+  dones-same (n ∷ l) line above h = ap₂ {C = List Outcome} (λ (o : Outcome) (k : List Outcome). o ∷ k)
+      (rw (name-same n (h .0))) (dones-same l (line + 1) (above + 1) (h .1))
 
-  rows-same : (x : Lines) → AllLines v x → sheetRows w x ≡ sheetRows v x
+  rows-same : (x : Lines) → NamesTo g x → sheetRows w x ≡ sheetRows v x
   unfolding sheetRows
-  rows-same x fine = λ i.
-      route-same 1 (x .oldPlaces) (x .old) (fine .old) i
-      ++ (route-same (afterForms 1 (x .old)) (x .newPlaces) (x .new) (fine .new) i
-      ++ dones-same (x .done) (afterForms (afterForms 1 (x .old)) (x .new) + 1) 0 (fine .done) i)
+  rows-same x h = λ i.
+      route-same 1 (x .oldPlaces) (x .old) (h .old) i
+      ++ (route-same (afterForms 1 (x .old)) (x .newPlaces) (x .new) (h .new) i
+      ++ dones-same (x .done) (afterForms (afterForms 1 (x .old)) (x .new) + 1) 0 (h .done) i)
 
-  pub wider-reads : Limits v → Limits w → (s : List ℕ) → readBy v s .number ≡ 0 → readBy w s ≡ readBy v s
-  wider-reads limits limits′ s z =
-      let r = reads-as v s z in
-      let same = rows-same (r .lines) (lines-fine v (r .lines) (r .passes)) in
+  -- lines that v reads with such names w reads as the same facts
+  reads-same : Limits v → Limits w → (s : List ℕ) (r : ReadAs v s) → NamesTo g (r .lines)
+      → readBy w s ≡ factsRecord (r .lines)
+  reads-same limits limits′ s r h =
       ap (readBy w) (sound v limits s (r .lines) (r .parsed) .same)
-      ∙ text-reads limits′ (r .lines) (ap (λ (rows : List Outcome). eqb (first rows .number) 0) same ∙ r .passes)
-      ∙ sym (r .facts)
+      ∙ text-reads limits′ (r .lines)
+      (ap (λ (rows : List Outcome). eqb (first rows .number) 0) (rows-same (r .lines) h) ∙ r .passes)
+
+-- the names of the lines that a version reads
+read-named : (v : Version) (s : List ℕ) (r : ReadAs v s) → NamesTo (v .greatest) (r .lines)
+read-named v s r = lines-named v (r .lines) (lines-fine v (r .lines) (r .passes))
+
+module _ {v w : Version} (wider : v .greatest ≤ w .greatest) (limits : Limits v) (limits′ : Limits w) (s : List ℕ) where
+  pub wider-reads : readBy v s .number ≡ 0 → readBy w s ≡ readBy v s
+  wider-reads z = let r = reads-as v s z in
+      reads-same v w (v .greatest) (le-refl (v .greatest)) wider limits limits′ s r (read-named v s r) ∙ sym (r .facts)
+
+  -- a version reads what a wider one does, where no name is over its own greatest
+  pub narrower-reads : (readBy v s .number ≡ 0)
+      ↔ ((readBy w s .number ≡ 0) × NamesTo (v .greatest) (linesOf (jobRead (readBy w s))))
+  unfolding factsRecord
+  narrower-reads = (to, from)
+    where
+      to : readBy v s .number ≡ 0 → (readBy w s .number ≡ 0) × NamesTo (v .greatest) (linesOf (jobRead (readBy w s)))
+      to z =
+          let same = wider-reads z in
+          let r = reads-as v s z in (
+            ap (λ (y : Sheet). y .number) same ∙ z,
+            subst (NamesTo (v .greatest)) (sym (ap (λ (y : Sheet). linesOf (jobRead y)) same ∙ read-back v s r))
+                (read-named v s r),
+          )
+
+      from : (readBy w s .number ≡ 0) × NamesTo (v .greatest) (linesOf (jobRead (readBy w s))) → readBy v s .number ≡ 0
+      from (z, h) =
+          let r = reads-as w s z in
+          ap (λ (y : Sheet). y .number) (reads-same w v (v .greatest) wider (le-refl (v .greatest)) limits′ limits s r
+          (subst (NamesTo (v .greatest)) (read-back w s r) h))

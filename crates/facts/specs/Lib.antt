@@ -4,3 +4,4 @@ pub mod Facts
 pub mod JobPart
 pub mod SheetRows
 pub mod LinesOf
+pub mod Names

@@ -75,7 +75,8 @@ unfoldable pub text : Lines → List ℕ
 text x = wordLine Old (x .oldPlaces) (stepLines (x .old)
     (wordLine New (x .newPlaces) (stepLines (x .new) (jobText (x .done)))))
 
--- "A number has one to five digits": every number has at most as many as the version allows
+-- "A number has one to five digits", and in 02 "every number up to ten digits long": every number has at most as many
+-- as the version allows
 abbrev pub Short : Version → ℕ → Type 0
 Short v n = n < 10 ^ v .digits
 

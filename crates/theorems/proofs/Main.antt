@@ -1,6 +1,7 @@
--- The whole promise on one page, in 01's order: the sheet, its bytes both ways, slice and precedence, fit orders, what
--- judge gives and its listing shows, the shelf of 02, and demand 3. Each is proved in the file that its name is cited
--- from. Code meets it through the contracts, which are equalities with the definitions that these theorems speak of.
+-- The whole promise on one page, in 01's order: the sheet, its bytes both ways, the longer names of 02, slice and
+-- precedence, fit orders, what judge gives and its listing shows, the shelf of 02, and demand 3. Each is proved in the
+-- file that its name is cited from. Code meets it through the contracts, which are equalities with the definitions that
+-- these theorems speak of.
 use mathlib.Core.Path.{_≡_}
 use mathlib.Core.Logic.{_↔_}
 use mathlib.Core.Bool.{true, false}
@@ -39,10 +40,11 @@ use Rattle.layout.specs.Text.{jobText}
 use Rattle.layout.specs.Begins.{IsSheet, FirstBroken}
 use Rattle.facts.specs.Facts.{factsOf, readBy, readOf, jobRead}
 use Rattle.facts.specs.JobPart.{jobPart}
+use Rattle.facts.specs.Names.{NamesTo}
 use Rattle.facts.specs.SheetRows.{sheetRows, sheetOf}
 use Rattle.facts.specs.LinesOf.{linesOf, AllWide, asRecord, asRecords}
 use Rattle.facts.proofs.RowOne.{row-1-iff, row-1-offset, read-sheet, sheet-facts, sheet-lines}
-use Rattle.facts.proofs.Wider.{wider-reads}
+use Rattle.facts.proofs.Wider.{wider-reads, narrower-reads}
 use Rattle.facts.proofs.PartText.{job-part-text}
 use Rattle.facts.proofs.Widths.{records-own}
 use Rattle.writer.specs.Written.{written, longest}
@@ -55,7 +57,8 @@ use Rattle.listing.specs.Listing.{listing}
 use Rattle.ops.specs.Print.{sheetAnswer, listingOf, printed, outPrinted}
 use Rattle.ops.specs.SheetTry.{triedSheet}
 use Rattle.examples.specs.Table.{AllPrint, table}
-use Rattle.examples.proofs.Examples.{examples}
+use Rattle.examples.specs.LongNames.{longNames}
+use Rattle.examples.proofs.Examples.{examples, long-names}
 use Rattle.theorems.specs.Values.{Work, allBlank, performAll}
 use Rattle.theorems.specs.Demand3.{Runs, stepsDone, positions, FitFor, ordered, Demand3}
 use Rattle.theorems.specs.Given.{Given}
@@ -115,14 +118,22 @@ job-part-is-its-text = job-part-text
 
 -- ---- "No sheet that reads is longer than 18,136 bytes", and in 02 "a sheet that reads has at most 19,096 bytes"
 
-pub no-sheet-is-longer : {v : Version} → Limits v → (s : List ℕ) → readBy v s .number ≡ 0 → length s ≤ longest v
-no-sheet-is-longer = bounded
+pub no-sheet-is-longer : (s : List ℕ) → readOf s .number ≡ 0 → length s ≤ 19096
+no-sheet-is-longer = bounded present-limits
 
 pub one-is-as-long : (s : List ℕ) × (length s ≡ 19096) × (readOf s .number ≡ 0)
 one-is-as-long = present-attained
 
+pub no-sheet-of-01-is-longer : (s : List ℕ) → readBy scope s .number ≡ 0 → length s ≤ 18136
+no-sheet-of-01-is-longer = bounded scope-limits
+
 pub one-of-01-is-as-long : (s : List ℕ) × (length s ≡ 18136) × (readBy scope s .number ≡ 0)
 one-of-01-is-as-long = scope-attained
+
+-- (in every version 192 times its digits, and 17,176)
+pub no-sheet-of-a-version-is-longer : {v : Version} → Limits v → (s : List ℕ) → readBy v s .number ≡ 0
+    → length s ≤ longest v
+no-sheet-of-a-version-is-longer = bounded
 
 -- ---- "Writing takes the same facts as records: each route is a lent list of step records"
 
@@ -170,14 +181,27 @@ each-version-is-read limits j old new pass = W.lines-then-read limits j old new 
 pub a-name-is-in-its-range : (n : ℕ) → (nameFits present n ≡ true) ↔ ((1 ≤ n) × (n ≤ 4294967295))
 a-name-is-in-its-range = fits-iff present
 
+pub a-name-of-01-is-in-its-range : (n : ℕ) → (nameFits scope n ≡ true) ↔ ((1 ≤ n) × (n ≤ 65535))
+a-name-of-01-is-in-its-range = fits-iff scope
+
 -- so of a record's names, which have 32 bits, only 0 is outside
 pub only-0-is-outside : (n : ℕ) → n < 2 ^ 32 → (nameFits present n ≡ true) ↔ (n ≡ 0 → ⊥)
 only-0-is-outside = word-fits
 
--- what a version reads, a wider one reads as the same facts: every sheet of 01's reads as before
+-- what a version reads, a wider one reads as the same facts: every sheet that 01's version reads is read as before
 pub a-wider-version-reads-the-same : {v w : Version} → v .greatest ≤ w .greatest → Limits v → Limits w → (s : List ℕ)
     → readBy v s .number ≡ 0 → readBy w s ≡ readBy v s
-a-wider-version-reads-the-same {v} {w} = wider-reads v w
+a-wider-version-reads-the-same = wider-reads
+
+-- and a version reads exactly what a wider one reads with each name within its own range
+pub a-version-reads-by-its-names : {v w : Version} → v .greatest ≤ w .greatest → Limits v → Limits w → (s : List ℕ)
+    → (readBy v s .number ≡ 0)
+    ↔ ((readBy w s .number ≡ 0) × NamesTo (v .greatest) (linesOf (jobRead (readBy w s))))
+a-version-reads-by-its-names = narrower-reads
+
+-- "`(done 65536)` is then a plain name", "Eleven digits break the layout": such sheets from bytes to bytes
+pub every-long-name : AllPrint longNames
+every-long-name = long-names
 
 -- ---- "Kept: the last writer in the done list of each new-route variable, and all that these need, over and over."
 

@@ -26,14 +26,8 @@ fits-iff v n = (
   λ h. ap₂ (λ (x y : Bool). x && y) (le-leb 1 n (h .0)) (le-leb n (v .greatest) (h .1)),
 )
 
-pub fits-greatest : (v : Version) (n : ℕ) → nameFits v n ≡ true → n ≤ v .greatest
+fits-greatest : (v : Version) (n : ℕ) → nameFits v n ≡ true → n ≤ v .greatest
 fits-greatest v n h = fits-iff v n .0 h .1
-
--- a name of one version is one of every wider
-pub fits-wider : (v w : Version) (n : ℕ) → v .greatest ≤ w .greatest → nameFits v n ≡ true → nameFits w n ≡ true
-fits-wider v w n wider h =
-    let (low, high) = fits-iff v n .0 h in
-    fits-iff w n .1 (low, omega (arith, wider, high))
 
 -- of the numbers of 32 bits only 0 is no name of the present version
 pub word-fits : (n : ℕ) → n < 2 ^ 32 → (nameFits present n ≡ true) ↔ (n ≡ 0 → ⊥)

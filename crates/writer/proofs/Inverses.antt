@@ -19,12 +19,11 @@ use Rattle.layout.proofs.Sound.{sound}
 use Rattle.facts.specs.Forms.{recordOf}
 use Rattle.facts.specs.Facts.{readBy, readOf, jobRead}
 use Rattle.facts.specs.SheetRows.{sheetRows, filled, factsRecord, sheetOf}
-use Rattle.facts.specs.declared.Sheet.{Sheet}
 use Rattle.facts.proofs.RowsFold.{filled-steps}
 use Rattle.facts.specs.LinesOf.{linesOf, AllWide, asRecords}
 use Rattle.facts.proofs.PassingLines.{Passes, AllLines, lines-fine}
 use Rattle.facts.proofs.Ties.{tie}
-use Rattle.facts.proofs.Records.{ReadAs, records-forms, lines-back, reads-as, text-reads}
+use Rattle.facts.proofs.Records.{ReadAs, records-forms, reads-as, read-back, text-reads}
 use Rattle.facts.proofs.Widths.{lines-same, rows-as-records, rows-wide}
 use Rattle.writer.specs.Written.{written}
 
@@ -34,9 +33,7 @@ pub read-then-write : {v : Version} → Limits v → (s : List ℕ) → readBy v
 unfolding written
 read-then-write {v} limits s z =
     let r = reads-as v s z in
-    ap (λ (y : Sheet). text (linesOf (jobRead y))) (r .facts)
-    ∙ ap text (lines-back v (r .lines) (lines-fine v (r .lines) (r .passes)))
-    ∙ sym (sound v limits s (r .lines) (r .parsed) .same)
+    ap text (read-back v s r) ∙ sym (sound v limits s (r .lines) (r .parsed) .same)
 
 -- a sheet that reads is that of its own records
 pub read-sheetOf : (v : Version) (s : List ℕ) → readBy v s .number ≡ 0 → readBy v s ≡ sheetOf (jobRead (readBy v s))
