@@ -61,7 +61,7 @@ pub fn judge(job: &Sheet) -> String {
 
 /// Every operation of this file, as one script.
 pub fn script() -> String {
-    [long_jobs(), jobs(), searches(), seventeen_kept(), sheets()].concat()
+    [long_jobs(), jobs(), searches(), rows(), sheets()].concat()
 }
 
 /// Jobs of 64 and 65 done steps on a route that goes round, and a route of 65 steps.
@@ -77,6 +77,7 @@ fn long_jobs() -> String {
         judge(&long(64)),
         print(&long(64), 705),
         on_records(SLICE, &long(65), &[]),
+        on_records(SLICE, &long(2), &[]),
         read(&sheet::text(&long(65))),
         read(&sheet::text(&job(&route(2, &many), &round, &[]))),
     ]
@@ -131,28 +132,35 @@ fn searches() -> String {
     .concat()
 }
 
-/// Steps in a row, each with a variable of its own, of which the last two change
-/// places: all are kept.
-fn seventeen_kept() -> String {
+/// Steps in a row: 17 with a variable each, of which the last two change places,
+/// so that all are kept; and 62, which have 63 places.
+fn rows() -> String {
     let row = |order: &[u64]| {
         let steps = (0..).zip(order);
-        let steps = steps.map(|(at, &n)| step(n + 1, [&[at], &[at + 1]], [&[], &[n]]));
+        let steps = steps.map(|(at, &n)| step(n + 1, [&[at], &[at + 1]], [&[], &[n % 32]]));
         route(order.len() as u64 + 1, &steps.collect::<Vec<Step>>())
     };
     let old: Vec<u64> = (0..17).collect();
     let new = [&old[..15], &[16, 15]].concat();
     let done: Vec<u64> = (1..=17).collect();
-    judge(&job(&row(&old), &row(&new), &done))
+    let long = row(&(0..62).collect::<Vec<u64>>());
+    [
+        judge(&job(&row(&old), &row(&new), &done)),
+        judge(&job(&long, &long, &done)),
+    ]
+    .concat()
 }
 
-/// Sheets with an entry or a letter too many, without the end of their last line, or
-/// with a route of no step.
+/// Sheets with an entry or a letter too many, with an entry twice, without the end
+/// of their last line, or with a route of no step.
 fn sheets() -> String {
     let nine = step(10, [&[0], &[1]], [&[0, 1, 2, 3, 4, 5, 6, 7, 8], &[]]);
+    let twice = step(10, [&[0, 0], &[1]], [&[], &[]]);
     let plain = route(2, &[step(10, [&[0], &[1]], [&[], &[]])]);
     let text = sheet::text(&job(&plain, &plain, &[10]));
     [
         read(&sheet::text(&job(&route(2, &[nine]), &plain, &[10]))),
+        read(&sheet::text(&job(&route(2, &[twice]), &plain, &[10]))),
         read(&text[..text.len() - 2]),
         read(&text.replace("(old ", "(oldx")),
         read(&sheet::text(&job(&plain, &route(2, &[]), &[10]))),
