@@ -98,10 +98,18 @@ fn jobs() -> String {
     let late = [step(30, [&[2], &[2]], [&[], &[]]), twenty, ten(&[0])];
     let longer = job(&old, &route(3, &late), &[10]);
     let fewer_places = job(&route(3, &late), &old, &[10]);
+    let again = step(20, [&[1], &[2]], [&[], &[0]]);
+    let first = step(20, [&[0], &[1]], [&[], &[0]]);
+    let dropped = job(
+        &route(3, &[ten(&[0]), again]),
+        &route(2, &[first]),
+        &[10, 20],
+    );
     let plain = route(2, &[ten(&[])]);
     let last_variable = route(2, &[ten(&[31])]);
     [
         judge(&other_writes),
+        judge(&dropped),
         on_records(SLICE, &other_variables, &[]),
         on_records(SLICE + LENT, &other_variables, &[]),
         print(&longer, 7_100),

@@ -6,10 +6,10 @@ use reference::random::dice::{mix, Dice};
 use reference::random::{script, shelf};
 use reference::script::numbers::MOST_BYTES;
 use reference::script::{answers, line};
-use std::{fs, iter};
+use std::fs;
 
-/// So many scripts, each as long as drive takes; one of shelves is added.
-const SCRIPTS: u64 = 7;
+/// So many random scripts, each as long as drive takes; one of shelves is added.
+const SCRIPTS: u64 = 5;
 
 /// A script, and each operation's number with the line of its answer.
 pub struct Script {
@@ -45,24 +45,25 @@ impl Script {
     }
 }
 
-/// The first has drive's own script and chosen operations before its random ones,
-/// the second those with long names.
+/// Two by hand, drive's own script among them; then random ones.
 pub fn all() -> Vec<Script> {
     let own = fs::read_to_string(root().join("crates/drive/stdin")).expect("no script of drive's");
-    let first = own + &chosen::script() + &chosen_shelves::script();
-    let begins = [first, chosen_names::script()].into_iter();
-    let begins = begins.chain(iter::repeat(String::new()));
-    let texts = begins.zip(0..SCRIPTS);
-    let texts = texts.map(|(begin, number)| long(begin, script, number));
-    let shelves = long(String::new(), shelf::script, SCRIPTS);
-    texts.chain([shelves]).map(Script::of).collect()
+    let by_hand = [
+        own + &chosen::script() + &chosen_shelves::script(),
+        chosen_names::script(),
+    ];
+    let random = (0..SCRIPTS).map(|number| long(script, number));
+    let shelves = long(shelf::script, SCRIPTS);
+    let texts = by_hand.into_iter().chain(random).chain([shelves]);
+    texts.map(Script::of).collect()
 }
 
 /// An operation, to see whether the script before it ends with a whole one.
 const FIRE: &str = "1 1 10 1 2 0 1\n";
 
-/// Random scripts after this one, none of which ends in the middle of an operation.
-fn long(mut text: String, script: fn(&mut Dice) -> String, number: u64) -> String {
+/// Random scripts one after another, none of which ends in the middle of an operation.
+fn long(script: fn(&mut Dice) -> String, number: u64) -> String {
+    let mut text = String::new();
     let mut dice = Dice::new(mix(number));
     loop {
         let next = script(&mut dice) + "\n";
