@@ -52,6 +52,7 @@ pub fn all() -> Vec<Script> {
         own + &chosen::script() + &chosen_shelves::script(),
         chosen_names::script(),
     ];
+    assert!(by_hand.iter().all(|text| text.len() <= MOST_BYTES));
     let random = (0..SCRIPTS).map(|number| long(script, number));
     let shelves = long(shelf::script, SCRIPTS);
     let texts = by_hand.into_iter().chain(random).chain([shelves]);
