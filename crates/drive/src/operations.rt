@@ -9,6 +9,8 @@ fn answer(op: u64, nums: &[u64], at: usize, o: &mut [u8; 65536], n: usize) -> us
         1 => drive_routes::fire(nums, at, o, n),
         2 | 3 | 4 | 5 | 8 => drive_routes::answer(op, nums, at, o, n),
         6 | 7 | 9 | 10 | 16 | 23 => drive_sheets::answer(op, nums, at, o, n),
+        24 => drive_lookup::find(nums, at, o, n),
+        25 => drive_lookup::compare(nums, at, o, n),
         _ => drive_lists::answer(op, nums, at, o, n),
     }
 }

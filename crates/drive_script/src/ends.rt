@@ -178,10 +178,11 @@ pub fn operation(nums: &[u64], at: usize) -> usize {
     let op = numbers::at(nums, at, 0);
     match op {
         1 => record(nums, any(nums, next)),
-        2 | 3 | 4 | 5 | 8 => over_routes(op, nums, next),
+        2 | 3 | 4 | 5 | 8 | 25 => over_routes(op, nums, next),
         6 | 7 | 9 | 10 | 16 | 23 => over_sheet(op, nums, next),
         12 | 13 | 14 | 15 | 18 => over_lists(op, nums, next),
         20 | 21 | 22 => over_shelf(op, nums, next),
+        24 => word(nums, any(nums, names(nums, next))),
         _ => STOP,
     }
 }

@@ -6,7 +6,8 @@ use Rattle.route.specs.Firing.{canFire, fire, ifFires, start}
 use Rattle.refusal.specs.Rows.{unless, first}
 use Rattle.opening.specs.Net.{netRow}
 use Rattle.version.specs.Limits.{nameFits}
-use Rattle.job.specs.Lines.{placesFit, stepFits, variableList, placeList, listsFit, among, stepRow, stepRows, routeRows}
+use Rattle.name_set.specs.Among.{among}
+use Rattle.job.specs.Lines.{placesFit, stepFits, variableList, placeList, listsFit, stepRow, stepRows, routeRows}
 use Rattle.job.specs.Lines.{doneRow, doneRows, lineRows, checked}
 use Rattle.running.specs.Run.{runFrom, ran, performed}
 use Rattle.precedence.specs.Order.{inTurn}

@@ -13,7 +13,7 @@ use Rattle.mask.specs.Mask.{has, bit, membersFrom, members}
 use Rattle.mask.proofs.Laws.{has-ext, has-zero, has-or, has-bit}
 use Rattle.mask.proofs.Truth.{both, bool-ext}
 use Rattle.mask.proofs.Sets.{has-width}
-use Rattle.job.specs.Lines.{among}
+use Rattle.name_set.specs.Among.{among}
 use Rattle.facts.specs.Forms.{allBelow, rising, masked}
 use Rattle.facts.proofs.Members.{all-below-width}
 

@@ -13,7 +13,8 @@ use Rattle.route.specs.declared.Step.{Step}
 use Rattle.refusal.specs.declared.Outcome.{Outcome}
 use Rattle.job.specs.Job.{Job, newLine, jobLine}
 use Rattle.version.specs.Limits.{present, nameFits}
-use Rattle.job.specs.Lines.{placesFit, stepFits, variableList, placeList, listsFit, among, stepRow, stepRows, routeRows}
+use Rattle.name_set.specs.Among.{among}
+use Rattle.job.specs.Lines.{placesFit, stepFits, variableList, placeList, listsFit, stepRow, stepRows, routeRows}
 use Rattle.job.specs.Lines.{doneRows, lineRows}
 use Rattle.facts.specs.Forms.{formFits, formLists, formRow}
 use Rattle.facts.specs.SheetRows.{formRows, routeFormRows, sheetRows}

@@ -18,7 +18,8 @@ use Rattle.refusal.proofs.Rows.{head-passed, unless-elim, rows-passed}
 use Rattle.route.specs.declared.Step.{Step}
 use Rattle.job.specs.Job.{Job, newLine, jobLine}
 use Rattle.version.specs.Limits.{present, nameFits}
-use Rattle.job.specs.Lines.{placesFit, stepFits, variableList, placeList, listsFit, among, stepRow, stepRows, routeRows}
+use Rattle.name_set.specs.Among.{among}
+use Rattle.job.specs.Lines.{placesFit, stepFits, variableList, placeList, listsFit, stepRow, stepRows, routeRows}
 use Rattle.job.specs.Lines.{doneRows, lineRows}
 use Rattle.job.proofs.Rows.{route-fits}
 use Rattle.layout.specs.Text.{Form}

@@ -10,7 +10,7 @@ use Rattle.refusal.specs.Rows.{unless, first}
 use Rattle.route.specs.declared.Step.{Step}
 use Rattle.refusal.specs.declared.Outcome.{Outcome}
 use Rattle.version.specs.Limits.{nameFits}
-use Rattle.job.specs.Lines.{among}
+use Rattle.name_set.specs.Among.{among}
 use Rattle.version.specs.declared.Version.{Version}
 use Rattle.layout.specs.Text.{Form}
 

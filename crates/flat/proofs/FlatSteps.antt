@@ -5,11 +5,11 @@ use mathlib.Core.List.{List, [], _∷_}
 use Prim.Native.Nat.{ℕ, zero, suc, _+_, _*_, _/_, _%_, _≤_, _<_}
 use native.Mathlib.Omega.{arith}
 use lib.Seq.{length-take-le}
-use lib.ListN.{length, getD, set, take, replicate, length-take}
+use lib.ListN.{length, getD, set, take, drop, replicate, length-take}
 use Rattle.route.specs.Steps.{blank, names}
 use Rattle.flat.specs.Flat.{stepFrom, stepsIn}
 use Rattle.route.specs.declared.Step.{Step}
-use Rattle.route.proofs.StepList.{names-take}
+use Rattle.route.proofs.StepList.{names-take, names-drop}
 
 pub length-flat : (w : List ℕ) → length (stepsIn w) ≡ length w / 4
 unfolding stepsIn
@@ -99,6 +99,22 @@ flat-few w k n h = omega (arith, length-flat (take (4 * k) w), length-take (4 * 
 
 pub flat-names : (w : List ℕ) (k : ℕ) → names (stepsIn (take (4 * k) w)) ≡ take k (names (stepsIn w))
 flat-names w k = ap names (flat-take w k) ∙ names-take k (stepsIn w)
+
+-- the steps from the k-th on are those of the numbers from 4 k on
+drop-four : (w : List ℕ) (k : ℕ) → stepsIn (drop (4 * suc k) w) ≡ stepsIn (drop (suc (suc (suc (suc (4 * k))))) w)
+drop-four w k = ap (λ (z : ℕ). stepsIn (drop z w)) (four-more k)
+
+pub flat-drop : (w : List ℕ) (k : ℕ) → stepsIn (drop (4 * k) w) ≡ drop k (stepsIn w)
+unfolding stepsIn
+flat-drop w zero = refl
+flat-drop [] (suc k) = drop-four [] k
+flat-drop (n ∷ []) (suc k) = drop-four (n ∷ []) k
+flat-drop (n ∷ a ∷ []) (suc k) = drop-four (n ∷ a ∷ []) k
+flat-drop (n ∷ a ∷ b ∷ []) (suc k) = drop-four (n ∷ a ∷ b ∷ []) k
+flat-drop (n ∷ a ∷ b ∷ c ∷ w) (suc k) = drop-four (n ∷ a ∷ b ∷ c ∷ w) k ∙ flat-drop w k
+
+pub flat-names-drop : (w : List ℕ) (k : ℕ) → names (stepsIn (drop (4 * k) w)) ≡ drop k (names (stepsIn w))
+flat-names-drop w k = ap names (flat-drop w k) ∙ names-drop k (stepsIn w)
 
 -- numbers that are all 0 stand for blank steps
 pub flat-zeros : (k : ℕ) → stepsIn (replicate (4 * k) 0) ≡ replicate k blank

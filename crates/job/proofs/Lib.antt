@@ -1,5 +1,4 @@
 -- Laws on the rows of a job's lines.
-pub mod Among
 pub mod StepRow
 pub mod StepRows
 pub mod Rows

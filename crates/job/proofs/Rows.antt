@@ -15,6 +15,8 @@ use borrow.Author.Tests.{le-ltb, lt-ltb, ltb-true, leb-true, not-true, not-false
 use Rattle.mask.proofs.Truth.{both}
 use Rattle.refusal.specs.Rows.{pass, refuse, unless, first}
 use Rattle.flat.specs.Flat.{stepsIn}
+use Rattle.route.specs.Steps.{names}
+use Rattle.lookup.specs.Around.{Unique}
 use Rattle.route.specs.declared.Step.{Step}
 use Rattle.refusal.specs.declared.Outcome.{Outcome}
 use Rattle.refusal.proofs.Rows.{head-refuses, head-passes, head-passed, row-refuses, row-passes, row-passed, rows-end}
@@ -23,6 +25,7 @@ use Rattle.version.specs.Limits.{present, nameFits}
 use Rattle.job.specs.Lines.{stepRow, stepRows, routeRows, doneRow, doneRows, lineRows, placesFit, LinesPass}
 use Rattle.job.specs.Lines.{AllNamed}
 use Rattle.job.specs.Job.{Job, flatJob, afterSteps, newLine, jobLine}
+use Rattle.job.proofs.UniqueNames.{route-unique}
 
 -- ---- the done lines
 
@@ -159,6 +162,7 @@ pub record RouteFits (places : ℕ) (l : List Step) : Type 0 where
   pub places-fit : places ≤ 64
   pub steps-fit : length l ≤ 64
   pub some-step : 0 < length l
+  pub names-unique : Unique (names l)
 
 pub route-fits : (line places : ℕ) (l : List Step) → eqb (first (routeRows line places l) .number) 0 ≡ true
     → RouteFits places l
@@ -169,7 +173,12 @@ route-fits line places l e =
     let bound : 0 + length l ≤ 64 = steps-short (line + 1) places [] l (omega arith) (lines .0) in
     let some = row-passed (not (eqb (length l) 0)) 4 (afterSteps line l) [] refl (lines .1) in
     let filled : (length l ≡ 0) → ⊥ = eqb-false (length l) 0 (not-true (eqb (length l) 0) (some .0)) in
-    record { places-fit = places-bound places (head .0); steps-fit = omega arith; some-step = omega arith }
+    record {
+      places-fit = places-bound places (head .0);
+      steps-fit = omega arith;
+      some-step = omega arith;
+      names-unique = route-unique line places l e;
+    }
 
 -- each done name is at least 1
 done-named : (line above : ℕ) (l : List ℕ) → eqb (first (doneRows present line above l) .number) 0 ≡ true → AllNamed l
@@ -286,8 +295,23 @@ module _ (places : ℕ) (old : List ℕ) (places′ : ℕ) (new done : List ℕ)
   pub new-steps-fit : length (stepsIn new) ≤ 64
   new-steps-fit = fits .new-fits .steps-fit
 
+  pub old-names-unique : Unique (names (stepsIn old))
+  old-names-unique = fits .old-fits .names-unique
+
+  pub new-names-unique : Unique (names (stepsIn new))
+  new-names-unique = fits .new-fits .names-unique
+
   pub done-names-fit : length done ≤ 64
   done-names-fit = fits .done-fit
 
 -- what the lines of lists of numbers have where they pass
-pub ruleset lists-fit = (needs, old-places-fit, new-places-fit, old-steps-fit, new-steps-fit, done-names-fit)
+pub ruleset lists-fit = (
+  needs,
+  old-places-fit,
+  new-places-fit,
+  old-steps-fit,
+  new-steps-fit,
+  old-names-unique,
+  new-names-unique,
+  done-names-fit,
+)

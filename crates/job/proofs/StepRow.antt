@@ -9,15 +9,12 @@ use lib.ListN.{length}
 use borrow.Author.Tests.{not-true, not-false, lt-ltb}
 use Rattle.refusal.specs.Rows.{pass, refuse, unless, first}
 use Rattle.route.specs.Steps.{names}
-use Rattle.lookup.specs.inner.Position.{position}
 use Rattle.route.specs.declared.Step.{Step}
 use Rattle.refusal.specs.declared.Outcome.{Outcome}
-use Rattle.lookup.specs.declared.Found.{Found}
-use Rattle.lookup.specs.declared.Found.the-variants.{At, Nothing}
 use Rattle.refusal.proofs.Rows.{row-passes, row-refuses, rows-end}
 use Rattle.route.proofs.StepList.{length-names}
-use Rattle.job.specs.Lines.{stepFits, listsFit, among, stepRow}
-use Rattle.job.proofs.Among.{among-found, among-missed}
+use Rattle.name_set.specs.Among.{among}
+use Rattle.job.specs.Lines.{stepFits, listsFit, stepRow}
 
 module _ (line places : ℕ) (earlier : List ℕ) (s : Step) (o : Outcome) where
   pub step-two : (f : Bool) → o ≡ refuse 2 line → length earlier < 64 → f ≡ stepFits places s → not f ≡ true
@@ -39,22 +36,20 @@ module _ (line places : ℕ) (earlier : List ℕ) (s : Step) (o : Outcome) where
     unfolding stepRow
     step-three p t = p ∙ sym (row-refuses (listsFit s) 3 line _ (sym lists ∙ not-true l t) refl) ∙ sym (after-two _)
 
-    pub step-five : (at : Found) (k : ℕ) → o ≡ refuse 5 line → not l ≡ false → at ≡ position (s .name) earlier
-        → at ≡ At k → o ≡ stepRow line places earlier s
+    pub step-five : (known : Bool) → o ≡ refuse 5 line → not l ≡ false → known ≡ among (s .name) earlier
+        → known ≡ true → o ≡ stepRow line places earlier s
     unfolding stepRow
-    step-five at k p t found e =
-        p ∙ sym (row-refuses (not (among (s .name) earlier)) 5 line []
-        (ap not (among-found (s .name) earlier k (sym found ∙ e))) refl)
+    step-five known p t is e =
+        p ∙ sym (row-refuses (not (among (s .name) earlier)) 5 line [] (ap not (sym is ∙ e)) refl)
         ∙ sym (row-passes (listsFit s) 3 line _ (sym lists ∙ not-false l t))
         ∙ sym (after-two _)
 
-    pub step-none : (at : Found) → o ≡ pass → not l ≡ false → at ≡ position (s .name) earlier → at ≡ Nothing
+    pub step-none : (known : Bool) → o ≡ pass → not l ≡ false → known ≡ among (s .name) earlier → known ≡ false
         → o ≡ stepRow line places earlier s
     unfolding stepRow
-    step-none at p t found e =
+    step-none known p t is e =
         p ∙ sym rows-end
-        ∙ sym (row-passes (not (among (s .name) earlier)) 5 line []
-        (ap not (among-missed (s .name) earlier (sym found ∙ e))))
+        ∙ sym (row-passes (not (among (s .name) earlier)) 5 line [] (ap not (sym is ∙ e)))
         ∙ sym (row-passes (listsFit s) 3 line _ (sym lists ∙ not-false l t))
         ∙ sym (after-two _)
 

@@ -1,6 +1,6 @@
 -- Row 5: in a route whose rows pass no name stands twice.
 use mathlib.Core.Path.{_≡_, refl, sym, ap, _∙_}
-use mathlib.Core.Bool.{Bool, true, false, not, _||_, false≢true}
+use mathlib.Core.Bool.{Bool, true, false, not, false≢true}
 use mathlib.Core.List.{List, [], _∷_, _++_, append-nil}
 use Prim.Native.Nat.{ℕ, zero, suc, _+_, _<_}
 use native.Mathlib.Omega.{arith}
@@ -8,24 +8,16 @@ use native.Mathlib.Nat.{le-of-suc-le-suc, not-suc-le-zero}
 use lib.Dec.{eqb, ltb}
 use lib.ListN.{length, take, getD}
 use lib.Seq.{append-snoc, getD-take, length-take-le}
-use borrow.Author.Tests.{eq-eqb, not-true}
+use borrow.Author.Tests.{ltb-true, ltb-false, not-true}
 use Rattle.refusal.specs.Rows.{first}
 use Rattle.refusal.proofs.Rows.{head-passed, row-passed, rows-passed}
 use Rattle.route.specs.Steps.{blank, names}
 use Rattle.route.specs.declared.Step.{Step}
 use Rattle.route.proofs.StepList.{length-names, getD-names, names-take}
-use Rattle.job.specs.Lines.{among, placesFit, stepFits, listsFit, stepRow, stepRows, routeRows}
-
--- a name that stands among names is found there
-among-at : (n : ℕ) (l : List ℕ) (i : ℕ) → i < length l → getD l i 0 ≡ n → among n l ≡ true
-unfolding among
-among-at n [] i h e = absurd (not-suc-le-zero h)
-among-at n (x ∷ l) zero h e = ap (λ (t : Bool). t || among n l) (eq-eqb x n e)
-among-at n (x ∷ l) (suc i) h e = go (eqb x n) (among-at n l i (le-of-suc-le-suc h) e)
-  where
-    go : (t : Bool) → among n l ≡ true → (t || among n l) ≡ true
-    go true p = refl
-    go false p = p
+use Rattle.lookup.specs.Around.{Unique}
+use Rattle.name_set.specs.Among.{among}
+use Rattle.name_set.proofs.Among.{among-at}
+use Rattle.job.specs.Lines.{placesFit, stepFits, listsFit, stepRow, stepRows, routeRows}
 
 -- a step that passes has no earlier step's name
 row-new : (line places : ℕ) (earlier : List ℕ) (s : Step) → eqb (stepRow line places earlier s .number) 0 ≡ true
@@ -58,17 +50,26 @@ steps-new line places earlier (s ∷ l) e k h =
         ap (λ (x : List ℕ). among (getD l k blank .name) x) (sym (append-snoc earlier (s .name) (names (take k l))))
         ∙ ih (now .1) k (le-of-suc-le-suc h)
 
-pub route-unique : (line places : ℕ) (l : List Step) → eqb (first (routeRows line places l) .number) 0 ≡ true
-    → (i k : ℕ) → i < k → k < length l → getD l i blank .name ≡ getD l k blank .name → ⊥
-unfolding routeRows
-route-unique line places l e i k h b same =
-    let head = row-passed (placesFit places) 2 line _ refl e .1 in
-    let lines = rows-passed (stepRows (line + 1) places [] l) _ head .0 in
-    let new : among (getD l k blank .name) (take k (names l)) ≡ false =
-    ap (λ (x : List ℕ). among (getD l k blank .name) x) (sym (names-take k l))
-    ∙ steps-new (line + 1) places [] l lines k b in
-    let long : length (take k (names l)) ≡ k = length-take-le k (names l) (omega (arith, length-names l)) in
-    let old : among (getD l k blank .name) (take k (names l)) ≡ true =
-    among-at (getD l k blank .name) (take k (names l)) i (omega arith)
-    (getD-take k (names l) i 0 h ∙ getD-names l i ∙ same) in
-    false≢true (sym new ∙ old)
+-- of two positions the later one has another name
+module _ (line places : ℕ) (l : List Step) (e : eqb (first (routeRows line places l) .number) 0 ≡ true) where
+  earlier-differs : (i k : ℕ) → i < k → k < length (names l) → getD (names l) i 0 ≡ getD (names l) k 0 → ⊥
+  unfolding routeRows
+  earlier-differs i k h b same =
+      let head = row-passed (placesFit places) 2 line _ refl e .1 in
+      let lines = rows-passed (stepRows (line + 1) places [] l) _ head .0 in
+      let new : among (getD l k blank .name) (take k (names l)) ≡ false =
+      ap (λ (x : List ℕ). among (getD l k blank .name) x) (sym (names-take k l))
+      ∙ steps-new (line + 1) places [] l lines k (omega (arith, length-names l)) in
+      let long : length (take k (names l)) ≡ k = length-take-le k (names l) (omega arith) in
+      let old : among (getD l k blank .name) (take k (names l)) ≡ true =
+      among-at (getD l k blank .name) (take k (names l)) i (omega arith)
+      (getD-take k (names l) i 0 h ∙ same ∙ getD-names l k) in
+      false≢true (sym new ∙ old)
+
+  pub route-unique : Unique (names l)
+  route-unique i k b c same = go (ltb i k) refl (ltb k i) refl
+    where
+      go : (t : Bool) → ltb i k ≡ t → (u : Bool) → ltb k i ≡ u → i ≡ k
+      go true p u q = absurd (earlier-differs i k (ltb-true i k p) c same)
+      go false p true q = absurd (earlier-differs k i (ltb-true k i q) b (sym same))
+      go false p false q = omega (arith, ltb-false i k p, ltb-false k i q)

@@ -1,6 +1,6 @@
 -- Rows 4, 2, 3 and 5: each line, top down, and for each line the rows in this order.
 use mathlib.Core.Path.{_≡_}
-use mathlib.Core.Bool.{Bool, false, not, _&&_, _||_}
+use mathlib.Core.Bool.{Bool, not, _&&_}
 use mathlib.Core.List.{List, [], _∷_, _++_}
 use Prim.Native.Nat.{ℕ, _+_, _≤_, _<_}
 use lib.Dec.{eqb, ltb, leb}
@@ -10,6 +10,7 @@ use Rattle.mask.specs.Mask.{below, within, count}
 use Rattle.refusal.specs.Rows.{unless, first}
 use Rattle.version.specs.Limits.{present, nameFits}
 use Rattle.version.specs.declared.Version.{Version}
+use Rattle.name_set.specs.Among.{among}
 use Rattle.opening.specs.Net.{netRow}
 use Rattle.route.specs.declared.Step.{Step}
 use Rattle.refusal.specs.declared.Outcome.{Outcome}
@@ -33,11 +34,6 @@ placeList m = not (eqb m 0) && leb (count 64 m) 8
 
 unfoldable pub listsFit : Step → Bool
 listsFit s = placeList (s .ins) && (placeList (s .outs) && (variableList (s .reads) && variableList (s .writes)))
-
--- a name is among names
-unfoldable pub among : ℕ → List ℕ → Bool
-among n [] = false
-among n (x ∷ l) = eqb x n || among n l
 
 -- the rows of one step's line, given the names of the steps above it
 unfoldable pub stepRow : ℕ → ℕ → List ℕ → Step → Outcome

@@ -3,7 +3,6 @@ use crate::lines::check_done;
 use crate::lines::lists_fit;
 use crate::lines::places_fit;
 use crate::lines::step_fits;
-use lookup::Found;
 use opening::Opened;
 use opening::open;
 use refusal::Outcome;
@@ -16,7 +15,7 @@ ghost use Prim.Native.Nat.{_≤_, _<_};
 ghost use lib.ListN.{length};
 ghost use Rattle.refusal.specs.Rows.{first};
 ghost use Rattle.route.specs.Steps.{names};
-ghost use Rattle.lookup.specs.inner.Hints.{Hinted};
+ghost use Rattle.name_set.specs.inner.Hints.{Hinted};
 ghost use Rattle.flat.specs.Flat.{stepsIn};
 ghost use Rattle.job.specs.Job.{flatJob, afterSteps};
 ghost use Rattle.job.specs.Alone.{openedAlone};
@@ -51,10 +50,10 @@ fn check_step(places: u64, s: Step, earlier: &[u64], hint: &[u8; 256], line: u64
     if !lists_fit(s) {
         return Outcome::refuse(3, line);
     }
-    match lookup::find_by(hint, earlier, s.name) {
-        Found::At(_) => Outcome::refuse(5, line),
-        Found::Nothing => Outcome::pass(),
+    if name_set::has(hint, earlier, s.name) {
+        return Outcome::refuse(5, line);
     }
+    Outcome::pass()
 }
 
 // The steps, top down; the first is on `line`.
@@ -74,7 +73,7 @@ fn check_steps(places: u64, steps: &[u64], line: u64) -> Outcome
         if !o.passed() {
             return o;
         }
-        lookup::hint_more(&mut hint, s.name, i);
+        name_set::add(&mut hint, s.name, i);
         i += 1;
     }
     Outcome::pass()

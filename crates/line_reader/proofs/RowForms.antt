@@ -10,11 +10,7 @@ use borrow.Author.Tests.{lt-ltb, le-ltb, not-true, not-false}
 use Rattle.refusal.specs.Rows.{pass, refuse, unless, first}
 use Rattle.refusal.specs.declared.Outcome.{Outcome}
 use Rattle.refusal.proofs.Rows.{row-passes, row-refuses, rows-end}
-use Rattle.lookup.specs.inner.Position.{position}
-use Rattle.lookup.specs.declared.Found.{Found}
-use Rattle.lookup.specs.declared.Found.the-variants.{At, Nothing}
-use Rattle.job.specs.Lines.{among}
-use Rattle.job.proofs.Among.{among-found, among-missed}
+use Rattle.name_set.specs.Among.{among}
 use Rattle.version.specs.Limits.{nameFits, Limits}
 use Rattle.version.specs.declared.Version.{Version}
 use Rattle.version.proofs.Limits.{name-stored}
@@ -52,7 +48,7 @@ module _ (v : Version) (limits : Limits v) (line places above : ℕ) (earlier : 
       row-three q t f is = q ∙ sym (row-refuses (formLists f) 3 line _
           (sym (lists-form l f is) ∙ sym lists ∙ not-true y t) refl) ∙ sym (two-on f is _)
 
-      module _ (fine : not y ≡ false) (at : Found) (found : at ≡ position (l .name % 4294967296) earlier) where
+      module _ (fine : not y ≡ false) (known : Bool) (known-is : known ≡ among (l .name % 4294967296) earlier) where
         three-on : (f : Form) → IsForm l f → (r : List Outcome)
             → first (unless (ltb above 64) 4 line ∷ unless (formFits v places f) 2 line ∷ unless (formLists f) 3 line
             ∷ r) ≡ first r
@@ -63,18 +59,18 @@ module _ (v : Version) (limits : Limits v) (line places above : ℕ) (earlier : 
         unfolding lineFits
         stored = name-stored v limits (l .name) (both (nameFits v (l .name)) _ (sym fits ∙ not-false x fit) .0)
 
-        found-form : (f : Form) → IsForm l f → at ≡ position (f .name) earlier
-        found-form f is = let same : l .name % 4294967296 ≡ f .name =
-            omega (arith, stored, is .name) in found ∙ ap (λ (n : ℕ). position n earlier) same
+        known-form : (f : Form) → IsForm l f → known ≡ among (f .name) earlier
+        known-form f is = let same : l .name % 4294967296 ≡ f .name =
+            omega (arith, stored, is .name) in known-is ∙ ap (λ (n : ℕ). among n earlier) same
 
-        pub row-five : (j : ℕ) → o ≡ refuse 5 line → at ≡ At j → (f : Form) → IsForm l f
+        pub row-five : o ≡ refuse 5 line → known ≡ true → (f : Form) → IsForm l f
             → o ≡ formRow v line places above earlier f
         unfolding formRow
-        row-five j q e f is = q ∙ sym (row-refuses (not (among (f .name) earlier)) 5 line []
-            (ap not (among-found (f .name) earlier j (sym (found-form f is) ∙ e))) refl) ∙ sym (three-on f is _)
+        row-five q e f is = q ∙ sym (row-refuses (not (among (f .name) earlier)) 5 line []
+            (ap not (sym (known-form f is) ∙ e)) refl) ∙ sym (three-on f is _)
 
-        pub row-none : o ≡ pass → at ≡ Nothing → (f : Form) → IsForm l f → o ≡ formRow v line places above earlier f
+        pub row-none : o ≡ pass → known ≡ false → (f : Form) → IsForm l f → o ≡ formRow v line places above earlier f
         unfolding formRow
         row-none q e f is = q ∙ sym rows-end ∙ sym
-            (row-passes (not (among (f .name) earlier)) 5 line []
-            (ap not (among-missed (f .name) earlier (sym (found-form f is) ∙ e)))) ∙ sym (three-on f is _)
+            (row-passes (not (among (f .name) earlier)) 5 line [] (ap not (sym (known-form f is) ∙ e)))
+            ∙ sym (three-on f is _)

@@ -1,7 +1,6 @@
 // Rows 4, 2, 3 and 5 of a line.
 use crate::StepLine;
 use job::lines::places_fit;
-use lookup::Found;
 use refusal::Outcome;
 use route::Route;
 use route::Step;
@@ -12,7 +11,7 @@ ghost use mathlib.Core.Bool.{true};
 ghost use Prim.Native.Nat.{ℕ, _≤_};
 ghost use lib.ListN.{length};
 ghost use Rattle.route.specs.Steps.{names};
-ghost use Rattle.lookup.specs.inner.Hints.{Hinted};
+ghost use Rattle.name_set.specs.inner.Hints.{Hinted};
 ghost use Rattle.flat.specs.Flat.{stepsIn};
 ghost use Rattle.version.specs.Limits.{Limits};
 ghost use Rattle.version.specs.declared.Version.{Version};
@@ -128,10 +127,10 @@ pub fn step_row(
     if !line_lists(l) {
         return Outcome::refuse(3, line);
     }
-    match lookup::find_by(hint, steps, (l.name % 4294967296) as u32) {
-        Found::At(_) => Outcome::refuse(5, line),
-        Found::Nothing => Outcome::pass(),
+    if name_set::has(hint, steps, (l.name % 4294967296) as u32) {
+        return Outcome::refuse(5, line);
     }
+    Outcome::pass()
 }
 
 pub fn step_of(l: StepLine) -> Step

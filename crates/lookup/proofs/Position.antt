@@ -14,22 +14,17 @@ use borrow.Author.Tests.{eq-eqb, ne-eqb}
 use Rattle.route.specs.Steps.{blank, names, lookup}
 use Rattle.route.specs.declared.Step.{Step}
 use Rattle.route.proofs.StepList.{length-names, getD-names}
-use Rattle.lookup.specs.inner.Position.{position, further}
+use Rattle.lookup.specs.Position.{position, moved}
 use Rattle.lookup.specs.declared.Found.{Found}
 use Rattle.lookup.specs.declared.Found.the-variants.{At, Nothing}
-
--- a position in what is left after i names
-unfoldable pub moved : ℕ → Found → Found
-moved i (At k) = At (i + k)
-moved i Nothing = Nothing
 
 pub moved-none : (f : Found) → moved 0 f ≡ f
 unfolding moved
 moved-none (At k) = ap At (omega arith)
 moved-none Nothing = refl
 
-moved-on : (i : ℕ) (f : Found) → moved i (further f) ≡ moved (i + 1) f
-unfolding moved further
+moved-on : (i : ℕ) (f : Found) → moved i (moved 1 f) ≡ moved (i + 1) f
+unfolding moved
 moved-on i (At k) = ap At (omega arith)
 moved-on i Nothing = refl
 
@@ -39,7 +34,7 @@ module _ (n : ℕ) (column : List ℕ) (whole : Found) where
   unfolding moved position
   position-hit i h inv e =
       ap At here
-      ∙ sym (ap (λ (t : Bool). moved i (cond t (At 0) (further (position n (drop (suc i) column)))))
+      ∙ sym (ap (λ (t : Bool). moved i (cond t (At 0) (moved 1 (position n (drop (suc i) column)))))
       (eq-eqb (getD column i 0) n e))
       ∙ ap (λ (l : List ℕ). moved i (position n l)) (sym (drop-cons column i 0 h)) ∙ inv
     where
@@ -52,7 +47,7 @@ module _ (n : ℕ) (column : List ℕ) (whole : Found) where
   position-miss i h inv e =
       ap (λ (m : ℕ). moved (i + 1) (position n (drop m column))) (add-one i)
       ∙ sym (moved-on i (position n (drop (suc i) column)))
-      ∙ sym (ap (λ (t : Bool). moved i (cond t (At 0) (further (position n (drop (suc i) column)))))
+      ∙ sym (ap (λ (t : Bool). moved i (cond t (At 0) (moved 1 (position n (drop (suc i) column)))))
       (ne-eqb (getD column i 0) n e))
       ∙ ap (λ (l : List ℕ). moved i (position n l)) (sym (drop-cons column i 0 h))
       ∙ inv
@@ -79,18 +74,18 @@ module _ (n : ℕ) (l : List Step) (i count x : ℕ) (whole : Found) (counted : 
 
 -- what a position says of the list: it is within it, and the name stands there
 pub position-below : (n : ℕ) (l : List ℕ) (k : ℕ) → position n l ≡ At k → k < length l
-unfolding position further
+unfolding position moved
 position-below n [] k e = absurd (clear e)
   where
     clear : Nothing ≡ At k → ⊥
     clear p = let z : _≡_ {A = ℕ} 0 1 = cc in omega arith
 position-below n (x ∷ l) k e = go (eqb x n) (position n l) refl e (position-below n l)
   where
-    go : (t : Bool) (f : Found) → position n l ≡ f → cond t (At 0) (further f) ≡ At k
+    go : (t : Bool) (f : Found) → position n l ≡ f → cond t (At 0) (moved 1 f) ≡ At k
         → ((j : ℕ) → position n l ≡ At j → j < length l) → k < suc (length l)
     go true f p q ih = let z : 0 ≡ k = cc in omega arith
     go false (At j) p q ih =
-        let z : suc j ≡ k = cc in
+        let z : 1 + j ≡ k = cc in
         let b : j < length l = ih j p in
         omega arith
     go false Nothing p q ih = let z : _≡_ {A = ℕ} 0 1 = cc in absurd (omega arith)
@@ -102,24 +97,26 @@ module _ {A B : Type 0} (key : A → ℕ) (value : A → B) (find : ℕ → List
     (next : (n : ℕ) (x : A) (l : List A) → find n (x ∷ l) ≡ cond (eqb (key x) n) (some (value x)) (find n l)) where
   pub found-at : (n : ℕ) (l : List A) (k : ℕ) (d : A) → position n (map key l) ≡ At k
       → find n l ≡ some (value (getD l k d))
-  unfolding position further
+  unfolding position moved
   found-at n [] k d e = cc
   found-at n (x ∷ l) k d e = next n x l ∙ go (eqb (key x) n) (position n (map key l)) refl e (found-at n l)
     where
-      go : (t : Bool) (f : Found) → position n (map key l) ≡ f → cond t (At 0) (further f) ≡ At k
+      go : (t : Bool) (f : Found) → position n (map key l) ≡ f → cond t (At 0) (moved 1 f) ≡ At k
           → ((j : ℕ) (d : A) → position n (map key l) ≡ At j → find n l ≡ some (value (getD l j d)))
           → cond t (some (value x)) (find n l) ≡ some (value (getD (x ∷ l) k d))
       go true f p q ih = let z : 0 ≡ k = cc in ap (λ (j : ℕ). some (value (getD (x ∷ l) j d))) z
       go false (At j) p q ih =
-          let z : suc j ≡ k = cc in ih j d p ∙ ap (λ (m : ℕ). some (value (getD (x ∷ l) m d))) z
+          let z : 1 + j ≡ k = cc in
+          let next : suc j ≡ k = omega arith in
+          ih j d p ∙ ap (λ (m : ℕ). some (value (getD (x ∷ l) m d))) next
       go false Nothing p q ih = cc
 
   pub found-nowhere : (n : ℕ) (l : List A) → position n (map key l) ≡ Nothing → find n l ≡ none
-  unfolding position further
+  unfolding position moved
   found-nowhere n [] e = nowhere n
   found-nowhere n (x ∷ l) e = next n x l ∙ go (eqb (key x) n) (position n (map key l)) refl e (found-nowhere n l)
     where
-      go : (t : Bool) (f : Found) → position n (map key l) ≡ f → cond t (At 0) (further f) ≡ Nothing
+      go : (t : Bool) (f : Found) → position n (map key l) ≡ f → cond t (At 0) (moved 1 f) ≡ Nothing
           → (position n (map key l) ≡ Nothing → find n l ≡ none) → cond t (some (value x)) (find n l) ≡ none
       go true f p q ih = cc
       go false (At j) p q ih = cc

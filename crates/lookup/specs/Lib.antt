@@ -1,2 +1,4 @@
 -- Look-up by name.
-pub mod inner
+pub mod Position
+pub mod Around
+pub mod Follows

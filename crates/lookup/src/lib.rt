@@ -1,11 +1,10 @@
 // Look-up by name in a list of steps.
 ghost use mathlib.Core.Path.{_≡_};
-ghost use mathlib.Core.List.{List, [], _∷_, _++_};
-ghost use Prim.Native.Nat.{ℕ, _≤_, _<_};
+ghost use Prim.Native.Nat.{_*_, _≤_, min};
 ghost use lib.ListN.{length};
 ghost use Rattle.route.specs.Steps.{names};
-ghost use Rattle.lookup.specs.inner.Position.{position};
-ghost use Rattle.lookup.specs.inner.Hints.{Hinted};
+ghost use Rattle.lookup.specs.Position.{position};
+ghost use Rattle.lookup.specs.Around.{looked};
 ghost use Rattle.flat.specs.Flat.{stepsIn};
 
 // Where a name stands.
@@ -14,7 +13,15 @@ pub enum Found {
     Nothing,
 }
 
-fn find(steps: &[u64], name: u32) -> Found
+// A look-up: where the name stands, how many names were compared, and where the next look-up begins.
+pub struct Looked {
+    pub found: Found,
+    pub compared: usize,
+    pub next: usize,
+}
+
+// From the top.
+pub fn first(steps: &[u64], name: u32) -> Found
     ensures { λ r. ⌜ r ≡ position name (names (stepsIn (now (steps .entry)))) ⌝ }
 {
     let n = flat::count(steps);
@@ -28,43 +35,43 @@ fn find(steps: &[u64], name: u32) -> Found
     Found::Nothing
 }
 
-// One more name, at `place`: the first of its last digit stays.
-pub fn hint_more(hint: &mut [u8; 256], name: u32, place: usize)
-    requires { ⌜ place < 64 ⌝ }
-    ensures { λ _. ⌜ ((l : List ℕ) → length l ≡ place → Hinted l (now (hint .entry))
-        → Hinted (l ++ (name ∷ [])) (now (hint .exit))) ⌝ }
+// A place among the steps, or their end where it lies past that.
+fn within(steps: &[u64], from: usize) -> usize
+    ensures { λ r. ⌜ (r ≡ min from (length (stepsIn (now (steps .entry))))) × (4 * r ≤ length (now (steps .entry))) ⌝ }
 {
-    let digit = (name % 256) as usize;
-    if hint[digit] == 0 {
-        hint[digit] = place as u8 + 1;
-    }
-}
-
-pub fn hints(steps: &[u64]) -> [u8; 256]
-    requires { ⌜ length (stepsIn (now steps)) ≤ 64 ⌝ }
-    ensures { λ r. ⌜ Hinted (names (stepsIn (now (steps .entry)))) r ⌝ }
-{
-    let mut hint = [0u8; 256];
     let n = flat::count(steps);
-    let mut i = 0;
-    while i < n {
-        hint_more(&mut hint, flat::name_at(steps, i), i);
-        i += 1;
+    if n < from {
+        return n;
     }
-    hint
+    from
 }
 
-// As `find`: a digit without a hint ends no name, and where the hint is right nothing is searched.
-pub fn find_by(hint: &[u8; 256], steps: &[u64], name: u32) -> Found
-    requires { ⌜ Hinted (names (stepsIn (now steps))) (now hint) ⌝ }
-    ensures { λ r. ⌜ r ≡ position name (names (stepsIn (now (steps .entry)))) ⌝ }
+// From `from` to the last, then from the top; a beginning past the last is the top.
+pub fn find(steps: &[u64], from: usize, name: u32) -> Looked
+    ensures { λ r. ⌜ r ≡ looked from name (names (stepsIn (now (steps .entry)))) ⌝ }
 {
-    let k = hint[(name % 256) as usize] as usize;
-    if k == 0 {
-        return Found::Nothing;
+    let n = flat::count(steps);
+    let begin = within(steps, from);
+    let split = 4 * begin;
+    if let Found::At(k) = first(&steps[split..], name) {
+        let place = begin + k;
+        return Looked {
+            found: Found::At(place),
+            compared: k + 1,
+            next: place + 1,
+        };
     }
-    if flat::name_at(steps, k - 1) == name {
-        return Found::At(k - 1);
+    if let Found::At(k) = first(&steps[..split], name) {
+        let next = k + 1;
+        return Looked {
+            found: Found::At(k),
+            compared: n - begin + next,
+            next,
+        };
     }
-    find(steps, name)
+    Looked {
+        found: Found::Nothing,
+        compared: n,
+        next: from,
+    }
 }

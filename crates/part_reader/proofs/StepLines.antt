@@ -15,13 +15,13 @@ use borrow.Author.Tests.{eq-eqb, eqb-true, eqb-false, ltb-true, lt-ltb, not-fals
 use Rattle.refusal.specs.Rows.{unless}
 use Rattle.refusal.specs.declared.Outcome.{Outcome}
 use Rattle.route.specs.Steps.{blank, stepsOf, names}
-use Rattle.lookup.specs.inner.Hints.{Hinted}
+use Rattle.name_set.specs.inner.Hints.{Hinted}
 use Rattle.flat.specs.Flat.{stepsIn}
 use Rattle.route.specs.declared.Step.{Step}
 use Rattle.route.specs.declared.Route.{Route}
 use Rattle.flat.proofs.FlatSteps.{length-flat, flat-take, flat-zeros}
 use Rattle.route.proofs.StepList.{length-names}
-use Rattle.lookup.proofs.DigitHints.{hinted-none}
+use Rattle.name_set.proofs.DigitHints.{hinted-none}
 use Rattle.version.specs.Limits.{Limits}
 use Rattle.version.specs.declared.Version.{Version}
 use Rattle.layout.specs.Text.{Form, Lines}

@@ -156,7 +156,7 @@ pub fn steps(v: Version, s: &[u8], p: Pass, places: u64, list: &mut [u64]) -> Fi
         }
         let one = step_of(l);
         flat::put(list, len, one);
-        lookup::hint_more(&mut hint, one.name, len);
+        name_set::add(&mut hint, one.name, len);
         len += 1;
     }
     Filled {

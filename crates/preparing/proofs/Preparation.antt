@@ -17,7 +17,8 @@ use Rattle.job.specs.Job.{Job, flatJob, jobLine, newStart}
 use Rattle.job.specs.Lines.{lineRows, LinesPass}
 use Rattle.running.specs.Run.{stopped, ran, performed, BegunOf}
 use Rattle.running.specs.declared.Ran.{Ran}
-use Rattle.running.specs.declared.Begun.{Begun}
+use Rattle.finding.specs.inner.Gathering.{GatheredOf}
+use Rattle.finding.specs.declared.Gathered.{Gathered}
 use Rattle.job.proofs.Rows.{pass-fits}
 use Rattle.running.proofs.RunLine.{ran-refused, checked-lines, ran-fits}
 use Rattle.running.proofs.Performed.{length-performed, holds-performed, length-holds}
@@ -53,18 +54,21 @@ module _ (j : Job) where
       ap (λ (x : Ran). refuse (x .number) (x .second)) stops
       ∙ picked false (ap (λ (x : Ran). eqb (x .number) 0) (sym stops) ∙ e)
 
-  -- rows 6 to 9 have been asked: b is what they say, t that they pass. `line` is that of `(job)`
+  -- rows 6 to 9 have been asked: g is what they say, t that they pass. `line` is that of `(job)`
   module _
-      (b : Begun) (occurrences : List ℕ) (begun : BegunOf j b occurrences) (t : Bool)
-      (test : t ≡ eqb (b .outcome .number) 0)
+      (g : Gathered) (occurrences matches : List ℕ) (gathered : GatheredOf j g occurrences matches) (t : Bool)
+      (test : t ≡ eqb (g .begun .outcome .number) 0)
       (line : ℕ) (line-is : line ≡ jobLine j) where
+    abbrev begun : BegunOf j (g .begun) occurrences
+    begun = gathered .begun-is
+
     number-is : eqb (ran j .number) 0 ≡ t
     number-is = sym (test ∙ ap (λ (x : Outcome). eqb (x .number) 0) (begun .outcome-is))
 
     pub prepared-refused :
-        not t ≡ true → (p : Prepared) (matches : List ℕ) → p .outcome ≡ b .outcome → p .line ≡ line
+        not t ≡ true → (p : Prepared) → p .outcome ≡ g .begun .outcome → p .line ≡ line
         → PreparedOf j p occurrences matches
-    prepared-refused off p matches to at =
+    prepared-refused off p to at =
         record {
           outcome-is = to ∙ begun .outcome-is ∙ picked false stops;
           line-is = at ∙ line-is;
@@ -75,11 +79,12 @@ module _ (j : Job) where
         stops = number-is ∙ not-true t off
 
     -- the done list has run; the numbers hold the steps done and the new route's steps for the done names
-    module _
-        (lines : LinesPass j) (on : not t ≡ false) (matches : List ℕ)
-        (holds : Holds (performed (j .new) (j .done)) matches) where
+    module _ (lines : LinesPass j) (on : not t ≡ false) where
       runs : ran j .number ≡ 0
       runs = eqb-true (ran j .number) 0 (number-is ∙ not-false t on)
+
+      holds : Holds (performed (j .new) (j .done)) matches
+      holds = gathered .matches-are runs
 
       matched-is : matched (j .new) doneSteps ≡ performed (j .new) (j .done)
       unfolding matched
@@ -103,7 +108,7 @@ module _ (j : Job) where
       pub prepared-weighed :
           (p : Prepared)
           → (MatchesOf (j .new) (stepsIn (take end occurrences)) (take end matches)
-          → Weighed line (b .start .tokens) (j .new) (stepsIn (take end occurrences)) p)
+          → Weighed line (g .begun .start .tokens) (j .new) (stepsIn (take end occurrences)) p)
           → PreparedOf j p occurrences matches
       prepared-weighed p weighs =
           let w : Weighed (jobLine j) (newStart j) (j .new) doneSteps p =
@@ -186,20 +191,21 @@ module _ (j : Job) where
 
 -- the numbers that are lent, as many as the done names have steps
 module _
-    (places : ℕ) (old : List ℕ) (places′ : ℕ) (new done : List ℕ) (b : Begun) (occurrences : List ℕ)
-    (begun : BegunOf (flatJob places old places′ new done) b occurrences) (t : Bool)
-    (test : t ≡ eqb (b .outcome .number) 0) (on : not t ≡ false) where
-  done-held : length (stepsIn (take (4 * length done) occurrences)) ≡ length done
-  done-held =
+    (places : ℕ) (old : List ℕ) (places′ : ℕ) (new done : List ℕ) (g : Gathered) (occurrences matches : List ℕ)
+    (gathered : GatheredOf (flatJob places old places′ new done) g occurrences matches) (t : Bool)
+    (test : t ≡ eqb (g .begun .outcome .number) 0) (on : not t ≡ false) where
+  done-ran : ran (flatJob places old places′ new done) .number ≡ 0
+  done-ran =
       let j : Job = flatJob places old places′ new done in
-      length-holds (stepsIn old) done occurrences
-      (begun .done-are
-      (eqb-true (ran j .number) 0
-      (ap (λ (x : Outcome). eqb (x .number) 0) (sym (begun .outcome-is)) ∙ sym test ∙ not-false t on)))
+      eqb-true (ran j .number) 0
+      (ap (λ (x : Outcome). eqb (x .number) 0) (sym (gathered .begun-is .outcome-is)) ∙ sym test ∙ not-false t on)
+
+  done-held : length (stepsIn (take (4 * length done) occurrences)) ≡ length done
+  done-held = length-holds (stepsIn old) done occurrences (gathered .begun-is .done-are done-ran)
 
   pub lent-few : length done ≤ 64 → length (stepsIn (take (4 * length done) occurrences)) ≤ 64
   lent-few few = omega (arith, done-held)
 
-  pub lent-alike : (matches : List ℕ) → Holds (performed (stepsIn new) done) matches
-      → length (stepsIn (take (4 * length done) matches)) ≡ length (stepsIn (take (4 * length done) occurrences))
-  lent-alike matches holds = length-holds (stepsIn new) done matches holds ∙ sym done-held
+  pub lent-alike :
+      length (stepsIn (take (4 * length done) matches)) ≡ length (stepsIn (take (4 * length done) occurrences))
+  lent-alike = length-holds (stepsIn new) done matches (gathered .matches-are done-ran) ∙ sym done-held

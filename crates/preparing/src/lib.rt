@@ -1,4 +1,5 @@
 // The rows from 6 to 12, where all lines pass: what try and judge start from.
+use finding::lists::gather;
 use job::checks::job_line;
 use matching::End;
 use matching::rows::kept_rows;
@@ -6,8 +7,6 @@ use matching::same::same_mask;
 use matching::straight::straight_end;
 use refusal::Outcome;
 use route::Marking;
-use running::lists::begin;
-use running::lists::perform;
 use slice::sweeping::keep;
 use slice::variables::variables_of;
 ghost use mathlib.Core.Path.{_≡_};
@@ -83,12 +82,12 @@ pub fn prepare(
         (now (occurrences .exit)) (now (matches .exit)) ⌝ }
 {
     let line = job_line(old, new);
-    let b = begin(old_places, old, new_places, new, done, occurrences);
+    let g = gather(old_places, old, new_places, new, done, occurrences, matches);
+    let b = g.begun;
     let outcome = b.outcome;
     if !outcome.passed() {
         return refused(outcome, line);
     }
-    perform(new, done, matches);
     let start = b.start;
     let end = 4 * done.len();
     weigh(new, &occurrences[..end], &matches[..end], start, line)

@@ -97,6 +97,12 @@ names-take zero l = refl
 names-take (suc n) [] = refl
 names-take (suc n) (s ∷ l) = ap (λ (k : List ℕ). s .name ∷ k) (names-take n l)
 
+pub names-drop : (n : ℕ) (l : List Step) → names (drop n l) ≡ drop n (names l)
+unfolding names
+names-drop zero l = refl
+names-drop (suc n) [] = refl
+names-drop (suc n) (s ∷ l) = names-drop n l
+
 pub lookup-name : (n : ℕ) (l : List Step) (s : Step) → lookup n l ≡ some s → s .name ≡ n
 unfolding lookup
 lookup-name n [] s e = absurd (Option·none-ne-some s e)

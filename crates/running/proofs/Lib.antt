@@ -3,6 +3,7 @@ pub mod Performed
 pub mod RunLine
 pub mod NetsInTurn
 pub mod BegunCases
+pub mod AfterRun
 pub mod FiredDone
 pub mod DoneNames
 pub mod LongLists

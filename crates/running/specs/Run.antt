@@ -6,7 +6,8 @@ use mathlib.Core.Option.{Option·getD}
 use Prim.Native.Nat.{ℕ, _+_}
 use lib.Dec.{eqb}
 use Rattle.refusal.specs.Rows.{refuse, first}
-use Rattle.route.specs.Steps.{blank, lookup}
+use Rattle.route.specs.Steps.{blank, names, lookup}
+use Rattle.lookup.specs.Around.{comparedAll}
 use Rattle.flat.specs.Flat.{Holds}
 use Rattle.route.specs.Firing.{start, ifFires}
 use Rattle.opening.specs.Net.{netRow}
@@ -44,16 +45,19 @@ openedBoth oldPlaces old newPlaces new =
       outcome = first (netRow 1 oldPlaces old ∷ netRow (afterSteps 1 old) newPlaces new ∷ []);
       marking = record { tokens = start oldPlaces old };
       start = record { tokens = start newPlaces new };
+      compared = 0;
     }
 
 -- a refusal by row 6 or 7: no markings
 abbrev pub begunStopped : ℕ → ℕ → Begun
-begunStopped n k = record { outcome = refuse n k; marking = record { tokens = 0 }; start = record { tokens = 0 } }
+begunStopped n k =
+    record { outcome = refuse n k; marking = record { tokens = 0 }; start = record { tokens = 0 }; compared = 0 }
 
--- what stands of a job after row 9: run's answer and, where it is 0, the new route's start and the steps done, as
--- numbers
+-- what stands of a job after row 9: run's answer and, where it is 0, the new route's start, the steps done, as numbers,
+-- and how many of the old route's names their look-ups compared
 pub record BegunOf (j : Job) (b : Begun) (occurrences : List ℕ) : Type 0 where
   pub outcome-is : b .outcome ≡ refuse (ran j .number) (ran j .second)
   pub marking-is : b .marking ≡ ran j .marking
   pub start-is : ran j .number ≡ 0 → b .start .tokens ≡ newStart j
   pub done-are : ran j .number ≡ 0 → Holds (performed (j .old) (j .done)) occurrences
+  pub compared-is : ran j .number ≡ 0 → b .compared ≡ comparedAll (names (j .old)) (j .done)

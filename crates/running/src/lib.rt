@@ -13,11 +13,13 @@ pub struct Ran {
     pub marking: Marking,
 }
 
-// A job whose lines pass, after row 9: the outcome of rows 6 to 9, the old route's marking, and the new route's start.
+// A job whose lines pass, after row 9: the outcome of rows 6 to 9, the old route's marking, the new route's start, and
+// how many of the old route's names were compared.
 pub struct Begun {
     pub outcome: Outcome,
     pub marking: Marking,
     pub start: Marking,
+    pub compared: usize,
 }
 
 impl Ran {
@@ -43,6 +45,7 @@ impl Begun {
             outcome: Outcome::refuse(number, second),
             marking: none,
             start: none,
+            compared: 0,
         }
     }
 }

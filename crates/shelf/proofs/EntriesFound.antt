@@ -10,7 +10,7 @@ use lib.Dec.{ltb, leb}
 use lib.ListN.{length, take, getD}
 use lib.Seq.{getD-take, length-take-le}
 use Rattle.mask.proofs.Truth.{cond-yes, cond-no}
-use Rattle.lookup.specs.inner.Position.{position}
+use Rattle.lookup.specs.Position.{position}
 use Rattle.lookup.specs.declared.Found.{Found}
 use Rattle.lookup.specs.declared.Found.the-variants.{At, Nothing}
 use Rattle.lookup.proofs.Position.{position-below, found-at, found-nowhere}

@@ -8,7 +8,7 @@ ghost use mathlib.Core.Bool.{_&&_};
 ghost use lib.Dec.{leb};
 ghost use lib.ListN.{length, take};
 ghost use Rattle.shelf.specs.Shelf.{noShelf, numberFits, rise, lastOf, numbersIn};
-ghost use Rattle.lookup.specs.inner.Position.{position};
+ghost use Rattle.lookup.specs.Position.{position};
 
 impl Shelf {
     pub const EDITIONS: usize = 8;

@@ -1,75 +1,52 @@
 -- The operation slice, row by row: a line that is refused, a row from 6 to 9, and else what is kept and the table.
 use mathlib.Core.Path.{_≡_, sym, ap, ap₂, _∙_}
-use mathlib.Core.Bool.{Bool, true, false, not, cond}
+use mathlib.Core.Bool.{Bool, true, false, not}
 use mathlib.Core.List.{List}
 use Prim.Native.Nat.{ℕ, _*_, _≤_}
 use native.Mathlib.Omega.{arith}
-use borrow.Author.Tests.{eqb-true, not-true, not-false}
 use lib.Dec.{eqb}
 use lib.ListN.{length, take, length-take}
 use Rattle.refusal.specs.Rows.{first}
 use Rattle.refusal.specs.declared.Outcome.{Outcome}
 use Rattle.flat.specs.Flat.{stepsIn, Laid}
 use Rattle.job.specs.Job.{Job}
-use Rattle.job.specs.Lines.{lineRows, LinesPass}
+use Rattle.job.specs.Lines.{lineRows}
 use Rattle.running.specs.Run.{ran, performed, BegunOf}
-use Rattle.running.specs.declared.Ran.{Ran}
 use Rattle.running.specs.declared.Begun.{Begun}
 use Rattle.job.proofs.LongLists.{Refused, laidJob, same-laid}
 use Rattle.running.proofs.LongLists.{ran-alike, ran-off}
 use Rattle.running.proofs.Performed.{length-performed}
-use Rattle.running.proofs.RunLine.{ran-refused, checked-lines, ran-fits}
+use Rattle.running.proofs.RunLine.{ran-fits}
+use Rattle.running.proofs.AfterRun.{line-ends, run-ends, run-passes, run-answers}
 use Rattle.slice.specs.Slice.{variables, keptMask}
 use Rattle.precedence.specs.Table.{table}
 use Rattle.slicing.specs.Slicing.{slicedStopped, sliced}
 use Rattle.slicing.specs.declared.Sliced.{Sliced}
 
 module _ (j : Job) where
-  -- the answer by run's number
-  picked : (t : Bool) → eqb (ran j .number) 0 ≡ t
-      → sliced j ≡ cond t (record {
+  abbrev answer : Sliced
+  answer =
+      record {
         number = 0;
         second = 0;
         kept = keptMask (performed (j .old) (j .done)) (variables (j .new));
-        table =
-            table (performed (j .old) (j .done));
-      }) (slicedStopped (ran j .number) (ran j .second))
+        table = table (performed (j .old) (j .done));
+      }
+
+  pub slice-line : (o : Outcome) → o ≡ first (lineRows j) → (t : Bool) → t ≡ eqb (o .number) 0 → (r : Sliced)
+      → not t ≡ true → r ≡ slicedStopped (o .number) (o .second) → r ≡ sliced j
   unfolding sliced
-  picked t e = ap (λ (x : Bool). cond x (record {
-    number = 0;
-    second = 0;
-    kept = keptMask (performed (j .old) (j .done)) (variables (j .new));
-    table =
-        table (performed (j .old) (j .done));
-  }) (slicedStopped (ran j .number) (ran j .second))) e
-
-  module _ (o : Outcome) (is : o ≡ first (lineRows j)) (t : Bool) (test : t ≡ eqb (o .number) 0) where
-    pub slice-line : (r : Sliced) → not t ≡ true → r ≡ slicedStopped (o .number) (o .second) → r ≡ sliced j
-    slice-line r refused e =
-        let no : eqb (o .number) 0 ≡ false = sym test ∙ not-true t refused in
-        let stop = ran-refused j o (checked-lines j o is no) no in
-        e
-        ∙ ap (λ (x : Ran). slicedStopped (x .number) (x .second)) stop
-        ∙ sym (picked false (ap (λ (x : Ran). eqb (x .number) 0) (sym stop) ∙ no))
-
-    pub lines-pass : not t ≡ false → LinesPass j
-    lines-pass passed = ap (λ (x : Outcome). x .number) (sym is)
-        ∙ eqb-true (o .number) 0 (sym test ∙ not-false t passed)
+  slice-line o is t test r refused e = e ∙ line-ends slicedStopped answer j o is t test refused
 
   module _ (b : Begun) (w : List ℕ) (is : BegunOf j b w) (t : Bool) (test : t ≡ eqb (b .outcome .number) 0) where
-    number-is : eqb (ran j .number) 0 ≡ t
-    number-is = ap (λ (x : Outcome). eqb (x .number) 0) (sym (is .outcome-is)) ∙ sym test
-
     pub slice-run : (r : Sliced) → not t ≡ true → r ≡ slicedStopped (b .outcome .number) (b .outcome .second)
         → r ≡ sliced j
-    slice-run r refused e =
-        e
-        ∙ ap (λ (x : Outcome). slicedStopped (x .number) (x .second)) (is .outcome-is)
-        ∙ sym (picked false (number-is ∙ not-true t refused))
+    unfolding sliced
+    slice-run r refused e = e ∙ run-ends slicedStopped answer j b w is t test refused
 
     module _ (passed : not t ≡ false) where
       ran-zero : ran j .number ≡ 0
-      ran-zero = eqb-true (ran j .number) 0 (number-is ∙ not-false t passed)
+      ran-zero = run-passes slicedStopped answer j b w is t test passed
 
       -- the steps done
       pub occurrences-are : stepsIn (take (4 * length (j .done)) w) ≡ performed (j .old) (j .done)
@@ -100,6 +77,7 @@ module _ (j : Job) where
           → kept ≡ keptMask (stepsIn (take (4 * length (j .done)) w)) vars
           → rows ≡ table (stepsIn (take (4 * length (j .done)) w))
           → record { number = 0; second = 0; kept = kept; table = rows } ≡ sliced j
+      unfolding sliced
       slice-kept vars kept rows v k r =
           (λ i. record {
             number = 0;
@@ -107,7 +85,7 @@ module _ (j : Job) where
             kept = (k ∙ ap₂ keptMask occurrences-are v) i;
             table = (r ∙ ap table occurrences-are) i;
           })
-          ∙ sym (picked true (number-is ∙ not-false t passed))
+          ∙ run-answers slicedStopped answer j b w is t test passed
 
 -- ---- both lists laid as numbers: what a list has past its 65th step changes nothing
 

@@ -18,7 +18,8 @@ use Rattle.route.specs.declared.Step.{Step}
 use Rattle.route.specs.declared.Route.{Route}
 use Rattle.opening.specs.Net.{netRow}
 use Rattle.job.specs.Job.{jobOf, afterSteps, newLine, jobLine}
-use Rattle.job.specs.Lines.{placesFit, stepFits, listsFit, among, stepRow, stepRows, routeRows, doneRows, lineRows}
+use Rattle.name_set.specs.Among.{among}
+use Rattle.job.specs.Lines.{placesFit, stepFits, listsFit, stepRow, stepRows, routeRows, doneRows, lineRows}
 use Rattle.job.specs.Lines.{checked}
 use Rattle.job.specs.Alone.{aloneRows}
 use Rattle.mask.proofs.Truth.{either}

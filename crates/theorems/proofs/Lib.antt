@@ -28,6 +28,7 @@ pub mod LastWriter
 pub mod Shown
 pub mod Printed
 pub mod RoundTrip
+pub mod LookUps
 pub mod Editions
 pub mod EditionsJudged
 pub mod EditionsStored

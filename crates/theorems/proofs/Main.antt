@@ -1,22 +1,31 @@
--- The whole promise on one page, in 01's order: the sheet, its bytes both ways, the longer names of 02, slice and
--- precedence, fit orders, what judge gives and its listing shows, the shelf of 02, and demand 3. Each is proved in the
--- file that its name is cited from. Code meets it through the contracts, which are equalities with the definitions that
--- these theorems speak of.
+-- The whole promise on one page, in 01's order: the sheet, its bytes both ways, the longer names of 02, its look-up,
+-- slice and precedence, fit orders, what judge gives and its listing shows, the shelf of 02, and demand 3. Each is proved
+-- in the file that its name is cited from. Code meets it through the contracts, which are equalities with the definitions
+-- that these theorems speak of.
 use mathlib.Core.Path.{_≡_}
 use mathlib.Core.Logic.{_↔_}
 use mathlib.Core.Bool.{true, false}
 use mathlib.Core.List.{List, [], _∷_, _++_, map}
-use mathlib.Core.Option.{some}
-use Prim.Native.Nat.{ℕ, _+_, _^_, _≤_, _<_}
+use mathlib.Core.Option.{none, some}
+use Prim.Native.Nat.{ℕ, suc, _+_, _*_, _^_, _≤_, _<_}
 use lib.ListN.{length, getD, drop}
 use borrow.Author.Tests.{eq-eqb}
 use Rattle.mask.specs.Mask.{has}
 use Rattle.refusal.specs.Rows.{first}
-use Rattle.route.specs.Steps.{blank, stepsOf}
+use Rattle.route.specs.Steps.{blank, stepsOf, names, lookup}
 use Rattle.route.specs.declared.Route.{Route}
 use Rattle.route.specs.declared.Step.{Step}
 use Rattle.job.specs.Job.{Job, jobOf, jobLine, newStart}
-use Rattle.job.specs.Lines.{doneRows, checked}
+use Rattle.job.specs.Lines.{doneRows, checked, LinesPass}
+use Rattle.lookup.specs.Position.{position}
+use Rattle.lookup.specs.Around.{looked, comparedFrom, Unique}
+use Rattle.lookup.specs.Follows.{Follows}
+use Rattle.lookup.specs.declared.Found.the-variants.{At, Nothing}
+use Rattle.lookup.proofs.Around.{count-below, count-above, count-nowhere}
+use Rattle.lookup.proofs.Unique.{looked-found, found-lookup, missed-lookup}
+use Rattle.lookup.proofs.Totals.{looked-next, total-follows, total-least, total-most}
+use Rattle.running.specs.Run.{ran}
+use Rattle.finding.specs.Comparisons.{comparisons}
 use Rattle.slice.specs.Slice.{Kept, keptMask}
 use Rattle.precedence.specs.Precedence.{comesAfter, row}
 use Rattle.precedence.specs.Order.{inTurn, EachOnce, inOrder}
@@ -75,6 +84,7 @@ use Rattle.theorems.proofs.Printed.{print-answer, print-leaves, print-m
 use Rattle.theorems.proofs.Printed.{try-sheet}
 use Rattle.ops.proofs.ListingLength.{listing-length}
 use Rattle.theorems.proofs.RoundTrip.{read-then-write, write-then-read-lent, read-lent, read-then-write-lent}
+use Rattle.theorems.proofs.LookUps.{names-unique, run-follows, match-follows}
 use Rattle.theorems.proofs.Editions.{empty-good, put-good, put-eight, put-blank, put-stores, put-adds}
 use Rattle.theorems.proofs.Editions.{put-finds, put-keeps, edition-found, put-bad, put-refuses}
 use Rattle.theorems.proofs.EditionsJudged.{shelf-judges, shelf-works, shelf-prints, shelf-nineteen}
@@ -202,6 +212,66 @@ a-version-reads-by-its-names = narrower-reads
 -- "`(done 65536)` is then a plain name", "Eleven digits break the layout": such sheets from bytes to bytes
 pub every-long-name : AllPrint longNames
 every-long-name = long-names
+
+-- ---- 02, "Look-up from where we were": "Finding a name shall begin after the step found last, the first time or past
+-- the last step at the top, and go round to the top."
+
+-- "Names are unique": rows 4, 2, 3 and 5 see to it
+pub names-are-unique : (j : Job) → LinesPass j → Unique (names (j .old)) × Unique (names (j .new))
+names-are-unique = names-unique
+
+-- "so from wherever it begins each finding is as before": the first position from the top, and so the step of that name
+pub each-finding-is-as-before : (n : ℕ) (l : List ℕ) → Unique l → (from : ℕ) → looked from n l .found ≡ position n l
+each-finding-is-as-before = looked-found
+
+pub what-is-found-has-the-name : (from n : ℕ) (l : List Step) → Unique (names l) → (k : ℕ)
+    → looked from n (names l) .found ≡ At k → lookup n l ≡ some (getD l k blank)
+what-is-found-has-the-name = found-lookup
+
+pub what-is-missed-has-no-step : (from n : ℕ) (l : List Step) → Unique (names l)
+    → looked from n (names l) .found ≡ Nothing → lookup n l ≡ none
+what-is-missed-has-no-step = missed-lookup
+
+-- "how many names it compared: those from its beginning to the step found", below the beginning or, gone round, above it,
+-- "or all where there is none"
+pub counts-to-a-step-below : (from n : ℕ) (l : List ℕ) (k : ℕ) → looked from n l .found ≡ At k → from ≤ k
+    → from + looked from n l .compared ≡ k + 1
+counts-to-a-step-below = count-below
+
+pub counts-round-to-a-step-above : (from n : ℕ) (l : List ℕ) (k : ℕ) → looked from n l .found ≡ At k → k < from
+    → from ≤ length l → from + looked from n l .compared ≡ length l + k + 1
+counts-round-to-a-step-above = count-above
+
+pub counts-all-where-there-is-none : (from n : ℕ) (l : List ℕ) → looked from n l .found ≡ Nothing
+    → looked from n l .compared ≡ length l
+counts-all-where-there-is-none = count-nowhere
+
+-- "mostly stands just below the last one": such a name costs one comparison
+pub the-name-just-below-costs-one : (from n : ℕ) (l : List ℕ) (k : ℕ) → looked from n l .found ≡ At k
+    → suc k < length l
+    → looked (looked from n l .next) (getD l (suc k) 0) l
+    ≡ record { found = At (suc k); compared = 1; next = suc (suc k) }
+the-name-just-below-costs-one = looked-next
+
+-- a list that follows the names costs one each; among names none costs less, and none more than all of them each time
+pub a-list-that-follows-costs-one-each : (from : ℕ) (l sought : List ℕ) → Follows l from sought
+    → comparedFrom from l sought ≡ length sought
+a-list-that-follows-costs-one-each = total-follows
+
+pub no-list-costs-less : (from : ℕ) (l sought : List ℕ) → 1 ≤ length l → length sought ≤ comparedFrom from l sought
+no-list-costs-less = total-least
+
+pub no-list-costs-more : (from : ℕ) (l sought : List ℕ) → comparedFrom from l sought ≤ length sought * length l
+no-list-costs-more = total-most
+
+-- so a job whose done list follows its old route is run, and one that follows the new is matched, by one look each
+pub a-job-that-follows-is-run-by-one-each : (j : Job) → ran j .number ≡ 0 → Follows (names (j .old)) 0 (j .done)
+    → comparisons j .run ≡ length (j .done)
+a-job-that-follows-is-run-by-one-each = run-follows
+
+pub a-job-that-follows-is-matched-by-one-each : (j : Job) → ran j .number ≡ 0 → Follows (names (j .new)) 0 (j .done)
+    → comparisons j .matched ≡ length (j .done)
+a-job-that-follows-is-matched-by-one-each = match-follows
 
 -- ---- "Kept: the last writer in the done list of each new-route variable, and all that these need, over and over."
 

@@ -9,7 +9,8 @@ use Rattle.refusal.specs.Rows.{unless, first}
 use Rattle.version.specs.Limits.{scope, present, nameFits, Limits}
 use Rattle.version.specs.declared.Version.{Version}
 use Rattle.version.proofs.Limits.{scope-limits, present-limits}
-use Rattle.job.specs.Lines.{placesFit, among, doneRow, doneRows}
+use Rattle.name_set.specs.Among.{among}
+use Rattle.job.specs.Lines.{placesFit, doneRow, doneRows}
 use Rattle.layout.specs.Words.{spelling}
 use Rattle.layout.specs.Text.{Form, Lines, digits, number, entries, listed, stepLine, wordLine, jobLine, stepLines}
 use Rattle.layout.specs.Text.{doneLines, jobText, text}

@@ -1,34 +1,40 @@
--- `lookup::find`: the position is the one found in what is left, moved on by what has been passed.
-use mathlib.Core.Path.{_≡_}
-use Prim.Native.Nat.{_-_, _≤_}
-use lib.ListN.{drop}
+-- `lookup::find`: below the beginning, or else above it.
+use mathlib.Core.Path.{sym}
 use borrow.Author.Needs.{needs}
-use Rattle.route.specs.Steps.{names}
-use Rattle.lookup.specs.inner.Position.{position}
-use Rattle.flat.specs.Flat.{stepsIn}
-use Rattle.lookup.proofs.Position.{moved, moved-none, find-hit, find-miss, find-end}
+use lib.Seq.{length-take-le}
+use Rattle.lookup.proofs.Around.{lower-fits, lower-more, lower-next, find-below, upper-more, upper-next, find-above, find-nowhere}
 use Rattle.lookup.proofs.find.Statement.{statement}
 use Rattle.lookup.proofs.find.Tie as tie
 
-abbrev Inv-loop : tie.InvT-loop
-Inv-loop steps name n i₀ i =
-    (i ≤ n) × (moved i (position name (drop i (names (stepsIn steps)))) ≡ position name (names (stepsIn steps)))
+add-place : tie.Need-add-place
+add-place c = record { fits = search (needs, lower-fits) }
 
-abbrev μ-loop : tie.MeasureT-loop
-μ-loop steps name n i₀ i = n - i
+add-t18 : tie.Need-add-t18
+add-t18 c = record { fits = search (needs, lower-more) }
 
-loop-holds : tie.Need-loop-holds Inv-loop μ-loop
-loop-holds c = (search needs, moved-none _)
+add-t19 : tie.Need-add-t19
+add-t19 c = record { fits = search (needs, lower-next) }
 
-returns : tie.Need-returns Inv-loop μ-loop
-returns c = search (needs, find-hit)
+returns : tie.Need-returns
+returns c = search (needs, find-below)
 
-loop-again : tie.Need-loop-again Inv-loop μ-loop
-loop-again c = (search needs, search (needs, find-miss))
+slice-aggregate-first : tie.Need-slice-aggregate-first
+slice-aggregate-first c = sym (length-take-le _ _ (search needs))
 
-returns-2 : tie.Need-returns-2 Inv-loop μ-loop
-returns-2 c = search (needs, find-end)
+add-next : tie.Need-add-next
+add-next c = record { fits = search (needs, upper-more) }
+
+add-t25 : tie.Need-add-t25
+add-t25 c = record { fits = search (needs, upper-next) }
+
+returns-2 : tie.Need-returns-2
+returns-2 c = search (needs, find-above)
+
+returns-3 : tie.Need-returns-3
+returns-3 c = search (needs, find-nowhere)
 
 pub find-spec : {M : Type 1} → statement M
-find-spec = tie.close (tie.spec Inv-loop μ-loop (λ c κs. search needs) loop-holds (λ c κs. search needs) returns
-    (λ c. search needs) (λ c. search needs) loop-again returns-2)
+find-spec = tie.close (tie.spec (λ c κs. search needs) (λ c κs. search needs) (λ c. search needs) (λ c. search needs)
+    (λ c. search needs) (λ c. search needs) (λ c. search needs) (λ c κs. search needs) (λ c. search needs) add-place
+    add-t18 add-t19 returns (λ c. search needs) slice-aggregate-first (λ c κs. search needs) (λ c. search needs)
+    add-next (λ c. search needs) add-t25 returns-2 (λ c. search needs) returns-3)

@@ -12,9 +12,6 @@ job-line-requires c κs = search lists-fit
 returns : tie.Need-returns
 returns c = search (needs, prepared-refused)
 
-perform-requires : tie.Need-perform-requires
-perform-requires c κs = search lists-fit
-
 mul-end : tie.Need-mul-end
 mul-end c = record { fits = search (lists-fit, holds-fits) }
 
@@ -35,17 +32,16 @@ weigh-requires c κs = ((search (lists-fit, lent-few), search needs), search (ne
 
 returns-2 : tie.Need-returns-2
 returns-2 c =
-    let made : tie.After-perform = search in
     let passed : tie.Else1 = search in
     let test : tie.After-passed = search in
-    let begun : tie.After-begin = search in
+    let gathered : tie.After-gather = search in
     let headed : tie.After-job-line = search in
     let start : tie.Start = search in
-    prepared-weighed _ _ _ (begun .begin .ensures) _ (test .passed .ensures) _ (headed .job-line .ensures .0)
-    (start .pre .0) (passed .if1 .left) _ (made .perform .ensures) _ (c .weigh .ensures)
+    prepared-weighed _ _ _ _ (gathered .gather .ensures) _ (test .passed .ensures) _ (headed .job-line .ensures .0)
+    (start .pre .0) (passed .if1 .left) _ (c .weigh .ensures)
 
 pub prepare-spec : {M : Type 1} → statement M
 prepare-spec = tie.close (tie.spec job-line-requires (λ c κs. search needs) (λ c κs. search needs)
-    (λ c κs. search needs) (λ c. search needs) returns perform-requires mul-end slice-reshare-prefix-weigh
+    (λ c κs. search needs) (λ c. search needs) (λ c. search needs) returns mul-end slice-reshare-prefix-weigh
     slice-aggregate-weigh slice-reshare-prefix-weigh-2 slice-aggregate-weigh-2 weigh-requires (λ c. search needs)
     (λ c. search needs) returns-2)

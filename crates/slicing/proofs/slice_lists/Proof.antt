@@ -1,6 +1,7 @@
 -- `slicing::slice_lists`: the rows in turn, and what is kept and the table over the steps done.
 use borrow.Author.Needs.{needs}
-use Rattle.slicing.proofs.SliceRows.{slice-line, lines-pass, slice-run, occurrences-few, occurrences-room}
+use Rattle.running.proofs.RunLine.{lines-pass}
+use Rattle.slicing.proofs.SliceRows.{slice-line, slice-run, occurrences-few, occurrences-room}
 use Rattle.slicing.proofs.SliceRows.{occurrences-count, slice-kept}
 use Rattle.slicing.proofs.slice_lists.Statement.{statement}
 use Rattle.slicing.proofs.slice_lists.Tie as tie

@@ -18,5 +18,5 @@ returns-4 c = search (needs, step-none, names-few)
 
 pub check-step-spec : {M : Type 1} → statement M
 check-step-spec = tie.close (tie.spec (λ c κs. search needs) (λ c κs. search needs) returns (λ c κs. search needs)
-    (λ c κs. search needs) returns-2 (λ c κs. search needs) (λ c. search needs) (λ c κs. search needs)
-    (λ c. search needs) (λ c κs. search needs) returns-3 returns-4)
+    (λ c κs. search needs) returns-2 (λ c κs. search needs) (λ c κs. search needs) returns-3 (λ c κs. search needs)
+    returns-4)

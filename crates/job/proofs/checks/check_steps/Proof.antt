@@ -6,11 +6,11 @@ use native.Mathlib.Omega.{arith}
 use lib.ListN.{take, drop}
 use Rattle.refusal.specs.Rows.{first}
 use Rattle.route.specs.Steps.{names}
-use Rattle.lookup.specs.inner.Hints.{Hinted}
+use Rattle.name_set.specs.inner.Hints.{Hinted}
 use Rattle.flat.specs.Flat.{stepsIn}
 use Rattle.route.specs.declared.Step.{Step}
 use Rattle.flat.proofs.FlatSteps.{flat-prefix, flat-few, flat-names}
-use Rattle.lookup.proofs.DigitHints.{hinted-none, hinted-on, hinted-prefix}
+use Rattle.name_set.proofs.DigitHints.{hinted-none, hinted-on, hinted-prefix}
 use Rattle.job.specs.Lines.{stepRows}
 use borrow.Author.Needs.{needs}
 use Rattle.job.proofs.StepRows.{steps-end, steps-over, steps-refused, steps-passed}
@@ -61,7 +61,7 @@ loop-again c =
       search needs,
       (
         hinted-on (stepsIn (start .args .steps .now)) (at .loop .hint) (at .loop .i) _ counted (at .loop .inv .1 .0) _ _
-            (omega arith) (ap (λ (s : Step). s .name) (step .step-at .ensures)) (c .hint-more .ensures),
+            (omega arith) (ap (λ (s : Step). s .name) (step .step-at .ensures)) (c .add .ensures),
         steps-passed (start .args .line) (start .args .places) (at .loop .i) _ _ _ _ counted (at .loop .inv .1 .1)
             (omega arith) _ (step .step-at .ensures) _ _ (flat-names _ (at .loop .i)) (checked .check-step .ensures)
             (test .before .passed .ensures) (test .if2 .left),

@@ -22,5 +22,4 @@ returns-5 c = search (needs, row-none)
 pub step-row-spec : {M : Type 1} → statement M
 step-row-spec = tie.close (tie.spec (λ c κs. search needs) (λ c κs. search needs) returns (λ c κs. search needs)
     (λ c κs. search needs) returns-2 (λ c κs. search needs) (λ c κs. search needs) returns-3 (λ c. search needs)
-    (λ c κs. search needs) (λ c. search needs) (λ c κs. search needs) (λ c. search needs) (λ c κs. search needs)
-    returns-4 returns-5)
+    (λ c κs. search needs) (λ c κs. search needs) returns-4 (λ c κs. search needs) returns-5)

@@ -61,8 +61,8 @@ loop-again-2 c =
 put-requires : tie.Need-put-requires Inv-loop μ-loop
 put-requires c κs = search put-room
 
-hint-more-requires : tie.Need-hint-more-requires Inv-loop μ-loop
-hint-more-requires c κs =
+add-requires : tie.Need-add-requires Inv-loop μ-loop
+add-requires c κs =
     let test : tie.Else5 Inv-loop μ-loop = search in
     let row : tie.After-step-row Inv-loop μ-loop = search in
     let read : tie.After-step Inv-loop μ-loop = search in
@@ -88,7 +88,7 @@ loop-again-3 c =
     let turn : tie.After-stepping Inv-loop μ-loop = search in
     stepped-step _ _ _ _ _ _ _ _ _ _ _ _ (turn .before .loop .inv) _ (read .step .ensures) _ (turn .stepping .ensures)
     (search) (good .if3 .left) (over .if4 .left) _ (row .step-row .ensures) (test .if5 .left) _ _ _
-    (one .step-of .ensures) (put .put .ensures .0) (put .put .ensures .1) (c .hint-more .ensures)
+    (one .step-of .ensures) (put .put .ensures .0) (put .put .ensures .1) (c .add .ensures)
 
 same-length-2 : tie.Need-same-length-2 Inv-loop μ-loop
 same-length-2 c = search (needs, same-room)
@@ -100,4 +100,4 @@ pub steps-spec : {M : Type 1} → statement M
 steps-spec = tie.close (tie.spec Inv-loop μ-loop (λ c κs. search needs) returns loop-holds (λ c κs. search needs)
     (λ c κs. search needs) (λ c κs. search needs) same-length returns-2 add-lines loop-less loop-again
     (λ c. search needs) (λ c. search needs) slice-aggregate-step-row step-row-requires loop-less-2 loop-again-2
-    (λ c κs. search needs) put-requires hint-more-requires add-len loop-less-3 loop-again-3 same-length-2 returns-3)
+    (λ c κs. search needs) put-requires add-requires add-len loop-less-3 loop-again-3 same-length-2 returns-3)

@@ -3,8 +3,8 @@ use mathlib.Core.Path.{_≡_}
 use Prim.Native.Nat.{_-_, _≤_}
 use lib.ListN.{length, drop}
 use borrow.Author.Needs.{needs}
-use Rattle.lookup.specs.inner.Position.{position}
-use Rattle.lookup.proofs.Position.{moved, moved-none, position-hit, position-miss, position-end}
+use Rattle.lookup.specs.Position.{position, moved}
+use Rattle.lookup.proofs.Position.{moved-none, position-hit, position-miss, position-end}
 use Rattle.shelf.proofs.editions.position_of.Statement.{statement}
 use Rattle.shelf.proofs.editions.position_of.Tie as tie
 

@@ -1,0 +1,3 @@
+-- Laws on the done names found in both routes.
+pub mod GatheredCases
+pub mod ComparedRows

@@ -1,0 +1,3 @@
+-- The done names found in both routes.
+pub mod Comparisons
+pub mod inner

@@ -1,3 +1,0 @@
--- Promises between inner functions. No contract of an open operation and no theorem rests on what they mean.
-pub mod Position
-pub mod Hints

@@ -1,0 +1,3 @@
+-- Names as a set.
+pub mod Among
+pub mod inner
