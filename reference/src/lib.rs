@@ -9,6 +9,7 @@ pub mod judge;
 pub mod layout;
 pub mod lines;
 pub mod listing;
+pub mod lookup;
 pub mod net;
 pub mod print;
 pub mod random;

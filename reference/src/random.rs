@@ -1,12 +1,13 @@
 //! Random sheets: an old route drawn from a tree of blocks, a done list got by
 //! really running it, and a new route that is the old one redrawn in small ways.
 //! Random scripts: operations on such jobs, on jobs at the limits, and on wrong
-//! records, sheets and orders; and operations on shelves of such routes.
+//! records, sheets and orders; operations on shelves of such routes; and look-ups.
 
 pub mod block;
 pub mod damage;
 pub mod dice;
 pub mod jobs;
+pub mod lookup;
 pub mod names;
 pub mod orders;
 pub mod plan;

@@ -1,7 +1,8 @@
 //! Scripts: operations with their arguments, as numbers, and what each answers.
 //! A script has a shelf in hand, at first the empty one: 20 hands in another, 21
 //! puts an edition on it, 22 judges a job of one of its editions. 23 reads a sheet
-//! by 01's version, as 6 does by the present one.
+//! by 01's version, as 6 does by the present one. 24 finds a name among others, from
+//! a beginning; 25 tells how many names a job's run and its match compared.
 
 pub mod answers;
 pub mod arguments;
@@ -70,13 +71,18 @@ fn one(operation: u64, script: &mut Numbers, shelf: &mut Shelf) -> Option<Vec<u6
             Some(answers::judge_editions(shelf, numbers, &done, work))
         }
         23 => Some(answers::read(&bytes(script)?, &Version::OF_01)),
+        24 => {
+            let (among, from) = (names(script)?, script.any()?);
+            Some(answers::find(&among, from, word(script)?))
+        }
+        25 => Some(answers::comparisons(&facts(operation, script)?)),
         _ => None,
     }
 }
 
-/// Both routes and the done list; those of operations 12 and on are lent lists.
+/// Both routes and the done list; the routes of operations 12 to 18 are lent lists.
 fn facts(operation: u64, script: &mut Numbers) -> Option<Sheet> {
-    let lent = operation > 10;
+    let lent = (12..=18).contains(&operation);
     Some(Sheet {
         old: route(script, lent)?,
         new: route(script, lent)?,

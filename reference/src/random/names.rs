@@ -66,7 +66,7 @@ fn fresh_of_five(taken: &[u64], dice: &mut Dice) -> u64 {
 }
 
 /// Draws until a name is none of these.
-fn not_taken(taken: &[u64], mut draw: impl FnMut() -> u64) -> u64 {
+pub(super) fn not_taken(taken: &[u64], mut draw: impl FnMut() -> u64) -> u64 {
     loop {
         let name = draw();
         if !taken.contains(&name) {

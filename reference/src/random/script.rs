@@ -75,7 +75,7 @@ pub const PAST_A_LIMIT: [&str; 38] = [
     "22 1 2 0 1 256",
     "23 20001",
     "23 1 256",
-    "24",
+    "26",
 ];
 
 /// A random script. Few end in the middle of an operation, have a strange word
@@ -88,15 +88,16 @@ pub fn script(dice: &mut Dice) -> String {
             text += &line;
         }
     }
-    ended(text, dice)
+    ended(text, &PAST_A_LIMIT, dice)
 }
 
-/// The script as it ends: few in the middle of an operation.
-pub(super) fn ended(text: String, dice: &mut Dice) -> String {
+/// The script as it ends: few in the middle of an operation, or with one of these
+/// that is past a limit.
+pub(super) fn ended(text: String, limits: &[&str], dice: &mut Dice) -> String {
     match dice.below(40) {
         0 => cut(&text, dice),
         1 => strange(&text, dice),
-        2 => past_a_limit(&text, dice),
+        2 => past_a_limit(&text, limits, dice),
         3 => spaced(&text),
         _ => text,
     }
@@ -259,9 +260,9 @@ fn strange(text: &str, dice: &mut Dice) -> String {
 }
 
 /// An operation with an argument past its limit, and a right one after it.
-fn past_a_limit(text: &str, dice: &mut Dice) -> String {
+fn past_a_limit(text: &str, limits: &[&str], dice: &mut Dice) -> String {
     let zeros = " 0".repeat(600);
-    let begin = PAST_A_LIMIT[dice.below(PAST_A_LIMIT.len())];
+    let begin = limits[dice.below(limits.len())];
     format!("{text}{begin}{zeros}\n1 1 1 1 2 0 0\n")
 }
 

@@ -5,7 +5,7 @@
 use super::dice::Dice;
 use super::plan::Plan;
 use super::records::{add_past_len, any, spoil_done, spoil_record, Records};
-use super::script::{self, ENDING, MOST_BYTES};
+use super::script::{self, ENDING, MOST_BYTES, PAST_A_LIMIT};
 use super::{jobs, names, redraw, run_at_random, spoil};
 use crate::record::RouteByValue;
 use crate::script::writing;
@@ -26,7 +26,7 @@ pub fn script(dice: &mut Dice) -> String {
         }
         text += &turn;
     }
-    script::ended(text, dice)
+    script::ended(text, &PAST_A_LIMIT, dice)
 }
 
 /// A plan that is redrawn, or a job whose two routes are drawn in turn.

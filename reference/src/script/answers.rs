@@ -3,6 +3,7 @@
 
 use crate::fit;
 use crate::judge::{self, Moved};
+use crate::lookup;
 use crate::net::{self, Marking};
 use crate::print;
 use crate::record::{mask, Record, RouteByValue};
@@ -233,4 +234,19 @@ pub fn judge_editions(
     mut work: Vec<u8>,
 ) -> Vec<u64> {
     judged(shelf.judge(edition, target, done, &mut work), &work)
+}
+
+/// Where the name stands, counted from 1, or 0; how many names were compared; the
+/// next beginning.
+pub fn find(among: &[u64], from: u64, name: u32) -> Vec<u64> {
+    let found = lookup::find(among, from, name.into());
+    let position = found.at.map_or(0, |at| at as u64 + 1);
+    vec![position, found.compared as u64, found.next]
+}
+
+/// The run's total and the match's.
+pub fn comparisons(facts: &Sheet) -> Vec<u64> {
+    let totals = lookup::comparisons(facts);
+    let numbers = |(run, matched)| vec![run as u64, matched as u64];
+    line(totals.map(numbers), 2)
 }

@@ -78,7 +78,7 @@ fn edition(script: &mut Numbers) -> Option<Edition> {
     })
 }
 
-/// NAMES: a lent list of done names.
+/// NAMES: a lent list of names.
 pub fn names(script: &mut Numbers) -> Option<Vec<u64>> {
     counted(script, MOST_LENT, |script| word(script).map(u64::from))
 }

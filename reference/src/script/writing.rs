@@ -97,3 +97,13 @@ pub fn put(number: u32, of: &RouteByValue) -> String {
 pub fn judge_editions([edition, target]: [u32; 2], done: &[u64], work: String) -> String {
     operation(22, &[words([edition, target]), names(done), work])
 }
+
+/// Operation 24: a name is found among others, from a beginning.
+pub fn find(among: &[u64], from: u64, name: u64) -> String {
+    operation(24, &[names(among), words([from, name])])
+}
+
+/// Operation 25: how many names are compared for a job, its routes by value.
+pub fn comparisons(facts: String) -> String {
+    operation(25, &[facts])
+}

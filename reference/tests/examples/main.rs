@@ -1,9 +1,10 @@
-//! 01's examples, the rows of its table, orders handed in, slips, 02's names and
-//! shelf, and 01's version of the layout.
+//! 01's examples, the rows of its table, orders handed in, slips, 02's names,
+//! shelf and look-up, and 01's version of the layout.
 
 mod common;
 mod edges;
 mod letters;
+mod lookup;
 mod names;
 mod orders;
 mod row_1;

@@ -12,7 +12,7 @@ use std::fs;
 use std::path::Path;
 
 /// A letter's sheet and listing.
-fn letter(letter: char) -> (Sheet, String) {
+pub fn letter(letter: char) -> (Sheet, String) {
     let folder = Path::new(env!("CARGO_MANIFEST_DIR")).join("../examples/letters");
     let file = |kind| fs::read_to_string(folder.join(format!("{letter}.{kind}"))).unwrap();
     (read(file("sheet").as_bytes()).unwrap(), file("listing"))

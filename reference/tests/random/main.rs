@@ -1,6 +1,8 @@
-//! Random sheets: what 01 says must hold of each of them.
+//! Random sheets, and lists of names: what 01 and 02 say must hold of each of them.
 
+mod kinds;
 mod layout;
+mod lookup;
 mod names;
 mod orders;
 mod sheets;

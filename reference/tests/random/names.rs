@@ -1,29 +1,10 @@
 //! Long names (02, A.2): how often random sheets have them, right and wrong, and
 //! that a job with other names has the same answer.
 
+use crate::kinds::Kinds;
 use crate::{for_each_sheet, judged};
 use reference::random::{damage::damage, names::rename};
 use reference::sheet::{self, Route, Sheet};
-use std::collections::BTreeMap;
-
-/// How often each kind was met.
-#[derive(Default)]
-struct Kinds(BTreeMap<String, usize>);
-
-impl Kinds {
-    fn add(&mut self, met: bool, kind: &str) {
-        *self.0.entry(kind.to_string()).or_default() += usize::from(met);
-    }
-
-    /// Prints the counts, each of which must be at least so much.
-    fn finish(&self, least: usize) {
-        for (kind, count) in &self.0 {
-            println!("{count:6} {kind}");
-        }
-        let seldom = self.0.iter().find(|(_, count)| **count < least);
-        assert_eq!(seldom, None);
-    }
-}
 
 /// Whether two different names of the route end with the same bits, so many.
 fn two_alike(route: &Route, bits: u32) -> bool {

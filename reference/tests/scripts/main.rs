@@ -1,13 +1,19 @@
-//! Scripts: worked answers for 01's examples, for wrong records and for shelves,
-//! and random scripts held to a direct reading of 01's and 02's definitions.
+//! Scripts: worked answers for 01's examples, for wrong records, for shelves and for
+//! look-ups, and random scripts held to a direct reading of 01's and 02's definitions.
 
 mod common;
 mod direct;
+#[path = "../random/kinds.rs"]
+mod kinds;
+mod kinds_of_lookups;
 mod letters;
+mod lookup;
 mod names;
 mod random;
+mod random_lookups;
 mod random_shelves;
 mod rows;
 mod shelf;
 mod version;
 mod words;
+mod wrong_lookups;

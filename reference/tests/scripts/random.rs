@@ -189,7 +189,7 @@ impl Words<'_> {
     }
 
     pub fn job(&mut self, operation: u64) -> Job {
-        let lent = operation > 10;
+        let lent = (12..=18).contains(&operation);
         let (old, new) = (self.route(lent), self.route(lent));
         let done = self.many();
         Job { old, new, done }

@@ -12,6 +12,9 @@ fn all_refused(more: u64, facts: &str, refusal: [u64; 2]) {
     refused(4 + more, &format!("{facts} 3 2 1 3"), refusal, 1);
     let judged = [padded(&refusal, 166), vec![8_192, 8_192, 9]].concat();
     answers(5 + more, &format!("{facts} 8192 9"), &judged);
+    if more == 0 {
+        refused(25, facts, refusal, 2);
+    }
     if refusal[0] <= 5 {
         let written = [refusal[0], refusal[1], 0, 400, 400, 7];
         answers(8 + more, &format!("{facts} 400 7"), &written);
