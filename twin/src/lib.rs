@@ -5,6 +5,7 @@
 mod cursor;
 mod job;
 mod listing;
+mod lookup;
 mod moved;
 mod names;
 mod pen;
@@ -16,6 +17,7 @@ mod rows;
 mod search;
 mod trying;
 
+pub use job::compared;
 pub use print::print;
 pub use trying::try_order;
 

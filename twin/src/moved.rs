@@ -50,9 +50,7 @@ impl Moved {
         let precedence = Precedence::of(uses, kept.mask);
         let mut candidates = [Candidate::default(); 16];
         for (index, candidate) in candidates.iter_mut().enumerate().take(precedence.len) {
-            let step = sheet
-                .new
-                .find(sheet.done[usize::from(precedence.at[index])])?;
+            let step = uses.step(sheet, usize::from(precedence.at[index]))?;
             *candidate = Candidate {
                 ins: step.ins,
                 touches: step.ins | step.outs,

@@ -1,4 +1,4 @@
-//! Look-up by name: a small open table of step numbers.
+//! The names of a route as a set: a small open table of step numbers.
 
 use crate::route::{Step, MOST};
 
@@ -40,9 +40,5 @@ impl Names {
         }
         self.0[slot] = index as u8 + 1;
         true
-    }
-
-    pub fn find<'a>(&self, steps: &'a [Step; MOST], name: u32) -> Option<&'a Step> {
-        self.step_in(steps, self.slot(steps, name))
     }
 }

@@ -63,8 +63,9 @@ impl Route {
         true
     }
 
-    pub fn find(&self, name: u32) -> Option<&Step> {
-        self.names.find(&self.steps, name)
+    /// The steps that were added.
+    pub fn all(&self) -> &[Step] {
+        &self.steps[..self.len]
     }
 
     /// Rows 6 and 7: the start, or the number of the row.

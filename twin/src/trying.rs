@@ -29,7 +29,7 @@ fn tried(bytes: &[u8], order: &[u8]) -> Result<u64, Refusal> {
         Way::Search(kept) => (kept.mask, kept.start),
     };
     check_list(order, kept)?;
-    fire_list(&sheet, &Precedence::of(&uses, kept), kept, start, order)
+    fire_list(&sheet, &uses, kept, start, order)
 }
 
 /// The order is 1, 2, .. to the last.
@@ -60,11 +60,12 @@ fn check_list(order: &[u8], kept: u64) -> Result<(), Refusal> {
 /// Rows 17 and 18 for each entry. Every kept occurrence is there once.
 fn fire_list(
     sheet: &Sheet,
-    precedence: &Precedence,
+    uses: &Uses,
     kept: u64,
     start: u64,
     order: &[u8],
 ) -> Result<u64, Refusal> {
+    let precedence = Precedence::of(uses, kept);
     let (mut placed, mut marking) = (0, start);
     for (entry, at) in order.iter().zip(1..) {
         let position = usize::from(*entry) - 1;
@@ -72,7 +73,7 @@ fn fire_list(
         if precedence.rows[index as usize] & !placed != 0 {
             return Err((17, at));
         }
-        let step = sheet.new.find(sheet.done[position]);
+        let step = uses.step(sheet, position);
         match step.filter(|step| step.can_fire(marking)) {
             None => return Err((18, at)),
             Some(step) => marking ^= step.toggle(),

@@ -15,6 +15,7 @@ mod hard_sheet;
 mod large;
 mod listings;
 mod long;
+mod lookups;
 mod orders;
 mod parts;
 mod remembering;

@@ -12,8 +12,9 @@ use std::thread;
 /// 01's version.
 const OPERATIONS: [u32; 17] = [1, 2, 3, 4, 5, 6, 7, 8, 9, 10, 12, 13, 14, 15, 16, 18, 23];
 
-/// These answer without a refusal number: the job part, a shelf handed in.
-const WITHOUT_NUMBER: [u64; 2] = [7, 20];
+/// These answer without a refusal number: the job part, a shelf handed in, a name
+/// among names.
+const WITHOUT_NUMBER: [u64; 3] = [7, 20, 24];
 
 /// A generator of scripts.
 type Generator = fn(&mut Dice) -> String;

@@ -3,6 +3,7 @@
 use crate::drive::{compare_script, drive};
 use reference::judge::WORK;
 use reference::print::listing_of;
+use reference::random::lookup;
 use reference::random::records::Facts;
 use reference::random::script::PAST_A_LIMIT;
 use reference::record::Record;
@@ -31,6 +32,9 @@ fn every_operation(facts: &Facts) -> String {
         };
         add(2, &[]);
         add(3, &[]);
+        if more == 0 {
+            add(25, &[]);
+        }
         for order in [&[2, 1, 3][..], &[1, 2, 3], &[0], &[255; 70], &[]] {
             add(4, &[bytes(order)]);
         }
@@ -232,7 +236,7 @@ fn a_script_past_its_limit() {
 #[test]
 fn arguments_past_their_limits() {
     let fire = "1 1 10 1 2 0 1\n";
-    for begin in PAST_A_LIMIT {
+    for begin in PAST_A_LIMIT.iter().chain(&lookup::PAST_A_LIMIT) {
         let script = format!("{fire}{begin}{}\n{fire}", " 0".repeat(600));
         assert_eq!(compare_script("past-limits", &script).len(), 1);
     }

@@ -5,7 +5,9 @@ mod orders;
 mod random;
 
 use reference::judge::WORK;
+use reference::lookup::comparisons;
 use reference::print::{listing_of, print};
+use reference::sheet::read;
 use twin::print as twin_print;
 
 /// Both print the sheet into slices of any contents: the same answer, and the
@@ -23,6 +25,11 @@ fn same(sheet: &[u8], work_len: usize, out_len: usize) {
     assert_eq!(twin_answer, answer, "of sheet\n{text}");
     assert_eq!(twin_out, out, "of sheet\n{text}");
     assert_eq!(twin_work, work, "of sheet\n{text}");
+    let compared = read(sheet).and_then(|facts| comparisons(&facts));
+    let compared = compared
+        .map(|(run, matched)| [run, matched])
+        .map_err(|refusal| (refusal.number, refusal.second as u64));
+    assert_eq!(twin::compared(sheet), compared, "of sheet\n{text}");
 }
 
 /// The same with room and with none, with a work slice that is too short, and

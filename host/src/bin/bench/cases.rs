@@ -57,7 +57,8 @@ pub fn cases() -> Vec<Case> {
         case("usual job, moved by search", sheet(OLD, NEW, &DONE), true),
         case("usual job, ten-digit names", long_names(), false),
         case("refused by row 12, last done", changed(), false),
-        case("full sheet, straight", full(), true),
+        case("done list follows the route", full(rising), true),
+        case("done list in falling order", full(falling), true),
         case("long listing, straight", looped(), false),
         case("worst search, no order", worst(), false),
         case("longest sheet", longest(), false),
@@ -101,15 +102,25 @@ fn both(places: u32, steps: &str, done: &[u32]) -> String {
     sheet(&route("old"), &route("new"), done)
 }
 
-/// 64 steps in a row, all done; each reads what the one before wrote.
-fn full() -> String {
-    let mut steps = String::new();
-    for i in 0..64 {
+/// The order of a route's lines in which its done list follows it.
+fn rising(lines: Vec<String>) -> String {
+    lines.concat()
+}
+
+/// The order in which each done step stands just above the one before.
+fn falling(mut lines: Vec<String>) -> String {
+    lines.reverse();
+    lines.concat()
+}
+
+/// 64 steps one after another, all done; each reads what the one before wrote.
+fn full(order: fn(Vec<String>) -> String) -> String {
+    let line = |i| {
         let (from, to) = (entry(i), entry((i + 1).min(63)));
-        steps += &step(1_000 + i, &from, &to, &entry((i + 31) % 32), &entry(i % 32));
-    }
+        step(1_000 + i, &from, &to, &entry((i + 31) % 32), &entry(i % 32))
+    };
     let done: Vec<u32> = (1_000..1_064).collect();
-    both(64, &steps, &done)
+    both(64, &order((0..64).map(line).collect()), &done)
 }
 
 /// A step that loops on its place, done 63 times, each after all before.

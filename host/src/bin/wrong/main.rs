@@ -6,6 +6,7 @@
 //! Arguments: names of crates whose edits are run; none means all.
 
 mod chosen;
+mod chosen_lookups;
 mod chosen_names;
 mod chosen_shelves;
 mod edit;

@@ -1,14 +1,15 @@
 //! Scripts and the second program's answers to them.
 
 use crate::edit::root;
-use crate::{chosen, chosen_names, chosen_shelves};
+use crate::{chosen, chosen_lookups, chosen_names, chosen_shelves};
 use reference::random::dice::{mix, Dice};
-use reference::random::{script, shelf};
+use reference::random::{lookup, script, shelf};
 use reference::script::numbers::MOST_BYTES;
 use reference::script::{answers, line};
 use std::fs;
 
-/// So many random scripts, each as long as drive takes; one of shelves is added.
+/// So many random scripts, each as long as drive takes; one of shelves is added, and
+/// one of look-ups.
 const SCRIPTS: u64 = 5;
 
 /// A script, and each operation's number with the line of its answer.
@@ -50,12 +51,13 @@ pub fn all() -> Vec<Script> {
     let own = fs::read_to_string(root().join("crates/drive/stdin")).expect("no script of drive's");
     let by_hand = [
         own + &chosen::script() + &chosen_shelves::script(),
-        chosen_names::script(),
+        chosen_lookups::script() + &chosen_names::script(),
     ];
     assert!(by_hand.iter().all(|text| text.len() <= MOST_BYTES));
     let random = (0..SCRIPTS).map(|number| long(script, number));
     let shelves = long(shelf::script, SCRIPTS);
-    let texts = by_hand.into_iter().chain(random).chain([shelves]);
+    let lookups = long(lookup::script, SCRIPTS + 1);
+    let texts = by_hand.into_iter().chain(random).chain([shelves, lookups]);
     texts.map(Script::of).collect()
 }
 
