@@ -194,16 +194,17 @@ module _ (w : List ℕ) (from name count begin : ℕ) (counted : count ≡ lengt
       pub lower-fits : count < 2 ^ 64 → begin + k < 2 ^ 64
       lower-fits h = omega (arith, lower-inside)
 
-      pub lower-more : count < 2 ^ 64 → k + 1 < 2 ^ 64
-      lower-more h = omega (arith, lower-inside)
-
       pub lower-next : count < 2 ^ 64 → begin + k + 1 < 2 ^ 64
       lower-next h = omega (arith, lower-inside)
 
-      pub find-below : record { found = At (begin + k); compared = k + 1; next = begin + k + 1 } ≡ looked from name column
+      pub find-below :
+          record { found = At (begin + k); compared = begin + k + 1 - begin; next = begin + k + 1 }
+          ≡ looked from name column
       find-below =
-          ap (λ (b : ℕ). record { found = At (b + k); compared = k + 1; next = b + k + 1 })
-          (omega (arith, inside, length-drop from column, length-names (stepsIn w)))
+          let begins-at : begin ≡ from = omega (arith, inside, length-drop from column, length-names (stepsIn w)) in
+          let counted : begin + k + 1 - begin ≡ k + 1 = omega arith in
+          ap (λ (c : ℕ). record { found = At (begin + k); compared = c; next = begin + k + 1 }) counted
+          ∙ ap (λ (b : ℕ). record { found = At (b + k); compared = k + 1; next = b + k + 1 }) begins-at
           ∙ looked-below from name column k (lower-is ∙ e)
 
     -- g is what was found in the upper part

@@ -2,7 +2,7 @@
 use mathlib.Core.Path.{_≡_, refl, sym, ap, _∙_}
 use mathlib.Core.Bool.{Bool, cond}
 use mathlib.Core.List.{List, [], _∷_, _++_, append-nil}
-use Prim.Native.Nat.{ℕ, suc, _+_, _-_, _*_, _^_, _≤_, _<_}
+use Prim.Native.Nat.{ℕ, suc, _+_, _-_, _*_, _≤_, _<_}
 use native.Mathlib.Omega.{arith}
 use native.Mathlib.Nat.{suc-mul, mul-le-mul}
 use native.Mathlib.Numerals.{add-one}
@@ -22,9 +22,12 @@ unfolding around
 length-around from l =
     omega (arith, length-append (drop from l) (take from l), length-drop from l, length-take from l)
 
-pub looked-most : (from n : ℕ) (l : List ℕ) → looked from n l .compared ≤ length l
+looked-most : (from n : ℕ) (l : List ℕ) → looked from n l .compared ≤ length l
 unfolding looked
 looked-most from n l = omega (arith, compared-most n (around from l), length-around from l)
+
+pub looked-few : (from n : ℕ) (l : List ℕ) (x : Looked) → x ≡ looked from n l → x .compared ≤ length l
+looked-few from n l x is = omega (arith, ap (λ (y : Looked). y .compared) is, looked-most from n l)
 
 -- no list of names costs more than all names each
 pub total-most : (from : ℕ) (l sought : List ℕ) → comparedFrom from l sought ≤ length sought * length l
@@ -142,12 +145,11 @@ module _ (l sought : List ℕ) (total from i whole : ℕ) (inv : total + compare
         in
         omega arith
 
-    -- with few names to compare and few to look up the sum stays small
-    pub total-fits : length l ≤ 64 → length sought ≤ 64 → whole ≡ comparedFrom 0 l sought
-        → total + x .compared < 2 ^ 64
-    total-fits few short whole-is =
-        let most : length sought * length l ≤ 64 * 64 = mul-le-mul short few in
-        omega (arith, total-step, total-most 0 l sought)
+  -- with few names to compare and few to look up the sum stays small
+  pub total-small : length l ≤ 64 → length sought ≤ 64 → whole ≡ comparedFrom 0 l sought → total ≤ 4096
+  total-small few short whole-is =
+      let most : length sought * length l ≤ 64 * 64 = mul-le-mul short few in
+      omega (arith, total-most 0 l sought)
 
   pub total-done : length sought ≤ i → total ≡ whole
   unfolding comparedFrom

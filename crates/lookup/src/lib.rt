@@ -55,18 +55,20 @@ pub fn find(steps: &[u64], from: usize, name: u32) -> Looked
     let split = 4 * begin;
     if let Found::At(k) = first(&steps[split..], name) {
         let place = begin + k;
+        let end = place + 1;
         return Looked {
             found: Found::At(place),
-            compared: k + 1,
-            next: place + 1,
+            compared: end - begin,
+            next: end,
         };
     }
     if let Found::At(k) = first(&steps[..split], name) {
-        let next = k + 1;
+        let after = k + 1;
+        let round = n - begin + after;
         return Looked {
             found: Found::At(k),
-            compared: n - begin + next,
-            next,
+            compared: round,
+            next: after,
         };
     }
     Looked {

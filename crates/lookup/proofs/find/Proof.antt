@@ -2,18 +2,15 @@
 use mathlib.Core.Path.{sym}
 use borrow.Author.Needs.{needs}
 use lib.Seq.{length-take-le}
-use Rattle.lookup.proofs.Around.{lower-fits, lower-more, lower-next, find-below, upper-more, upper-next, find-above, find-nowhere}
+use Rattle.lookup.proofs.Around.{lower-fits, lower-next, find-below, upper-more, upper-next, find-above, find-nowhere}
 use Rattle.lookup.proofs.find.Statement.{statement}
 use Rattle.lookup.proofs.find.Tie as tie
 
 add-place : tie.Need-add-place
 add-place c = record { fits = search (needs, lower-fits) }
 
-add-t18 : tie.Need-add-t18
-add-t18 c = record { fits = search (needs, lower-more) }
-
-add-t19 : tie.Need-add-t19
-add-t19 c = record { fits = search (needs, lower-next) }
+add-end : tie.Need-add-end
+add-end c = record { fits = search (needs, lower-next) }
 
 returns : tie.Need-returns
 returns c = search (needs, find-below)
@@ -21,11 +18,11 @@ returns c = search (needs, find-below)
 slice-aggregate-first : tie.Need-slice-aggregate-first
 slice-aggregate-first c = sym (length-take-le _ _ (search needs))
 
-add-next : tie.Need-add-next
-add-next c = record { fits = search (needs, upper-more) }
+add-after : tie.Need-add-after
+add-after c = record { fits = search (needs, upper-more) }
 
-add-t25 : tie.Need-add-t25
-add-t25 c = record { fits = search (needs, upper-next) }
+add-round : tie.Need-add-round
+add-round c = record { fits = search (needs, upper-next) }
 
 returns-2 : tie.Need-returns-2
 returns-2 c = search (needs, find-above)
@@ -36,5 +33,5 @@ returns-3 c = search (needs, find-nowhere)
 pub find-spec : {M : Type 1} → statement M
 find-spec = tie.close (tie.spec (λ c κs. search needs) (λ c κs. search needs) (λ c. search needs) (λ c. search needs)
     (λ c. search needs) (λ c. search needs) (λ c. search needs) (λ c κs. search needs) (λ c. search needs) add-place
-    add-t18 add-t19 returns (λ c. search needs) slice-aggregate-first (λ c κs. search needs) (λ c. search needs)
-    add-next (λ c. search needs) add-t25 returns-2 (λ c. search needs) returns-3)
+    add-end (λ c. search needs) returns (λ c. search needs) slice-aggregate-first (λ c κs. search needs)
+    (λ c. search needs) add-after (λ c. search needs) add-round returns-2 (λ c. search needs) returns-3)
