@@ -1,5 +1,5 @@
-//! Look-ups from where we were: one of these operations tells each edit of them
-//! from the right program.
+//! Look-ups from where we were, and names that stand twice: one of these operations
+//! tells each edit of them from the right program.
 
 use crate::chosen::{job, route, step};
 use reference::random::records::Facts;
@@ -8,7 +8,7 @@ use reference::sheet::{Route, Sheet};
 
 /// Every operation of this file, as one script.
 pub fn script() -> String {
-    [among(), totals()].concat()
+    [among(), totals(), repeated()].concat()
 }
 
 /// Each of four names, and one that is none of them, from every beginning and from
@@ -33,6 +33,16 @@ fn chain(names: [u64; 3], lines: [usize; 3]) -> Route {
     route(4, &steps)
 }
 
+fn compared(job: Sheet) -> String {
+    comparisons(Facts::of(&job).text(false))
+}
+
+/// A name twice, behind another that ends with its last 8 bits.
+fn repeated() -> String {
+    let twice = chain([1, 257, 257], [0, 1, 2]);
+    compared(job(&twice, &twice, &[1]))
+}
+
 /// The done list follows its route or falls, in the new route too; the new route
 /// lacks its first, second or last name.
 fn totals() -> String {
@@ -40,7 +50,6 @@ fn totals() -> String {
     let lacking = [[9, 20, 30], [10, 9, 30], [10, 20, 9]];
     let lacking = lacking.map(|names| chain(names, [0, 1, 2]));
     let routes = [&rising, &falling, &lacking[0], &lacking[1], &lacking[2]];
-    let compared = |job: Sheet| comparisons(Facts::of(&job).text(false));
     let mut script = String::new();
     for new in routes {
         script += &compared(job(&rising, new, &[10, 20, 30]));
