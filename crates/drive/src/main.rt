@@ -11,8 +11,8 @@
 //     16                 read into lent lists of three lengths
 //     20, 21, 22         over the shelf in hand, the empty one at first: a whole shelf handed in; put, a number and a
 //                        route; judge, the edition, the target, a done list and the work slice
-//     24                 look-up: names, the beginning and a name; it answers its place from 1 or 0, how many names were
-//                        compared, and the next beginning
+//     24                 look-up: names, the beginning and a name; it answers its place from 1 or 0, how many names
+//                        were compared, and the next beginning
 //     25                 as 2, and how many names the run and the match compared
 //
 // An answer is all its numbers, and every slice that was lent as it then stands; 20 and 21 show the shelf too. The

@@ -21,7 +21,8 @@ use Rattle.finding.specs.declared.Compared.{Compared}
 use Rattle.finding.specs.declared.Gathered.{Gathered}
 
 module _ (j : Job) where
-  abbrev both : Compared
+  -- both totals
+  abbrev pub both : Compared
   both =
       record {
         number = 0;
@@ -51,7 +52,7 @@ module _ (j : Job) where
         ∙ run-answers comparedStopped both j (g .begun) v (is .begun-is) t test on
       where
         runs : ran j .number ≡ 0
-        runs = run-passes comparedStopped both j (g .begun) v (is .begun-is) t test on
+        runs = run-passes j (g .begun) v (is .begun-is) t test on
 
 -- ---- both lists laid as numbers: what a list has past its 65th step changes nothing
 

@@ -1,14 +1,13 @@
 -- A job that a row from 6 to 9 refuses: nothing is looked up in the new route.
-use mathlib.Core.Path.{_≡_, sym, ap, _∙_}
+use mathlib.Core.Path.{_≡_}
 use mathlib.Core.Bool.{Bool, true, not}
 use mathlib.Core.List.{List}
 use Prim.Native.Nat.{ℕ}
 use lib.Dec.{eqb}
-use borrow.Author.Tests.{eqb-false, not-true}
-use Rattle.refusal.specs.declared.Outcome.{Outcome}
 use Rattle.job.specs.Job.{Job}
 use Rattle.running.specs.Run.{ran, BegunOf}
 use Rattle.running.specs.declared.Begun.{Begun}
+use Rattle.running.proofs.AfterRun.{run-stops}
 use Rattle.finding.specs.inner.Gathering.{GatheredOf}
 
 module _ (j : Job) (b : Begun) (occurrences matches : List ℕ) (is : BegunOf j b occurrences) (t : Bool)
@@ -18,6 +17,4 @@ module _ (j : Job) (b : Begun) (occurrences matches : List ℕ) (is : BegunOf j 
       record { begun-is = is; matches-are = λ e. absurd (never e); compared-is = λ e. absurd (never e) }
     where
       never : ran j .number ≡ 0 → ⊥
-      never e =
-          eqb-false (b .outcome .number) 0 (sym test ∙ not-true t off)
-          (ap (λ (o : Outcome). o .number) (is .outcome-is) ∙ e)
+      never = run-stops j b occurrences is t test off

@@ -12,7 +12,8 @@ ghost use Rattle.job.specs.Lines.{LinesPass};
 ghost use Rattle.finding.specs.Comparisons.{comparisons};
 ghost use Rattle.finding.specs.inner.Gathering.{GatheredOf};
 
-// Rows 6 to 9 where all lines pass; the steps done go into `occurrences`, the new route's steps for them into `matches`.
+// Rows 6 to 9 where all lines pass; the steps done go into `occurrences`, the new route's steps for them into
+// `matches`.
 pub fn gather(
     old_places: u64,
     old: &[u64],

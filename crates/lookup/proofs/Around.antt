@@ -1,5 +1,5 @@
--- Look-up from where we were. A list is cut before its beginning: the name stands in the lower part, or else in the upper
--- one, or nowhere; and so many names are compared.
+-- Look-up from where we were. The list is cut where the look-up begins: the name stands in the lower part, or else in
+-- the upper one, or nowhere; and so many names are compared.
 use mathlib.Core.Path.{_≡_, refl, sym, ap, _∙_, subst}
 use mathlib.Core.Bool.{Bool, true, false, cond}
 use mathlib.Core.List.{List, [], _∷_, _++_, append-nil}
@@ -18,7 +18,7 @@ use Rattle.lookup.specs.Around.{around, compared, orAbove, foundFrom, ne
 use Rattle.lookup.specs.declared.Found.{Found}
 use Rattle.lookup.specs.declared.Found.the-variants.{At, Nothing}
 use Rattle.lookup.specs.declared.Looked.{Looked}
-use Rattle.lookup.proofs.Position.{position-below}
+use Rattle.lookup.proofs.Position.{position-below, at-inj}
 
 -- ---- how many names are compared: in a list whose first part has the name, and whose first part lacks it
 
@@ -85,7 +85,8 @@ module _ (from n : ℕ) (l : List ℕ) where
     unfolding nextFrom
     looked-above k e =
         ap (λ (m : ℕ). record { found = At k; compared = length l - from + (k + 1); next = m }) (omega arith)
-        ∙ looked-is (At k) (length l - from + (k + 1)) (found-above ∙ e) (compared-above ∙ omega (arith, count, length-drop from l))
+        ∙ looked-is (At k) (length l - from + (k + 1)) (found-above ∙ e)
+        (compared-above ∙ omega (arith, count, length-drop from l))
       where
         count : compared n (take from l) ≡ k + 1
         count = ap (compared n) (sym (append-nil (take from l))) ∙ compared-at n (take from l) [] k e
@@ -119,22 +120,20 @@ module _ (from n : ℕ) (l : List ℕ) where
         go Nothing e (At k) p = subst P (looked-above from n l e k p) (above k (position-below n (take from l) k p))
         go Nothing e Nothing p = subst P (looked-nothing from n l e p) nowhere
 
-  at-most : (a b : ℕ) → At a ≡ At b → a ≡ b
-  at-most a b e = cc
-
   pub count-below : (k : ℕ) → looked from n l .found ≡ At k → from ≤ k → from + looked from n l .compared ≡ k + 1
   count-below k =
       looked-cases (λ (x : Looked). x .found ≡ At k → from ≤ k → from + x .compared ≡ k + 1)
-      (λ i h e b. omega (arith, at-most (from + i) k e))
-      (λ i h e b. absurd (omega (arith, h, at-most i k e, length-take from l)))
+      (λ i h e b. omega (arith, at-inj (from + i) k e))
+      (λ i h e b. absurd (omega (arith, h, at-inj i k e, length-take from l)))
       (λ e b. cc)
 
   pub count-above : (k : ℕ) → looked from n l .found ≡ At k → k < from → from ≤ length l
       → from + looked from n l .compared ≡ length l + k + 1
   count-above k =
-      looked-cases (λ (x : Looked). x .found ≡ At k → k < from → from ≤ length l → from + x .compared ≡ length l + k + 1)
-      (λ i h e b r. absurd (omega (arith, at-most (from + i) k e)))
-      (λ i h e b r. omega (arith, at-most i k e))
+      looked-cases
+      (λ (x : Looked). x .found ≡ At k → k < from → from ≤ length l → from + x .compared ≡ length l + k + 1)
+      (λ i h e b r. absurd (omega (arith, at-inj (from + i) k e)))
+      (λ i h e b r. omega (arith, at-inj i k e))
       (λ e b r. cc)
 
   pub count-nowhere : looked from n l .found ≡ Nothing → looked from n l .compared ≡ length l
@@ -180,7 +179,8 @@ module _ (w : List ℕ) (from name count begin : ℕ) (counted : count ≡ lengt
       (λ i h. take-all i column h ∙ sym (take-length column))
 
   -- f is what was found in the lower part
-  module _ (f : Found) (f-is : f ≡ position name (names (stepsIn (take (length w - 4 * begin) (drop (4 * begin) w))))) where
+  module _ (f : Found)
+      (f-is : f ≡ position name (names (stepsIn (take (length w - 4 * begin) (drop (4 * begin) w))))) where
     lower-is : position name (drop from column) ≡ f
     lower-is = ap (position name) (sym lower-names) ∙ sym f-is
 
@@ -235,7 +235,8 @@ module _ (w : List ℕ) (from name count begin : ℕ) (counted : count ≡ lengt
             (omega (arith, length-names (stepsIn w)))
             ∙ looked-above from name column (lower-is ∙ miss) k (upper-is ∙ e)
 
-      pub find-nowhere : g ≡ Nothing → record { found = Nothing; compared = count; next = from } ≡ looked from name column
+      pub find-nowhere : g ≡ Nothing
+          → record { found = Nothing; compared = count; next = from } ≡ looked from name column
       find-nowhere e =
           ap (λ (c : ℕ). record { found = Nothing; compared = c; next = from })
           (omega (arith, length-names (stepsIn w)))

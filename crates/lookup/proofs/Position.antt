@@ -1,16 +1,17 @@
 -- Look-up by name: the position among the names, and the step there. The loop's invariant is that the position is the
 -- one found in what is left, moved on by what has been passed.
 use mathlib.Core.Path.{_≡_, refl, sym, ap, _∙_}
-use mathlib.Core.Bool.{Bool, true, false, cond}
+use mathlib.Core.Bool.{Bool, true, false, cond, true≢false}
 use mathlib.Core.List.{List, [], _∷_, map}
 use mathlib.Core.Option.{Option, none, some}
-use Prim.Native.Nat.{ℕ, suc, _+_, _≤_, _<_}
+use Prim.Native.Nat.{ℕ, zero, suc, _+_, _≤_, _<_}
 use native.Mathlib.Omega.{arith}
+use native.Mathlib.Nat.{le-of-suc-le-suc, not-suc-le-zero}
 use native.Mathlib.Numerals.{add-one}
 use lib.Dec.{eqb}
 use lib.ListN.{length, drop, getD, drop-of-length-le}
 use lib.Seq.{drop-cons}
-use borrow.Author.Tests.{eq-eqb, ne-eqb}
+use borrow.Author.Tests.{eqb-true, eq-eqb, ne-eqb}
 use Rattle.route.specs.Steps.{blank, names, lookup}
 use Rattle.route.specs.declared.Step.{Step}
 use Rattle.route.proofs.StepList.{length-names, getD-names}
@@ -72,23 +73,49 @@ module _ (n : ℕ) (l : List Step) (i count x : ℕ) (whole : Found) (counted : 
   pub find-end : count ≤ i → Nothing ≡ whole
   find-end h = position-end n (names l) whole i (omega (arith, length-names l)) inv
 
--- what a position says of the list: it is within it, and the name stands there
+-- ---- what a position says of the list: it is within it, the name stands there, and where there is none nothing has it
+
+at-nowhere : (k : ℕ) → Nothing ≡ At k → ⊥
+at-nowhere k e = let z : _≡_ {A = ℕ} 0 1 = cc in omega arith
+
+pub at-inj : (j k : ℕ) → At j ≡ At k → j ≡ k
+at-inj j k e = cc
+
 pub position-below : (n : ℕ) (l : List ℕ) (k : ℕ) → position n l ≡ At k → k < length l
 unfolding position moved
-position-below n [] k e = absurd (clear e)
-  where
-    clear : Nothing ≡ At k → ⊥
-    clear p = let z : _≡_ {A = ℕ} 0 1 = cc in omega arith
+position-below n [] k e = absurd (at-nowhere k e)
 position-below n (x ∷ l) k e = go (eqb x n) (position n l) refl e (position-below n l)
   where
     go : (t : Bool) (f : Found) → position n l ≡ f → cond t (At 0) (moved 1 f) ≡ At k
         → ((j : ℕ) → position n l ≡ At j → j < length l) → k < suc (length l)
-    go true f p q ih = let z : 0 ≡ k = cc in omega arith
-    go false (At j) p q ih =
-        let z : 1 + j ≡ k = cc in
-        let b : j < length l = ih j p in
-        omega arith
-    go false Nothing p q ih = let z : _≡_ {A = ℕ} 0 1 = cc in absurd (omega arith)
+    go true f p q ih = omega (arith, at-inj 0 k q)
+    go false (At j) p q ih = omega (arith, at-inj (1 + j) k q, ih j p)
+    go false Nothing p q ih = absurd (at-nowhere k q)
+
+pub position-at : (n : ℕ) (l : List ℕ) (k : ℕ) → position n l ≡ At k → getD l k 0 ≡ n
+unfolding position moved
+position-at n [] k e = absurd (at-nowhere k e)
+position-at n (x ∷ l) k e = go (eqb x n) refl (position n l) refl e (position-at n l)
+  where
+    go : (t : Bool) → eqb x n ≡ t → (f : Found) → position n l ≡ f → cond t (At 0) (moved 1 f) ≡ At k
+        → ((j : ℕ) → position n l ≡ At j → getD l j 0 ≡ n) → getD (x ∷ l) k 0 ≡ n
+    go true b f p q ih = ap (λ (j : ℕ). getD (x ∷ l) j 0) (sym (at-inj 0 k q)) ∙ eqb-true x n b
+    go false b (At j) p q ih =
+        let next : k ≡ suc j = omega (arith, at-inj (1 + j) k q) in ap (λ (m : ℕ). getD (x ∷ l) m 0) next ∙ ih j p
+    go false b Nothing p q ih = absurd (at-nowhere k q)
+
+pub position-lacks : (n : ℕ) (l : List ℕ) → position n l ≡ Nothing → (k : ℕ) → k < length l → getD l k 0 ≡ n → ⊥
+unfolding position moved
+position-lacks n [] e k h is = not-suc-le-zero h
+position-lacks n (x ∷ l) e k h is = go (eqb x n) refl (position n l) refl e (position-lacks n l) k h is
+  where
+    go : (t : Bool) → eqb x n ≡ t → (f : Found) → position n l ≡ f → cond t (At 0) (moved 1 f) ≡ Nothing
+        → (position n l ≡ Nothing → (k : ℕ) → k < length l → getD l k 0 ≡ n → ⊥)
+        → (k : ℕ) → k < length (x ∷ l) → getD (x ∷ l) k 0 ≡ n → ⊥
+    go true b f p q ih k h is = at-nowhere 0 (sym q)
+    go false b (At j) p q ih k h is = at-nowhere (1 + j) (sym q)
+    go false b Nothing p q ih zero h is = true≢false (sym (eq-eqb x n is) ∙ b)
+    go false b Nothing p q ih (suc k) h is = ih p k (le-of-suc-le-suc h) is
 
 -- whatever is found by its number is what stands at the number's position: `find` goes through a list for the first
 -- entry of that key

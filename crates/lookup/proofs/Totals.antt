@@ -1,8 +1,9 @@
--- How many names look-ups in turn compare: all at most each time, at least one, and one where the name stands just below.
+-- How many names look-ups in turn compare: all at most each time, at least one, and one where the name stands just
+-- below.
 use mathlib.Core.Path.{_≡_, refl, sym, ap, _∙_}
 use mathlib.Core.Bool.{Bool, cond}
 use mathlib.Core.List.{List, [], _∷_, _++_, append-nil}
-use Prim.Native.Nat.{ℕ, suc, _+_, _-_, _*_, _≤_, _<_}
+use Prim.Native.Nat.{ℕ, suc, _+_, _*_, _≤_, _<_}
 use native.Mathlib.Omega.{arith}
 use native.Mathlib.Nat.{suc-mul, mul-le-mul}
 use native.Mathlib.Numerals.{add-one}
@@ -79,7 +80,8 @@ pub looked-next : (from n : ℕ) (l : List ℕ) (k : ℕ) → looked from n l .f
     ≡ record { found = At (suc k); compared = 1; next = suc (suc k) }
 unfolding looked nextFrom
 looked-next from n l k e h =
-    ap (λ (f : Found). looked (nextFrom from f) (getD l (suc k) 0) l) e ∙ looked-here (suc k) (getD l (suc k) 0) l h refl
+    ap (λ (f : Found). looked (nextFrom from f) (getD l (suc k) 0) l) e
+    ∙ looked-here (suc k) (getD l (suc k) 0) l h refl
 
 found-top : (n : ℕ) (l : List ℕ) → foundFrom 0 n l ≡ position n l
 unfolding foundFrom orAbove moved position
@@ -130,7 +132,8 @@ total-follows from l _ (round _ sought h f) = total-round from l h sought ∙ to
 -- ---- the turns of look-ups of names in turn
 
 module _ (l sought : List ℕ) (total from i whole : ℕ) (inv : total + comparedFrom from l (drop i sought) ≡ whole) where
-  module _ (more : i < length sought) (n : ℕ) (n-is : n ≡ getD sought i 0) (x : Looked) (x-is : x ≡ looked from n l) where
+  module _ (more : i < length sought) (n : ℕ) (n-is : n ≡ getD sought i 0) (x : Looked)
+      (x-is : x ≡ looked from n l) where
     pub total-step : total + x .compared + comparedFrom (x .next) l (drop (i + 1) sought) ≡ whole
     unfolding comparedFrom
     total-step =

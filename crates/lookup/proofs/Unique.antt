@@ -1,56 +1,22 @@
--- Names are unique, so from wherever it begins each finding is as before: whatever stands anywhere in the list with that
--- name is the one.
+-- Names are unique, so from wherever it begins each finding is as before: whatever stands anywhere in the list with
+-- that name is the one.
 use mathlib.Core.Path.{_≡_, refl, sym, ap, _∙_}
-use mathlib.Core.Bool.{Bool, true, false, cond}
-use mathlib.Core.List.{List, [], _∷_}
+use mathlib.Core.Bool.{Bool, true, false}
+use mathlib.Core.List.{List}
 use mathlib.Core.Option.{none, some}
-use Prim.Native.Nat.{ℕ, zero, suc, _+_, _-_, _<_}
+use Prim.Native.Nat.{ℕ, _+_, _-_, _<_}
 use native.Mathlib.Omega.{arith}
-use native.Mathlib.Nat.{le-of-suc-le-suc, not-suc-le-zero}
-use lib.Dec.{eqb, ltb}
+use lib.Dec.{ltb}
 use lib.ListN.{length, take, drop, getD, length-take, length-drop}
 use lib.Seq.{getD-take, getD-drop}
-use borrow.Author.Tests.{ltb-true, ltb-false, eqb-true, eq-eqb}
+use borrow.Author.Tests.{ltb-true, ltb-false}
 use Rattle.route.specs.Steps.{blank, names, lookup}
 use Rattle.route.specs.declared.Step.{Step}
 use Rattle.lookup.specs.Position.{position, moved}
 use Rattle.lookup.specs.Around.{orAbove, foundFrom, looked, Unique}
 use Rattle.lookup.specs.declared.Found.{Found}
 use Rattle.lookup.specs.declared.Found.the-variants.{At, Nothing}
-use Rattle.lookup.proofs.Position.{position-below, lookup-at, lookup-none}
-
--- what is found has the name
-pub position-at : (n : ℕ) (l : List ℕ) (k : ℕ) → position n l ≡ At k → getD l k 0 ≡ n
-unfolding position moved
-position-at n [] k e = cc
-position-at n (x ∷ l) k e = go (eqb x n) refl (position n l) refl e (position-at n l)
-  where
-    go : (t : Bool) → eqb x n ≡ t → (f : Found) → position n l ≡ f → cond t (At 0) (moved 1 f) ≡ At k
-        → ((j : ℕ) → position n l ≡ At j → getD l j 0 ≡ n) → getD (x ∷ l) k 0 ≡ n
-    go true b f p q ih =
-        let z : 0 ≡ k = cc in ap (λ (j : ℕ). getD (x ∷ l) j 0) (sym z) ∙ eqb-true x n b
-    go false b (At j) p q ih =
-        let z : 1 + j ≡ k = cc in
-        let next : k ≡ suc j = omega arith in
-        ap (λ (m : ℕ). getD (x ∷ l) m 0) next ∙ ih j p
-    go false b Nothing p q ih = cc
-
--- where nothing is found, nothing has the name
-pub position-lacks : (n : ℕ) (l : List ℕ) → position n l ≡ Nothing → (k : ℕ) → k < length l → getD l k 0 ≡ n → ⊥
-unfolding position moved
-position-lacks n [] e k h is = not-suc-le-zero h
-position-lacks n (x ∷ l) e k h is = go (eqb x n) refl (position n l) refl e (position-lacks n l) k h is
-  where
-    clash : (j : ℕ) → Nothing ≡ At j → ⊥
-    clash j p = let z : _≡_ {A = ℕ} 0 1 = cc in omega arith
-
-    go : (t : Bool) → eqb x n ≡ t → (f : Found) → position n l ≡ f → cond t (At 0) (moved 1 f) ≡ Nothing
-        → (position n l ≡ Nothing → (k : ℕ) → k < length l → getD l k 0 ≡ n → ⊥)
-        → (k : ℕ) → k < length (x ∷ l) → getD (x ∷ l) k 0 ≡ n → ⊥
-    go true b f p q ih k h is = clash 0 (sym q)
-    go false b (At j) p q ih k h is = clash (1 + j) (sym q)
-    go false b Nothing p q ih zero h is = let t : true ≡ false = sym (eq-eqb x n is) ∙ b in let z : _≡_ {A = ℕ} 0 1 = cc in omega arith
-    go false b Nothing p q ih (suc k) h is = ih p k (le-of-suc-le-suc h) is
+use Rattle.lookup.proofs.Position.{position-below, position-at, position-lacks, lookup-at, lookup-none}
 
 module _ (n : ℕ) (l : List ℕ) where
   -- where nothing has the name, nothing is found

@@ -1,5 +1,5 @@
--- Look-up from where we were: "Finding a name shall begin after the step found last, the first time or past the last step
--- at the top, and go round to the top."
+-- Look-up from where we were: "Finding a name shall begin after the step found last, the first time or past the last
+-- step at the top, and go round to the top."
 use mathlib.Core.Path.{_≡_}
 use mathlib.Core.Bool.{cond}
 use mathlib.Core.List.{List, [], _∷_, _++_}
@@ -11,8 +11,8 @@ use Rattle.lookup.specs.declared.Found.{Found}
 use Rattle.lookup.specs.declared.Found.the-variants.{At, Nothing}
 use Rattle.lookup.specs.declared.Looked.{Looked}
 
--- the names in the order in which they are compared: those from the beginning to the last, then those above it. Past the
--- last all stand above, so it begins at the top
+-- the names in the order in which they are compared: those from the beginning to the last, then those above the
+-- beginning. Past the last all stand above it, so that a look-up begins at the top
 unfoldable pub around : ℕ → List ℕ → List ℕ
 around from l = drop from l ++ take from l
 
@@ -21,11 +21,12 @@ unfoldable pub compared : ℕ → List ℕ → ℕ
 compared n [] = 0
 compared n (x ∷ l) = suc (cond (eqb x n) 0 (compared n l))
 
--- where it stands: the first of that name below, or else above
+-- what was found below, or else above
 unfoldable pub orAbove : Found → Found → Found
 orAbove (At k) above = At k
 orAbove Nothing above = above
 
+-- where it stands: the first of that name from the beginning on, or else the first above it
 unfoldable pub foundFrom : ℕ → ℕ → List ℕ → Found
 foundFrom from n l = orAbove (moved from (position n (drop from l))) (position n (take from l))
 

@@ -10,8 +10,7 @@ use borrow.Author.Tests.{eq-eqb, ne-eqb}
 use Rattle.lookup.specs.Position.{position}
 use Rattle.lookup.specs.declared.Found.{Found}
 use Rattle.lookup.specs.declared.Found.the-variants.{At, Nothing}
-use Rattle.lookup.proofs.Position.{position-below}
-use Rattle.lookup.proofs.Unique.{position-at, position-lacks}
+use Rattle.lookup.proofs.Position.{position-below, position-at, position-lacks}
 use Rattle.name_set.specs.Among.{among}
 
 pub among-at : (n : ℕ) (l : List ℕ) (i : ℕ) → i < length l → getD l i 0 ≡ n → among n l ≡ true

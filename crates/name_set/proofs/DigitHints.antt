@@ -1,5 +1,5 @@
--- Hints for names, gathered from the first name to the last: a slot that is still 0 gets the name's place. So where a slot
--- is 0 no name ends in its digit.
+-- Hints for names, gathered from the first name to the last: a slot that is still 0 gets the name's place. So where a
+-- slot is 0 no name ends in its digit.
 use mathlib.Core.Path.{_≡_, refl, sym, ap, _∙_, subst}
 use mathlib.Core.Bool.{Bool, true, false}
 use mathlib.Core.List.{List, [], _∷_, _++_}

@@ -1,5 +1,5 @@
-// The names of a list of steps as a set: row 5's test whether a name is new. A hint for its last digit in base 256 spares
-// most scans; it is no look-up, and tells no place.
+// The names of a list of steps as a set: row 5's test whether a name is new. It is no look-up, and tells no place; a
+// hint for the name's last digit in base 256 spares most scans.
 use lookup::Found;
 ghost use mathlib.Core.Path.{_≡_};
 ghost use mathlib.Core.List.{List, [], _∷_, _++_};

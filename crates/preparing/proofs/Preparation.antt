@@ -1,12 +1,12 @@
 -- A job after the rows to 12, by whether the done list has run.
 use mathlib.Core.Path.{_≡_, refl, sym, ap, _∙_}
-use mathlib.Core.Bool.{Bool, true, false, not, cond, true≢false}
+use mathlib.Core.Bool.{Bool, true, false, not}
 use mathlib.Core.List.{List}
 use Prim.Native.Nat.{ℕ, _*_, _≤_, _<_}
 use native.Mathlib.Omega.{arith}
 use lib.Dec.{eqb}
 use lib.ListN.{length, take, length-take}
-use borrow.Author.Tests.{eq-eqb, eqb-true, not-true, not-false}
+use borrow.Author.Tests.{eqb-true, not-false}
 use Rattle.mask.specs.Mask.{has}
 use Rattle.refusal.specs.Rows.{refuse, first}
 use Rattle.refusal.specs.declared.Outcome.{Outcome}
@@ -15,12 +15,12 @@ use Rattle.flat.specs.Flat.{stepsIn, Holds}
 use Rattle.route.specs.declared.Step.{Step}
 use Rattle.job.specs.Job.{Job, flatJob, jobLine, newStart}
 use Rattle.job.specs.Lines.{lineRows, LinesPass}
-use Rattle.running.specs.Run.{stopped, ran, performed, BegunOf}
-use Rattle.running.specs.declared.Ran.{Ran}
+use Rattle.running.specs.Run.{ran, performed, BegunOf}
 use Rattle.finding.specs.inner.Gathering.{GatheredOf}
 use Rattle.finding.specs.declared.Gathered.{Gathered}
 use Rattle.job.proofs.Rows.{pass-fits}
-use Rattle.running.proofs.RunLine.{ran-refused, checked-lines, ran-fits}
+use Rattle.running.proofs.RunLine.{ran-fits}
+use Rattle.running.proofs.AfterRun.{line-ends, run-ends, run-passes, run-stops, run-answers}
 use Rattle.running.proofs.Performed.{length-performed, holds-performed, length-holds}
 use Rattle.running.proofs.DoneNames.{performed-names}
 use Rattle.slice.specs.Slice.{variables}
@@ -43,16 +43,10 @@ module _ (j : Job) where
   abbrev pub jobRows : Outcome
   jobRows = keptRows (jobLine j) (newStart j) (j .new) doneSteps
 
-  picked : (t : Bool) → eqb (ran j .number) 0 ≡ t → cond t jobRows (refuse (ran j .number) (ran j .second)) ≡ rowsTo12 j
-  unfolding rowsTo12
-  picked t e = ap (λ (x : Bool). cond x jobRows (refuse (ran j .number) (ran j .second))) (sym e)
-
   -- a line is refused
   pub lines-refused : (o : Outcome) → o ≡ first (lineRows j) → eqb (o .number) 0 ≡ false → o ≡ rowsTo12 j
-  lines-refused o is e =
-      let stops : stopped (o .number) (o .second) ≡ ran j = ran-refused j o (checked-lines j o is e) e in
-      ap (λ (x : Ran). refuse (x .number) (x .second)) stops
-      ∙ picked false (ap (λ (x : Ran). eqb (x .number) 0) (sym stops) ∙ e)
+  unfolding rowsTo12
+  lines-refused o is e = line-ends refuse jobRows j o is false (sym e) refl
 
   -- rows 6 to 9 have been asked: g is what they say, t that they pass. `line` is that of `(job)`
   module _
@@ -62,26 +56,21 @@ module _ (j : Job) where
     abbrev begun : BegunOf j (g .begun) occurrences
     begun = gathered .begun-is
 
-    number-is : eqb (ran j .number) 0 ≡ t
-    number-is = sym (test ∙ ap (λ (x : Outcome). eqb (x .number) 0) (begun .outcome-is))
-
     pub prepared-refused :
         not t ≡ true → (p : Prepared) → p .outcome ≡ g .begun .outcome → p .line ≡ line
         → PreparedOf j p occurrences matches
+    unfolding rowsTo12
     prepared-refused off p to at =
         record {
-          outcome-is = to ∙ begun .outcome-is ∙ picked false stops;
+          outcome-is = to ∙ run-ends refuse jobRows j (g .begun) occurrences begun t test off;
           line-is = at ∙ line-is;
-          ready = λ z. absurd (true≢false (sym (eq-eqb (ran j .number) 0 z) ∙ stops));
+          ready = λ z. absurd (run-stops j (g .begun) occurrences begun t test off z);
         }
-      where
-        stops : eqb (ran j .number) 0 ≡ false
-        stops = number-is ∙ not-true t off
 
     -- the done list has run; the numbers hold the steps done and the new route's steps for the done names
     module _ (lines : LinesPass j) (on : not t ≡ false) where
       runs : ran j .number ≡ 0
-      runs = eqb-true (ran j .number) 0 (number-is ∙ not-false t on)
+      runs = run-passes j (g .begun) occurrences begun t test on
 
       holds : Holds (performed (j .new) (j .done)) matches
       holds = gathered .matches-are runs
@@ -110,12 +99,13 @@ module _ (j : Job) where
           → (MatchesOf (j .new) (stepsIn (take end occurrences)) (take end matches)
           → Weighed line (g .begun .start .tokens) (j .new) (stepsIn (take end occurrences)) p)
           → PreparedOf j p occurrences matches
+      unfolding rowsTo12
       prepared-weighed p weighs =
           let w : Weighed (jobLine j) (newStart j) (j .new) doneSteps p =
           rw (line-is, begun .start-is runs, occurrences-are) at (weighs matches-of)
           in
           record {
-            outcome-is = w .outcome-is ∙ picked true (eq-eqb (ran j .number) 0 runs);
+            outcome-is = w .outcome-is ∙ run-answers refuse jobRows j (g .begun) occurrences begun t test on;
             line-is = w .line-is;
             ready = λ z.
                 record {
@@ -195,10 +185,7 @@ module _
     (gathered : GatheredOf (flatJob places old places′ new done) g occurrences matches) (t : Bool)
     (test : t ≡ eqb (g .begun .outcome .number) 0) (on : not t ≡ false) where
   done-ran : ran (flatJob places old places′ new done) .number ≡ 0
-  done-ran =
-      let j : Job = flatJob places old places′ new done in
-      eqb-true (ran j .number) 0
-      (ap (λ (x : Outcome). eqb (x .number) 0) (sym (gathered .begun-is .outcome-is)) ∙ sym test ∙ not-false t on)
+  done-ran = run-passes (flatJob places old places′ new done) (g .begun) occurrences (gathered .begun-is) t test on
 
   done-held : length (stepsIn (take (4 * length done) occurrences)) ≡ length done
   done-held = length-holds (stepsIn old) done occurrences (gathered .begun-is .done-are done-ran)

@@ -38,7 +38,7 @@ ran j =
     (runFrom (j .old) (oldStart j) (jobLine j + 1) (j .done))
     (stopped (checked j .number) (checked j .second))
 
--- rows 6 and 7 of the old route, then of the new, and both starts
+-- rows 6 and 7 of the old route, then of the new, and both starts; nothing has been looked up yet
 unfoldable pub openedBoth : ℕ → List Step → ℕ → List Step → Begun
 openedBoth oldPlaces old newPlaces new =
     record {
@@ -48,7 +48,7 @@ openedBoth oldPlaces old newPlaces new =
       compared = 0;
     }
 
--- a refusal by row 6 or 7: no markings
+-- a refusal by row 6 or 7: no markings, nothing compared
 abbrev pub begunStopped : ℕ → ℕ → Begun
 begunStopped n k =
     record { outcome = refuse n k; marking = record { tokens = 0 }; start = record { tokens = 0 }; compared = 0 }

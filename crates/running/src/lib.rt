@@ -36,7 +36,7 @@ impl Ran {
 }
 
 impl Begun {
-    // A refusal: no markings.
+    // A refusal: no markings, nothing compared.
     pub fn stop(number: u32, second: u64) -> Begun
         ensures { λ r. ⌜ r ≡ begunStopped number second ⌝ }
     {

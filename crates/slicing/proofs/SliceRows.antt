@@ -46,7 +46,7 @@ module _ (j : Job) where
 
     module _ (passed : not t ≡ false) where
       ran-zero : ran j .number ≡ 0
-      ran-zero = run-passes slicedStopped answer j b w is t test passed
+      ran-zero = run-passes j b w is t test passed
 
       -- the steps done
       pub occurrences-are : stepsIn (take (4 * length (j .done)) w) ≡ performed (j .old) (j .done)

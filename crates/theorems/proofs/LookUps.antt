@@ -1,10 +1,10 @@
 -- A job's look-ups: names are unique where no line is refused, and a done list that follows its route costs one each.
-use mathlib.Core.Path.{_≡_, ap, _∙_}
-use mathlib.Core.Bool.{Bool, cond}
+use mathlib.Core.Path.{_≡_, refl, sym, ap, _∙_}
 use lib.ListN.{length}
 use borrow.Author.Tests.{eq-eqb}
 use Rattle.route.specs.Steps.{names}
-use Rattle.lookup.specs.Around.{comparedAll, Unique}
+use Rattle.mask.proofs.Truth.{cond-yes}
+use Rattle.lookup.specs.Around.{Unique}
 use Rattle.lookup.specs.Follows.{Follows}
 use Rattle.lookup.proofs.Totals.{total-follows}
 use Rattle.job.specs.Job.{Job}
@@ -13,26 +13,17 @@ use Rattle.job.proofs.Rows.{pass-fits}
 use Rattle.running.specs.Run.{ran}
 use Rattle.finding.specs.Comparisons.{comparedStopped, comparisons}
 use Rattle.finding.specs.declared.Compared.{Compared}
+use Rattle.finding.proofs.ComparedRows.{both}
 
 pub names-unique : (j : Job) → LinesPass j → Unique (names (j .old)) × Unique (names (j .new))
 names-unique j e = (pass-fits j e .old-fits .names-unique, pass-fits j e .new-fits .names-unique)
 
 module _ (j : Job) (runs : ran j .number ≡ 0) where
   -- the totals of a job that no row to 9 refuses
-  pub totals : comparisons j ≡ record {
-    number = 0;
-    second = 0;
-    run = comparedAll (names (j .old)) (j .done);
-    matched = comparedAll (names (j .new)) (j .done);
-  }
+  totals : comparisons j ≡ both j
   unfolding comparisons
   totals =
-      ap (λ (t : Bool). cond t (record {
-        number = 0;
-        second = 0;
-        run = comparedAll (names (j .old)) (j .done);
-        matched = comparedAll (names (j .new)) (j .done);
-      }) (comparedStopped (ran j .number) (ran j .second))) (eq-eqb (ran j .number) 0 runs)
+      sym (cond-yes (both j) (comparedStopped (ran j .number) (ran j .second)) refl (eq-eqb (ran j .number) 0 runs))
 
   pub run-follows : Follows (names (j .old)) 0 (j .done) → comparisons j .run ≡ length (j .done)
   run-follows f = ap (λ (c : Compared). c .run) totals ∙ total-follows 0 (names (j .old)) (j .done) f

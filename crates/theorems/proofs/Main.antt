@@ -1,7 +1,7 @@
 -- The whole promise on one page, in 01's order: the sheet, its bytes both ways, the longer names of 02, its look-up,
--- slice and precedence, fit orders, what judge gives and its listing shows, the shelf of 02, and demand 3. Each is proved
--- in the file that its name is cited from. Code meets it through the contracts, which are equalities with the definitions
--- that these theorems speak of.
+-- slice and precedence, fit orders, what judge gives and its listing shows, the shelf of 02, and demand 3. Each is
+-- proved in the file that its name is cited from. Code meets it through the contracts, which are equalities with the
+-- definitions that these theorems speak of.
 use mathlib.Core.Path.{_≡_}
 use mathlib.Core.Logic.{_↔_}
 use mathlib.Core.Bool.{true, false}
@@ -23,7 +23,7 @@ use Rattle.lookup.specs.Follows.{Follows}
 use Rattle.lookup.specs.declared.Found.the-variants.{At, Nothing}
 use Rattle.lookup.proofs.Around.{count-below, count-above, count-nowhere}
 use Rattle.lookup.proofs.Unique.{looked-found, found-lookup, missed-lookup}
-use Rattle.lookup.proofs.Totals.{looked-next, total-follows, total-least, total-most}
+use Rattle.lookup.proofs.Totals.{looked-next, total-round, total-follows, total-least, total-most}
 use Rattle.running.specs.Run.{ran}
 use Rattle.finding.specs.Comparisons.{comparisons}
 use Rattle.slice.specs.Slice.{Kept, keptMask}
@@ -224,16 +224,16 @@ names-are-unique = names-unique
 pub each-finding-is-as-before : (n : ℕ) (l : List ℕ) → Unique l → (from : ℕ) → looked from n l .found ≡ position n l
 each-finding-is-as-before = looked-found
 
-pub what-is-found-has-the-name : (from n : ℕ) (l : List Step) → Unique (names l) → (k : ℕ)
+pub what-is-found-is-the-step-of-the-name : (from n : ℕ) (l : List Step) → Unique (names l) → (k : ℕ)
     → looked from n (names l) .found ≡ At k → lookup n l ≡ some (getD l k blank)
-what-is-found-has-the-name = found-lookup
+what-is-found-is-the-step-of-the-name = found-lookup
 
 pub what-is-missed-has-no-step : (from n : ℕ) (l : List Step) → Unique (names l)
     → looked from n (names l) .found ≡ Nothing → lookup n l ≡ none
 what-is-missed-has-no-step = missed-lookup
 
--- "how many names it compared: those from its beginning to the step found", below the beginning or, gone round, above it,
--- "or all where there is none"
+-- "how many names it compared: those from its beginning to the step found", below the beginning or, gone round, above
+-- it, "or all where there is none"
 pub counts-to-a-step-below : (from n : ℕ) (l : List ℕ) (k : ℕ) → looked from n l .found ≡ At k → from ≤ k
     → from + looked from n l .compared ≡ k + 1
 counts-to-a-step-below = count-below
@@ -245,6 +245,11 @@ counts-round-to-a-step-above = count-above
 pub counts-all-where-there-is-none : (from n : ℕ) (l : List ℕ) → looked from n l .found ≡ Nothing
     → looked from n l .compared ≡ length l
 counts-all-where-there-is-none = count-nowhere
+
+-- past the last it begins at the top
+pub past-the-last-it-begins-at-the-top : (from : ℕ) (l : List ℕ) → length l ≤ from → (sought : List ℕ)
+    → comparedFrom from l sought ≡ comparedFrom 0 l sought
+past-the-last-it-begins-at-the-top = total-round
 
 -- "mostly stands just below the last one": such a name costs one comparison
 pub the-name-just-below-costs-one : (from n : ℕ) (l : List ℕ) (k : ℕ) → looked from n l .found ≡ At k

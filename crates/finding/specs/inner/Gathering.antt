@@ -9,8 +9,8 @@ use Rattle.job.specs.Job.{Job}
 use Rattle.running.specs.Run.{ran, performed, BegunOf}
 use Rattle.finding.specs.declared.Gathered.{Gathered}
 
--- what stands of a job after row 9 and, where no row to 9 refuses, the new route's steps for the done names, as numbers,
--- and how many of its names their look-ups compared
+-- what stands of a job after row 9 and, where no row to 9 refuses, the new route's steps for the done names, as
+-- numbers, and how many of its names their look-ups compared
 pub record GatheredOf (j : Job) (g : Gathered) (occurrences matches : List ℕ) : Type 0 where
   pub begun-is : BegunOf j (g .begun) occurrences
   pub matches-are : ran j .number ≡ 0 → Holds (performed (j .new) (j .done)) matches

@@ -2,7 +2,8 @@
 use mathlib.Core.Path.{sym}
 use borrow.Author.Needs.{needs}
 use lib.Seq.{length-take-le}
-use Rattle.lookup.proofs.Around.{lower-fits, lower-next, find-below, upper-more, upper-next, find-above, find-nowhere}
+use Rattle.lookup.proofs.Around.{lower-fits, lower-next, find-below, upper-more, upper-next}
+use Rattle.lookup.proofs.Around.{find-above, find-nowhere}
 use Rattle.lookup.proofs.find.Statement.{statement}
 use Rattle.lookup.proofs.find.Tie as tie
 

@@ -11,8 +11,8 @@ pub fn script() -> String {
     [among(), totals(), repeated()].concat()
 }
 
-/// Each of four names, and one that is none of them, from every beginning and from
-/// two past the last.
+/// Each of four names, and one that is none of them, from every beginning in them,
+/// and from three past the last.
 fn among() -> String {
     let names = [10, 20, 30, 40];
     let mut script = String::new();
@@ -37,10 +37,12 @@ fn compared(job: Sheet) -> String {
     comparisons(Facts::of(&job).text(false))
 }
 
-/// A name twice, behind another that ends with its last 8 bits.
+/// A name twice: the one that ends in 8 set bits, and one behind another that ends
+/// with its last 8 bits.
 fn repeated() -> String {
-    let twice = chain([1, 257, 257], [0, 1, 2]);
-    compared(job(&twice, &twice, &[1]))
+    let lists = [[255, 255, 1], [1, 257, 257]].map(|names| chain(names, [0, 1, 2]));
+    let refused = |twice: &Route| compared(job(twice, twice, &[1]));
+    lists.iter().map(refused).collect()
 }
 
 /// The done list follows its route or falls, in the new route too; the new route

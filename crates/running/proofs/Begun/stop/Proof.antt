@@ -7,7 +7,8 @@ use Rattle.running.proofs.Begun.stop.Tie as tie
 
 returns : tie.Need-returns
 returns c =
-    ap (λ (o : Outcome). record { outcome = o; marking = record { tokens = 0 }; start = record { tokens = 0 }; compared = 0 })
+    ap (λ (o : Outcome).
+    record { outcome = o; marking = record { tokens = 0 }; start = record { tokens = 0 }; compared = 0 })
     (c .refuse .ensures)
 
 pub stop-spec : {M : Type 1} → statement M
