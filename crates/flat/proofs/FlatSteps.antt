@@ -1,13 +1,16 @@
 -- Steps as numbers: step i stands at the four numbers from 4 i on. Each law goes down i and the numbers together, four
 -- at a time.
 use mathlib.Core.Path.{_≡_, refl, sym, ap, _∙_}
+use mathlib.Core.Bool.{Bool, true, false}
 use mathlib.Core.List.{List, [], _∷_}
 use Prim.Native.Nat.{ℕ, zero, suc, _+_, _*_, _/_, _%_, _≤_, _<_}
 use native.Mathlib.Omega.{arith}
+use borrow.Author.Tests.{le-leb, lt-leb}
+use lib.Dec.{leb}
 use lib.Seq.{length-take-le}
 use lib.ListN.{length, getD, set, take, drop, replicate, length-take}
 use Rattle.route.specs.Steps.{blank, names}
-use Rattle.flat.specs.Flat.{stepFrom, stepsIn}
+use Rattle.flat.specs.Flat.{stepFrom, firstNumber, stepsIn}
 use Rattle.route.specs.declared.Step.{Step}
 use Rattle.route.proofs.StepList.{names-take, names-drop}
 
@@ -69,7 +72,7 @@ put-past n a b c w x y n′ a′ b′ c′ e =
     let e₃ : x + 3 ≡ suc (suc (suc (suc (y + 3)))) = omega (arith, e) in
     same4 (λ (p q r s : ℕ). set (set (set (set (n ∷ a ∷ b ∷ c ∷ w) p n′) q a′) r b′) s c′) e e₁ e₂ e₃
 
-pub flat-put : (w : List ℕ) (i n a b c : ℕ) → i < length (stepsIn w)
+flat-put : (w : List ℕ) (i n a b c : ℕ) → i < length (stepsIn w)
     → stepsIn (put4 w (4 * i) n a b c) ≡ set (stepsIn w) i (stepFrom n a b c)
 unfolding stepsIn
 flat-put (x ∷ y ∷ z ∷ u ∷ w) zero n a b c h = refl
@@ -124,14 +127,33 @@ flat-zeros (suc k) =
     ap (λ (z : ℕ). stepsIn (replicate z 0)) (four-more k)
     ∙ ap (λ (l : List Step). blank ∷ l) (flat-zeros k)
 
--- a step whose numbers have their width comes back as it was
-pub step-again : (s : Step) → s .name < 4294967296 → s .reads < 4294967296 → s .writes < 4294967296
-    → stepFrom (s .name) (s .ins) (s .outs) (s .reads + s .writes * 4294967296) ≡ s
-step-again s n r w =
-    let a : s .name % 4294967296 ≡ s .name = omega arith in
+-- a step's first number tells its name and its mark
+first-name : (n : ℕ) (t : Bool) → n < 4294967296 → firstNumber n t % 4294967296 ≡ n
+first-name n true h = omega arith
+first-name n false h = omega arith
+
+first-mark : (n : ℕ) (t : Bool) → n < 4294967296 → leb 4294967296 (firstNumber n t) ≡ t
+first-mark n true h = le-leb 4294967296 (n + 4294967296) (omega arith)
+first-mark n false h = lt-leb 4294967296 n (omega arith)
+
+-- a step whose numbers have their width comes back as it was; its first number may be any that tells name and mark
+step-again : (s : Step) (x : ℕ) → x ≡ firstNumber (s .name) (s .cloth) → s .name < 4294967296
+    → s .reads < 4294967296 → s .writes < 4294967296
+    → stepFrom x (s .ins) (s .outs) (s .reads + s .writes * 4294967296) ≡ s
+step-again s x f n r w =
+    let a : x % 4294967296 ≡ s .name = ap (λ (y : ℕ). y % 4294967296) f ∙ first-name (s .name) (s .cloth) n in
+    let m : leb 4294967296 x ≡ s .cloth = ap (λ (y : ℕ). leb 4294967296 y) f ∙ first-mark (s .name) (s .cloth) n in
     let b : (s .reads + s .writes * 4294967296) % 4294967296 ≡ s .reads = omega arith in
     let d : (s .reads + s .writes * 4294967296) / 4294967296 ≡ s .writes = omega arith in
     let e : s .writes % 4294967296 ≡ s .writes = omega arith in
     let c : (s .reads + s .writes * 4294967296) / 4294967296 % 4294967296 ≡ s .writes =
-    ap (λ (x : ℕ). x % 4294967296) d ∙ e in
-    same4 (λ (x y z u : ℕ). record { name = x; ins = y; outs = s .outs; reads = z; writes = u }) a refl b c
+    ap (λ (y : ℕ). y % 4294967296) d ∙ e in
+    λ i. record { name = a i; cloth = m i; ins = s .ins; outs = s .outs; reads = b i; writes = c i }
+
+-- four numbers stored are one step stored
+pub flat-put-step : (w : List ℕ) (i : ℕ) (s : Step) (x : ℕ) → i < length (stepsIn w)
+    → x ≡ firstNumber (s .name) (s .cloth) → s .name < 4294967296 → s .reads < 4294967296 → s .writes < 4294967296
+    → stepsIn (put4 w (4 * i) x (s .ins) (s .outs) (s .reads + s .writes * 4294967296)) ≡ set (stepsIn w) i s
+flat-put-step w i s x h f n r v =
+    flat-put w i x (s .ins) (s .outs) (s .reads + s .writes * 4294967296) h
+    ∙ ap (λ (t : Step). set (stepsIn w) i t) (step-again s x f n r v)

@@ -1,8 +1,11 @@
--- A list of steps as a list of numbers, four for each step: its name, its in-places, its out-places, and its variables,
--- those it reads in the lower 32 bits and those it writes in the upper 32.
+-- A list of steps as a list of numbers, four for each step: its name, in the lower 32 bits, with the cloth mark above
+-- them; its in-places; its out-places; and its variables, those it reads in the lower 32 bits and those it writes in the
+-- upper 32.
 use mathlib.Core.Path.{_≡_}
+use mathlib.Core.Bool.{Bool, cond}
 use mathlib.Core.List.{List, [], _∷_}
-use Prim.Native.Nat.{ℕ, _*_, _/_, _%_, _≤_}
+use Prim.Native.Nat.{ℕ, _+_, _*_, _/_, _%_, _≤_}
+use lib.Dec.{leb}
 use lib.ListN.{length, take}
 use Rattle.route.specs.declared.Step.{Step}
 
@@ -11,11 +14,16 @@ abbrev pub stepFrom : ℕ → ℕ → ℕ → ℕ → Step
 stepFrom n i o v =
     record {
       name = n % 4294967296;
+      cloth = leb 4294967296 n;
       ins = i;
       outs = o;
       reads = v % 4294967296;
       writes = v / 4294967296 % 4294967296;
     }
+
+-- a step's first number
+abbrev pub firstNumber : ℕ → Bool → ℕ
+firstNumber n cloth = cond cloth (n + 4294967296) n
 
 -- the steps that the numbers stand for
 unfoldable pub stepsIn : List ℕ → List Step

@@ -5,7 +5,7 @@ ghost use mathlib.Core.Path.{_≡_};
 ghost use Prim.Native.Nat.{_<_};
 ghost use lib.ListN.{length, getD, set};
 ghost use Rattle.route.specs.Steps.{blank};
-ghost use Rattle.flat.specs.Flat.{stepsIn};
+ghost use Rattle.flat.specs.Flat.{firstNumber, stepsIn};
 
 pub mod laying;
 
@@ -21,9 +21,11 @@ pub fn step_at(steps: &[u64], i: usize) -> Step
     ensures { λ r. ⌜ r ≡ getD (stepsIn (now (steps .entry))) i blank ⌝ }
 {
     let at = 4 * i;
+    let first = steps[at];
     let uses = steps[at + 3];
     Step::of(
-        steps[at],
+        first,
+        4294967296 <= first,
         steps[at + 1],
         steps[at + 2],
         uses,
@@ -38,13 +40,23 @@ pub fn name_at(steps: &[u64], i: usize) -> u32
     (steps[4 * i] % 4294967296) as u32
 }
 
+// A step's first number: its name, and the mark above it.
+fn marked(name: u32, cloth: bool) -> u64
+    ensures { λ r. ⌜ r ≡ firstNumber name cloth ⌝ }
+{
+    if cloth {
+        return name as u64 + 4294967296;
+    }
+    name as u64
+}
+
 pub fn put(steps: &mut [u64], i: usize, s: Step)
     requires { ⌜ i < length (stepsIn (now steps)) ⌝ }
     ensures { λ _. ⌜ stepsIn (now (steps .exit)) ≡ set (stepsIn (now (steps .entry))) i s ⌝ }
     ensures { λ _. ⌜ length (now (steps .exit)) ≡ length (now (steps .entry)) ⌝ }
 {
     let at = 4 * i;
-    steps[at] = s.name as u64;
+    steps[at] = marked(s.name, s.cloth);
     steps[at + 1] = s.ins;
     steps[at + 2] = s.outs;
     steps[at + 3] = s.reads as u64 + s.writes as u64 * 4294967296;

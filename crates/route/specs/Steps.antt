@@ -1,6 +1,6 @@
 -- A route is a count of places and a list of steps. Definitions speak of these, so that a route by value and a lent
 -- list of records share them.
-use mathlib.Core.Bool.{cond}
+use mathlib.Core.Bool.{false, cond}
 use mathlib.Core.List.{List, [], _∷_, _++_, map}
 use mathlib.Core.Option.{Option, none, some}
 use Prim.Native.Nat.{ℕ, _-_}
@@ -10,9 +10,9 @@ use lib.Bits.{bitOr}
 use Rattle.route.specs.declared.Step.{Step}
 use Rattle.route.specs.declared.Route.{Route}
 
--- the record with 0 in every field: what an unused entry holds
+-- the record with 0 in every field and no mark: what an unused entry holds
 abbrev pub blank : Step
-blank = record { name = 0; ins = 0; outs = 0; reads = 0; writes = 0 }
+blank = record { name = 0; cloth = false; ins = 0; outs = 0; reads = 0; writes = 0 }
 
 -- the route with no place and no step
 abbrev pub noRoute : Route

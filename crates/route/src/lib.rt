@@ -2,9 +2,10 @@
 pub mod firing;
 pub mod steps;
 
-// Places and variables are bit masks: place p at bit p.
+// Places and variables are bit masks: place p at bit p. `cloth` is the mark of a step that cuts cloth.
 pub struct Step {
     pub name: u32,
+    pub cloth: bool,
     pub ins: u64,
     pub outs: u64,
     pub reads: u32,

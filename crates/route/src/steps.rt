@@ -6,9 +6,10 @@ ghost use Prim.Native.Nat.{_%_};
 ghost use Rattle.route.specs.Steps.{blank, noRoute};
 
 impl Step {
-    // The record with 0 in every field.
+    // The record with 0 in every field, and no mark.
     pub const BLANK: Step = Step {
         name: 0,
+        cloth: false,
         ins: 0,
         outs: 0,
         reads: 0,
@@ -21,10 +22,11 @@ impl Step {
         Step::BLANK
     }
 
-    // The record of five numbers, the name and the variables by their lowest 32 bits.
-    pub fn of(name: u64, ins: u64, outs: u64, reads: u64, writes: u64) -> Step
+    // The record of a mark and five numbers, the name and the variables by their lowest 32 bits.
+    pub fn of(name: u64, cloth: bool, ins: u64, outs: u64, reads: u64, writes: u64) -> Step
         ensures { λ r. ⌜ r ≡ record {
           name = name % 4294967296;
+          cloth = cloth;
           ins = ins;
           outs = outs;
           reads = reads % 4294967296;
@@ -33,6 +35,7 @@ impl Step {
     {
         Step {
             name: (name % 4294967296) as u32,
+            cloth,
             ins,
             outs,
             reads: (reads % 4294967296) as u32,

@@ -6,7 +6,7 @@ use Rattle.route.specs.declared.Step.{Step}
 use Prim.Native.Nat.{_+_, _*_, _<_}
 use lib.ListN.{length, set}
 use borrow.Author.Needs.{needs}
-use Rattle.flat.proofs.FlatSteps.{flat-room, flat-put, step-again}
+use Rattle.flat.proofs.FlatSteps.{flat-room, flat-put-step}
 use Rattle.flat.proofs.put.Statement.{statement}
 use Rattle.flat.proofs.put.Tie as tie
 
@@ -25,15 +25,7 @@ slice-write-steps-3 c =
     search (needs, h)
 
 returns : tie.Need-returns
-returns c =
-    let a : tie.Start = search in
-    let n : a .args .s .name < 4294967296 = search needs in
-    let r : a .args .s .reads < 4294967296 = search needs in
-    let w : a .args .s .writes < 4294967296 = search needs in (
-      flat-put _ _ _ _ _ _ (a .pre) ∙ ap (λ (s : Step). set (stepsIn (a .args .steps .now)) (a .args .i) s)
-          (step-again _ n r w),
-      search needs,
-    )
+returns c = search (needs, flat-put-step)
 
 pub put-spec : {M : Type 1} → statement M
 put-spec = tie.close (tie.spec (λ c. search (needs, room (search))) (λ c. search (needs, room (search)))
