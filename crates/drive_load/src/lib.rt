@@ -52,6 +52,7 @@ pub fn record(nums: &[u64], at: usize, k: usize) -> Step
 {
     Step::of(
         numbers::at(nums, at, k),
+        numbers::at(nums, at, k + 5) == 1,
         numbers::at(nums, at, k + 1),
         numbers::at(nums, at, k + 2),
         numbers::at(nums, at, k + 3),
@@ -66,7 +67,7 @@ pub fn route(nums: &[u64], at: usize) -> Route {
     let count = length(nums, from, 64);
     let mut i = 0;
     while i < count {
-        steps[i] = record(nums, from, 5 * i + 1);
+        steps[i] = record(nums, from, 6 * i + 1);
         i += 1;
     }
     Route {
@@ -82,7 +83,7 @@ fn records(nums: &[u64], at: usize) -> [Step; 100] {
     let count = length(nums, at, 100);
     let mut i = 0;
     while i < count {
-        list[i] = record(nums, at, 5 * i + 1);
+        list[i] = record(nums, at, 6 * i + 1);
         i += 1;
     }
     list

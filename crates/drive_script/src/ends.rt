@@ -8,7 +8,7 @@ pub const STOP: usize = 18446744073709551615;
 pub const LENT: u64 = 100;
 
 // The most bytes in a lent slice.
-pub const SLICE: u64 = 20000;
+pub const SLICE: u64 = 21000;
 
 // A number, at most so much.
 fn most(nums: &[u64], at: usize, bound: u64) -> usize {
@@ -32,7 +32,8 @@ fn record(nums: &[u64], at: usize) -> usize {
     let ins = any(nums, name);
     let outs = any(nums, ins);
     let reads = word(nums, outs);
-    word(nums, reads)
+    let writes = word(nums, reads);
+    most(nums, writes, 1)
 }
 
 // What a list holds.

@@ -15,7 +15,7 @@ use Rattle.search.specs.Search.{isSome}
 use Rattle.matching.specs.Straight.{sameStep, runsStraight}
 use Rattle.matching.specs.Fit.{keptOf}
 
--- 11: not in the new route; 12: reads or writes differ; at its done line
+-- 11: not in the new route; 12: reads, writes or the mark differ; at its done line
 unfoldable pub keptRow : List Step → ℕ → Step → Outcome
 keptRow new line s = first (unless (isSome (lookup (s .name) new)) 11 line ∷ unless (sameStep new s) 12 line ∷ [])
 

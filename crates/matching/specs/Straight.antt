@@ -1,7 +1,7 @@
 -- Straight replay: the whole done list in its own order on the new route. `l` is the list of the steps done, `new` the
 -- new route's steps, `from` the new start.
 use mathlib.Core.Path.{_≡_}
-use mathlib.Core.Bool.{Bool, true, false, _&&_}
+use mathlib.Core.Bool.{Bool, true, false, not, cond, _&&_}
 use mathlib.Core.List.{List, [], _∷_, map}
 use mathlib.Core.Option.{Option, none, some}
 use Prim.Native.Nat.{ℕ}
@@ -13,11 +13,15 @@ use Rattle.route.specs.declared.Step.{Step}
 use Rattle.precedence.specs.Order.{inTurn}
 use Rattle.search.specs.Search.{isSome}
 
+-- both are marked, or neither
+unfoldable pub sameMark : Bool → Bool → Bool
+sameMark a b = cond a b (not b)
+
 unfoldable pub sameData : Step → Option Step → Bool
 sameData s none = false
-sameData s (some t) = eqb (t .reads) (s .reads) && eqb (t .writes) (s .writes)
+sameData s (some t) = eqb (t .reads) (s .reads) && (eqb (t .writes) (s .writes) && sameMark (t .cloth) (s .cloth))
 
--- the step's name "is in the new route with the same reads and writes"
+-- the step's name "is in the new route with the same reads and writes"; 02: "compare this mark too"
 unfoldable pub sameStep : List Step → Step → Bool
 sameStep new s = sameData s (lookup (s .name) new)
 
@@ -35,8 +39,8 @@ fireAll new m (s ∷ l) = ifFires m (lookup (s .name) new) none none (λ t m′.
 unfoldable pub stepsOn : List Step → List ℕ → List Step
 stepsOn l o = map (λ (i : ℕ). getD l i blank) o
 
--- where there is a straight list: "each name is in the new route with the same reads and writes, and all fire from the
--- new start"
+-- where there is a straight list: "each name is in the new route with the same reads and writes", and 02's mark, "and
+-- all fire from the new start"
 unfoldable pub runsStraight : ℕ → List Step → List Step → Bool
 runsStraight from new l = allOf (sameStep new) l && isSome (fireAll new from l)
 

@@ -1,4 +1,4 @@
-// Which occurrences the new route has with the same reads and writes.
+// Which occurrences the new route has with the same reads, writes and mark.
 use route::Step;
 ghost use mathlib.Core.Path.{_≡_};
 ghost use mathlib.Core.List.{List};
@@ -9,7 +9,7 @@ ghost use Rattle.flat.specs.Flat.{stepsIn};
 ghost use Rattle.matching.specs.Straight.{sameData};
 ghost use Rattle.matching.specs.inner.Matches.{MatchesOf, present, sameMask};
 
-// The match `t` is there, and reads and writes what `s` does.
+// The match `t` is there, reads and writes what `s` does, and has its mark.
 fn same_data(s: Step, t: Step) -> bool
     ensures { λ r. ⌜ r ≡ sameData s (present t) ⌝ }
 {
@@ -19,7 +19,10 @@ fn same_data(s: Step, t: Step) -> bool
     if t.reads != s.reads {
         return false;
     }
-    t.writes == s.writes
+    if t.writes != s.writes {
+        return false;
+    }
+    if t.cloth { s.cloth } else { !s.cloth }
 }
 
 // By one pass over both lists.

@@ -13,9 +13,14 @@ use Rattle.route.specs.declared.Step.{Step}
 unfoldable pub clash : Step → Step → Bool
 clash a b = meets (a .writes) (bitOr (b .reads) (b .writes)) || meets (b .writes) (bitOr (a .reads) (a .writes))
 
+-- two occurrences that keep their order: they clash, or both cut cloth
+unfoldable pub tied : Step → Step → Bool
+tied a b = clash a b || (a .cloth && b .cloth)
+
 -- "Of two occurrences, the later comes after the earlier when one writes a variable that the other reads or writes."
+-- 02: "of two cloth occurrences the later comes after the earlier"
 unfoldable pub comesAfter : List Step → ℕ → ℕ → Bool
-comesAfter l i j = ltb j i && clash (getD l i blank) (getD l j blank)
+comesAfter l i j = ltb j i && tied (getD l i blank) (getD l j blank)
 
 -- a row of the table: all occurrences that the one at i comes after
 unfoldable pub row : List Step → ℕ → ℕ

@@ -42,7 +42,8 @@ fn after_reads(writers: &[u64; 32], readers: &mut [u64; 32], vars: u32, own: u64
     wrote
 }
 
-// An occurrence's own write comes before its read here, so that its own bit is taken off its row.
+// An occurrence's own write comes before its read here, so that its own bit is taken off its row. `cut` holds the
+// occurrences so far that cut cloth.
 pub fn table_of(occurrences: &[u64]) -> [u64; 64]
     requires { ⌜ length (stepsIn (now occurrences)) ≤ 64 ⌝ }
     ensures { λ r. ⌜ r ≡ table (stepsIn (now (occurrences .entry))) ⌝ }
@@ -50,6 +51,7 @@ pub fn table_of(occurrences: &[u64]) -> [u64; 64]
     let mut rows = [0u64; 64];
     let mut writers = [0u64; 32];
     let mut readers = [0u64; 32];
+    let mut cut = 0u64;
     let n = flat::count(occurrences);
     let mut i = 0;
     while i < n {
@@ -57,7 +59,9 @@ pub fn table_of(occurrences: &[u64]) -> [u64; 64]
         let own = mask::bit64(i);
         let users = after_writes(&readers, &mut writers, s.writes, own);
         let sources = after_reads(&writers, &mut readers, s.reads, own);
-        rows[i] = (users | sources) & (own - 1);
+        let cuts = after_cut(s.cloth, cut);
+        cut |= own_cut(s.cloth, own);
+        rows[i] = (users | sources | cuts) & (own - 1);
         i += 1;
     }
     rows

@@ -39,7 +39,7 @@ bv = St′.lowered blank
 
 pub is-blank : Is S blank (bv ∷ [])
 is-blank = LL.owes St.the-type St′.the-laws blank
-    ((refl, lit< tt), ((refl, lit< tt), ((refl, lit< tt), ((refl, lit< tt), ((refl, lit< tt), tt)))))
+    ((refl, lit< tt), (refl, ((refl, lit< tt), ((refl, lit< tt), ((refl, lit< tt), ((refl, lit< tt), tt))))))
 
 -- the offset of the record at i in a lent list of n fits a word
 pub offset-fits : (i n : ℕ) → i < n → n * mem S .size < 2 ^ 63 → i * 32 < 2 ^ 64

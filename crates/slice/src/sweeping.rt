@@ -15,7 +15,7 @@ pub fn keep(occurrences: &[u64], vars: u32) -> u64
     while 0 < i {
         i -= 1;
         let s = flat::step_at(occurrences, i);
-        if mask::meets32(s.writes, live) {
+        if s.cloth || mask::meets32(s.writes, live) {
             live = mask::without32(live, s.writes) | s.reads;
             kept |= mask::bit64(i);
         }

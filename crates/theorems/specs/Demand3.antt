@@ -67,14 +67,16 @@ InTurn steps name m (i ∷ o) [] = ⊥
 InTurn steps name m (i ∷ o) (m′ ∷ ms) = FiresTo m (lookup (name i) steps) m′ × InTurn steps name m′ o ms
 
 -- "replaying any accepted order on the new route from its start leaves in every variable of the new route the value, or
--- the blank, that the whole job left on the old route". Both replays come to the end of their lists, and that of the
--- order ends on the marking that try gives
+-- the blank, that the whole job left on the old route". 02: "What must be equal at the end of a move now includes the
+-- sequence of cloth occurrences." Both replays come to the end of their lists, and that of the order ends on the marking
+-- that try gives
 pub record Carried {T : Type 0} (f : Work T) (j : Job) (o : List ℕ) : Type 0 where
   pub whole : moved f j o .whole ≡ true
   pub turns : InTurn (j .new) (nameAt j) (newStart j) (positions o) (moved f j o .passed)
   pub marking : moved f j o .marking ≡ tried j o .marking .tokens
   pub job : wholeJob f j .whole ≡ true
   pub values : (v : ℕ) → has (variables (j .new)) v ≡ true → moved f j o .store v ≡ wholeJob f j .store v
+  pub cut : moved f j o .cut ≡ wholeJob f j .cut
 
 -- "When judge answers 0, 0, try accepts the order that judge gives, and both give the marking at the end of its replay
 -- on the new route."

@@ -7,7 +7,7 @@ use Prim.Native.Nat.{ℕ, suc, _+_, _<_}
 use lib.ListN.{length, getD, take}
 use Rattle.mask.specs.Mask.{has, count}
 use Rattle.job.specs.Job.{Job, newStart}
-use Rattle.slice.specs.Slice.{Kept, LastWriter, variables, writesAt}
+use Rattle.slice.specs.Slice.{Item, Kept, LastWriter, variables, writesAt}
 use Rattle.precedence.specs.Precedence.{comesAfter}
 use Rattle.matching.specs.Straight.{fireAll, stepsOn, runsStraight}
 use Rattle.answering.specs.declared.Judged.{Judged}
@@ -19,7 +19,8 @@ pub record Shows (j : Job) (a : Judged) : Type 0 where
   -- "After a straight answer all count as kept."
   pub all : runsStraight (newStart j) (j .new) (stepsDone j) ≡ true
       → (i : ℕ) → (has (a .kept) i ≡ true) ↔ (i < length (j .done))
-  -- else those of the slice: "the last writer of each new-route variable, and all that these need, over and over"
+  -- else those of the slice: "the last writer of each new-route variable, and all that these need, over and over", and
+  -- "every cloth occurrence of the old route, with all it needs"
   pub kept : runsStraight (newStart j) (j .new) (stepsDone j) ≡ false
       → (i : ℕ) → (has (a .kept) i ≡ true) ↔ Kept (stepsDone j) (variables (j .new)) i
   -- "The `moved` line counts kept and dropped occurrences"
@@ -36,8 +37,9 @@ pub record Shows (j : Job) (a : Judged) : Type 0 where
   -- "a `value` line a new-route variable and its last writer"
   pub writer : (v n : ℕ) → v < 32
       → (getD (a .writers) v 0 ≡ suc n)
-      ↔ (has (variables (j .new)) v ≡ true) × LastWriter (stepsDone j) (length (j .done)) v n
+      ↔ (has (variables (j .new)) v ≡ true) × LastWriter (stepsDone j) (length (j .done)) (Item.variable v) n
   -- "a blank variable has no line": it is none of the new route, or no occurrence writes it
   pub blank : (v : ℕ) → v < 32
       → (getD (a .writers) v 0 ≡ 0)
-      ↔ (has (variables (j .new)) v ≡ false) ⊎ ((i : ℕ) → i < length (j .done) → writesAt (stepsDone j) i v ≡ false)
+      ↔ (has (variables (j .new)) v ≡ false) ⊎ ((i : ℕ) → i < length (j .done)
+      → writesAt (stepsDone j) i (Item.variable v) ≡ false)

@@ -30,29 +30,40 @@ readings m σ = map σ (members 32 m)
 unfoldable pub perform : {T : Type 0} → Work T → ℕ → Step → Store T → Store T
 perform f i s σ v = cond (has (s .writes) v) (some (f i v (readings (s .reads) σ))) (σ v)
 
--- where a replay ends: its marking, its store, the markings that it passed, one after each entry, and whether it came
--- to the end of the list
+-- where a replay ends: its marking, its store, the markings that it passed, one after each entry, "the sequence of
+-- cloth occurrences" (02), those whose step on the route is marked, in turn, and whether it came to the end of the list
 pub record End (T : Type 0) : Type 0 where
   pub marking : ℕ
   pub store : Store T
   pub passed : List ℕ
+  pub cut : List ℕ
   pub whole : Bool
 
--- an entry that fired, and what follows it
-abbrev pub after : {T : Type 0} → ℕ → End T → End T
-after m e = record { marking = e .marking; store = e .store; passed = m ∷ e .passed; whole = e .whole }
+-- the occurrence i, where its step cuts cloth, before those that follow
+unfoldable pub cutThen : ℕ → Step → List ℕ → List ℕ
+cutThen i s c = cond (s .cloth) (i ∷ c) c
+
+-- an entry i that fired as the step s, to the marking m, and what follows it
+abbrev pub after : {T : Type 0} → ℕ → Step → ℕ → End T → End T
+after i s m e = record {
+  marking = e .marking;
+  store = e .store;
+  passed = m ∷ e .passed;
+  cut = cutThen i s (e .cut);
+  whole = e .whole;
+}
 
 -- a replay that ends before the end of its list
 abbrev pub ended : {T : Type 0} → ℕ → Store T → End T
-ended m σ = record { marking = m; store = σ; passed = []; whole = false }
+ended m σ = record { marking = m; store = σ; passed = []; cut = []; whole = false }
 
 -- "takes the occurrences in turn. For each, the route's step of its name fires. Where the route has no such step, or it
 -- can't fire, the replay ends there." `name` gives an occurrence's name
 unfoldable pub replayFrom : {T : Type 0} → Work T → List Step → (ℕ → ℕ) → ℕ → Store T → List ℕ → End T
-replayFrom f steps name m σ [] = record { marking = m; store = σ; passed = []; whole = true }
+replayFrom f steps name m σ [] = record { marking = m; store = σ; passed = []; cut = []; whole = true }
 replayFrom f steps name m σ (i ∷ o) =
     ifFires m (lookup (name i) steps) (ended m σ) (ended m σ)
-    (λ s m′. after m′ (replayFrom f steps name m′ (perform f i s σ) o))
+    (λ s m′. after i s m′ (replayFrom f steps name m′ (perform f i s σ) o))
 
 -- "A replay of a list of occurrences on a route begins at the route's start with all 32 variables blank"; `from` is
 -- that start

@@ -123,7 +123,7 @@ module _ {M : Type 1} (𝓤 : URA M) (H : Heap 𝓤) (A : Atoms 𝓤) (W : Given
       (λ beyond. skips ! $ exec ! (𝓣 .C) (𝓣 .Λ) (envOf 𝓤 H (function .locals) l) body.t-4
       (atRet (envOf 𝓤 H (function .locals) l) Post) $
       sets ! (agg ! (and-then ! (lit ! tt) (and-then ! (lit ! tt) (and-then ! (lit ! tt) (and-then ! (lit ! tt)
-      (and-then ! (lit ! tt) (no-more !))))))) 18 refl (typed 𝓤 H A W blank bv is-blank) $
+      (and-then ! (lit ! tt) (and-then ! (lit ! tt) (no-more !)))))))) 18 refl (typed 𝓤 H A W blank bv is-blank) $
       returns ! (look ! 18 refl) $ forget ! 10 refl $ forget ! 12 refl $ forget ! 14 refl $ forget ! 16 refl $
       forget ! 18 refl $
       move ! (18 ∷ 19 ∷ 16 ∷ 17 ∷ 14 ∷ 15 ∷ 12 ∷ 13 ∷ 10 ∷ 11 ∷ 8 ∷ 9 ∷ 6 ∷ 7 ∷ 4 ∷ 5 ∷ []) $ all-rooms ! _ $
