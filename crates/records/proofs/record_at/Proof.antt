@@ -20,8 +20,8 @@ use contract.Running.{givenOf, tables, tablesOf}
 use types.Kit.{Given, ‵, _⊛_, ⋆, atRet, _$_, _∵_, !, qed, by, move, keep, drop, split, join, rewrite, fsplit, fjoin}
 use types.Kit.{suffices, frame, done}
 use types.Part.{whole, sub, look-in, agg}
-use types.Run.{look, look-raw, init, forget, stop, hop, fld, from, load, lit, no-more, and-then, of-opd, bin, first}
-use types.Run.{skips, branches, returns-within, returns, enter, params1, pass1, pass0, exec}
+use types.Run.{look, look-raw, init, forget, stop, hop, fld, from, load, lit, false-lit, no-more, and-then, of-opd, bin}
+use types.Run.{first, skips, branches, returns-within, returns, enter, params1, pass1, pass0, exec}
 use denote.RattleType.{owns}
 use denote.Laws.{Is, shows}
 use denote.Memory.{pointee}
@@ -122,7 +122,7 @@ module _ {M : Type 1} (𝓤 : URA M) (H : Heap 𝓤) (A : Atoms 𝓤) (W : Given
       keep ! (0 ∷ []) $ by ! (exits (getD ys i blank) _ is refl))))
       (λ beyond. skips ! $ exec ! (𝓣 .C) (𝓣 .Λ) (envOf 𝓤 H (function .locals) l) body.t-4
       (atRet (envOf 𝓤 H (function .locals) l) Post) $
-      sets ! (agg ! (and-then ! (lit ! tt) (and-then ! (lit ! tt) (and-then ! (lit ! tt) (and-then ! (lit ! tt)
+      sets ! (agg ! (and-then ! (lit ! tt) (and-then ! (false-lit !) (and-then ! (lit ! tt) (and-then ! (lit ! tt)
       (and-then ! (lit ! tt) (and-then ! (lit ! tt) (no-more !)))))))) 18 refl (typed 𝓤 H A W blank bv is-blank) $
       returns ! (look ! 18 refl) $ forget ! 10 refl $ forget ! 12 refl $ forget ! 14 refl $ forget ! 16 refl $
       forget ! 18 refl $
