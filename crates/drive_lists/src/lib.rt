@@ -72,7 +72,7 @@ fn with(op: u64, x: Lent, s: &mut [u8], o: &mut [u8; 65536], n: usize) -> usize
 }
 
 pub fn answer(op: u64, nums: &[u64], at: usize, o: &mut [u8; 65536], n: usize) -> usize {
-    let mut s = [0u8; 20000];
+    let mut s = [0u8; 21000];
     let k = drive_load::given(nums, ends::lists(nums, at), op < 14, op != 14, &mut s);
     with(op, drive_load::lists(nums, at), &mut s[..k], o, n)
 }

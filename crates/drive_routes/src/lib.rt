@@ -59,7 +59,7 @@ fn with(op: u64, f: Routes, s: &mut [u8], o: &mut [u8; 65536], n: usize) -> usiz
 }
 
 pub fn answer(op: u64, nums: &[u64], at: usize, o: &mut [u8; 65536], n: usize) -> usize {
-    let mut s = [0u8; 20000];
+    let mut s = [0u8; 21000];
     let k = drive_load::given(nums, ends::facts(nums, at), op < 4, op != 4, &mut s);
     with(op, drive_load::facts(nums, at), &mut s[..k], o, n)
 }

@@ -16,22 +16,22 @@ fn print_into(
 }
 
 fn print(sheet: &[u8], nums: &[u64], at: usize, o: &mut [u8; 65536], n: usize) -> usize {
-    let mut work = [0u8; 20000];
-    let mut out = [0u8; 20000];
+    let mut work = [0u8; 21000];
+    let mut out = [0u8; 21000];
     let b = drive_load::bytes(nums, at, true, &mut work);
     let c = drive_load::bytes(nums, ends::fill(nums, at), true, &mut out);
     print_into(sheet, &mut work[..b], &mut out[..c], o, n)
 }
 
 fn try_sheet(sheet: &[u8], nums: &[u64], at: usize, o: &mut [u8; 65536], n: usize) -> usize {
-    let mut order = [0u8; 20000];
+    let mut order = [0u8; 21000];
     let b = drive_load::bytes(nums, at, false, &mut order);
     let r = ops::tries::try_sheet(sheet, &order[..b]);
     drive_answers::marked(o, n, r.number, r.second, r.marking)
 }
 
 fn seven() -> Step {
-    Step::of(7, 7, 7, 7, 7)
+    Step::of(7, true, 7, 7, 7, 7)
 }
 
 // What was read, and all three lists, whose numbers were all 7.
@@ -77,7 +77,7 @@ fn with(op: u64, sheet: &[u8], nums: &[u64], at: usize, o: &mut [u8; 65536], n: 
 }
 
 pub fn answer(op: u64, nums: &[u64], at: usize, o: &mut [u8; 65536], n: usize) -> usize {
-    let mut sheet = [0u8; 20000];
+    let mut sheet = [0u8; 21000];
     let k = drive_load::bytes(nums, at, false, &mut sheet);
     with(op, &sheet[..k], nums, ends::bytes(nums, at), o, n)
 }

@@ -106,7 +106,7 @@ fn judged(
 }
 
 fn judge(s: Shelf, nums: &[u64], at: usize, o: &mut [u8; 65536], n: usize) -> Turn {
-    let mut work = [0u8; 20000];
+    let mut work = [0u8; 21000];
     let from = std::num::wrapping_add_usize(at, 2);
     let k = drive_load::bytes(nums, ends::names(nums, from), true, &mut work);
     Turn {

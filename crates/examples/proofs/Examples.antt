@@ -11,10 +11,10 @@ use Rattle.job.specs.Lines.{placesFit, stepFits, variableList, placeList, lists
 use Rattle.job.specs.Lines.{doneRow, doneRows, lineRows, checked}
 use Rattle.running.specs.Run.{runFrom, ran, performed}
 use Rattle.precedence.specs.Order.{inTurn}
-use Rattle.precedence.specs.Precedence.{clash, comesAfter, row}
-use Rattle.slice.specs.Slice.{variables, sweepStep, sweep, keptMask}
+use Rattle.precedence.specs.Precedence.{clash, tied, comesAfter, row}
+use Rattle.slice.specs.Slice.{variables, keeps, sweepStep, sweep, keptMask}
 use Rattle.search.specs.Search.{isSome, orElse, onwards, tryEach, search}
-use Rattle.matching.specs.Straight.{sameData, sameStep, allOf, fireAll, stepsOn, runsStraight}
+use Rattle.matching.specs.Straight.{sameMark, sameData, sameStep, allOf, fireAll, stepsOn, runsStraight}
 use Rattle.matching.specs.Fit.{keptOf}
 use Rattle.matching.specs.KeptRows.{keptRow, keptLines, keptRows}
 use Rattle.candidates.specs.Placing.{before, placeNext}
@@ -35,6 +35,7 @@ use Rattle.listing.specs.Listing.{movedText, listing}
 use Rattle.ops.specs.Print.{sheetAnswer, listingOf}
 use Rattle.examples.specs.Table.{codes, bytes, AllPrint, table}
 use Rattle.examples.specs.LongNames.{longNames}
+use Rattle.examples.specs.Cuts.{cuts}
 
 -- The definitions on the way, a name for each stage: to open the name opens all on its line.
 
@@ -62,11 +63,11 @@ unfolding nameFits placesFit stepFits variableList placeList listsFit among step
 the-run = tt
 
 unfoldable the-slice : Unit {0}
-unfolding inTurn clash comesAfter row performed variables sweepStep sweep keptMask keptOf
+unfolding inTurn clash tied comesAfter row performed variables keeps sweepStep sweep keptMask keptOf
 the-slice = tt
 
 unfoldable the-judge : Unit {0}
-unfolding isSome sameData sameStep allOf fireAll stepsOn runsStraight keptRow keptLines keptRows orElse onwards tryEach
+unfolding isSome sameMark sameData sameStep allOf fireAll stepsOn runsStraight keptRow keptLines keptRows orElse onwards tryEach
     search before placeNext padded lastWriter afterOf writerOf answer firstOf firstFit judgeFound judgeRows judged
 the-judge = tt
 
@@ -82,3 +83,7 @@ examples = (refl, (refl, (refl, (refl, (refl, (refl, (refl, (refl, (refl, (refl,
 pub long-names : AllPrint longNames
 unfolding codes bytes the-layout the-facts the-masks the-routes the-run the-slice the-judge the-listing
 long-names = (refl, (refl, (refl, (refl, (refl, (refl, (refl, (refl, (refl, (refl, (refl, tt)))))))))))
+
+pub cuts-print : AllPrint cuts
+unfolding codes bytes the-layout the-facts the-masks the-routes the-run the-slice the-judge the-listing
+cuts-print = (refl, (refl, (refl, (refl, (refl, (refl, (refl, (refl, (refl, tt)))))))))

@@ -1,3 +1,4 @@
--- The tables of 01's examples and of 02's long names.
+-- The tables of 01's examples, of 02's long names and of its cloth marks.
 pub mod Table
 pub mod LongNames
+pub mod Cuts

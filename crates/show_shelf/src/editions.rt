@@ -1,17 +1,36 @@
 // The loft's route as it was redrawn in one season. Each step leads from the place of the step before it to the next.
 use route::Route;
+use route::Step;
 
 // One step more. Variables are bits: 0 the cloth, 1 how far it shrinks, 2 the plotter offset, 3 the panels, 4 the
-// corner patches, 5 the seams, 6 the corners, 7 the weight.
-fn then(r: Route, name: u32, reads: u32, writes: u32) -> Route {
+// plies of the corners, 5 the seams, 6 the corners, 7 the weight.
+fn with(r: Route, s: Step) -> Route {
     let mut longer = r;
     let n = r.len;
     if n < 63 {
-        longer.steps[n] = samples::step(name, mask::bit64(n), mask::bit64(n + 1), reads, writes);
+        longer.steps[n] = s;
         longer.len = n + 1;
         longer.places = n as u64 + 2;
     }
     longer
+}
+
+// From the route's last place to the next.
+fn then(r: Route, name: u32, reads: u32, writes: u32) -> Route {
+    let n = counts::least(r.len, 62);
+    with(
+        r,
+        samples::step(name, mask::bit64(n), mask::bit64(n + 1), reads, writes),
+    )
+}
+
+// The same, and it cuts cloth.
+fn cut(r: Route, name: u32, reads: u32, writes: u32) -> Route {
+    let n = counts::least(r.len, 62);
+    with(
+        r,
+        samples::cut(name, mask::bit64(n), mask::bit64(n + 1), reads, writes),
+    )
 }
 
 fn choose_cloth(r: Route) -> Route {
@@ -36,11 +55,16 @@ fn work_out_offset_by_weight(r: Route) -> Route {
 }
 
 fn cut_panels(r: Route) -> Route {
-    then(r, 50, 5, 8)
+    cut(r, 50, 5, 8)
 }
 
+fn work_out_plies(r: Route) -> Route {
+    then(r, 55, 3, 16)
+}
+
+// It writes nothing.
 fn cut_patches(r: Route) -> Route {
-    then(r, 60, 3, 16)
+    cut(r, 60, 17, 0)
 }
 
 fn sew_and_set(r: Route) -> Route {
@@ -51,16 +75,22 @@ fn begin() -> Route {
     test_shrinking(choose_cloth(Route::empty()))
 }
 
-pub fn first() -> Route {
-    sew_and_set(cut_patches(cut_panels(work_out_offset(weigh_cloth(begin())))))
+fn cut_both(r: Route) -> Route {
+    cut_patches(cut_panels(r))
 }
 
-// The patches are cut right after the shrink test, and no cloth is weighed.
+pub fn first() -> Route {
+    let offset = work_out_offset(weigh_cloth(begin()));
+    sew_and_set(cut_patches(work_out_plies(cut_panels(offset))))
+}
+
+// The plies are worked out right after the shrink test, and no cloth is weighed.
 pub fn second() -> Route {
-    sew_and_set(cut_panels(work_out_offset(cut_patches(begin()))))
+    sew_and_set(cut_both(work_out_offset(work_out_plies(begin()))))
 }
 
 // The cloth is weighed again, and the offset takes its weight into account.
 pub fn third() -> Route {
-    sew_and_set(cut_panels(work_out_offset_by_weight(weigh_cloth(cut_patches(begin())))))
+    let weighed = weigh_cloth(work_out_plies(begin()));
+    sew_and_set(cut_both(work_out_offset_by_weight(weighed)))
 }
