@@ -1,19 +1,21 @@
 -- What is written is read: the text of lines leads from point to point, and gathers those lines.
 -- Assumes nothing.
 use mathlib.Core.Path.{_≡_, refl, ap, _∙_}
+use mathlib.Core.Bool.{Bool, true, false, cond}
 use mathlib.Core.List.{List, [], _∷_, reverseAux, reverse-reverse}
 use Prim.Native.Nat.{ℕ}
 use Rattle.version.specs.Limits.{Limits}
 use Rattle.version.specs.declared.Version.{Version}
 use Rattle.layout.specs.Words.{spelling}
-use Rattle.layout.specs.Text.{Form, Lines, number, entries, listed, stepLine, wordLine, jobLine, stepLines}
-use Rattle.layout.specs.Text.{doneLines, jobText, text, Short, Shorts, ShortForm, ShortForms, ShortLines}
+use Rattle.layout.specs.Text.{Form, Lines, number, entries, listed, marked, stepLine, wordLine, jobLine}
+use Rattle.layout.specs.Text.{stepLines, doneLines, jobText, text, Short, Shorts, ShortForm, ShortForms}
+use Rattle.layout.specs.Text.{ShortLines}
 use Rattle.layout.specs.Points.{digit, alive, expect, chosen, spelt, inList, pastWord, ended, more, closed, next}
-use Rattle.layout.specs.Parse.{Line, Parsed, noLine, noLines, withNum, stored, took, putStep}
+use Rattle.layout.specs.Parse.{Line, Parsed, noLine, noLines, withNum, stored, took, formOf, putStep}
 use Rattle.layout.specs.inner.Entries.{withEntries}
 use Rattle.layout.specs.Parse.{putLine, keep, atEnd, run, parse}
 use Rattle.layout.specs.declared.Word.{Word}
-use Rattle.layout.specs.declared.Word.the-variants.{Old, New, Done, Step, In, Out, Read, Write}
+use Rattle.layout.specs.declared.Word.the-variants.{Old, New, Done, Step, In, Out, Read, Write, Cloth}
 use Rattle.layout.specs.declared.Part.{Part}
 use Rattle.layout.specs.declared.Part.the-variants.{OldRoute, NewRoute, JobPart}
 use Rattle.layout.specs.declared.Point.the-variants.{Start, Open, Past, Digit, Digits, Closed}
@@ -72,11 +74,18 @@ module _ (v : Version) (limits : Limits v) where
 
   -- ---- the lines
 
+  -- past the last list, to the line's end
+  marked-run : (p : Part) (m : Bool) → (m ≡ true → v .cloth ≡ true) → (t : Lines) (c : Line) (s : List ℕ)
+      → run v (Closed Write p) c t (marked m (41 ∷ 10 ∷ s)) ≡ run v (Open p) noLine (putStep p (formOf m c) t) s
+  unfolding marked run next closed alive expect took keep putLine spelt spelling pastWord
+  marked-run p false h t c s = refl
+  marked-run p true h t c s = rw (h refl)
+
   module _ (p : Part) (t : Lines) (f : Form) (short : ShortForm v f) where
     -- from the step's name to the line's end
     step-run : (s : List ℕ) → run v (Digit Step p) noLine t
         (number (f .name) (listed In (f .ins) (listed Out (f .outs)
-        (listed Read (f .reads) (listed Write (f .writes) (41 ∷ 10 ∷ s)))))) ≡ run v (Open p) noLine (putStep p f t) s
+        (listed Read (f .reads) (listed Write (f .writes) (marked (f .cloth) (41 ∷ 10 ∷ s))))))) ≡ run v (Open p) noLine (putStep p f t) s
     unfolding listed run next pastWord ended more closed spelt spelling alive digit expect took stored keep putLine
     step-run s =
         number-run v limits Step p noLine t (f .name) 32 _ (short .name) refl
@@ -84,6 +93,7 @@ module _ (v : Version) (limits : Limits v) where
         ∙ outs-run p t (f .outs) _ _ (short .outs)
         ∙ reads-run p t (f .reads) _ _ (short .reads)
         ∙ writes-run p t (f .writes) _ _ (short .writes)
+        ∙ marked-run p (f .cloth) (short .cloth) t _ s
         ∙ ap (λ (g : Form). run v (Open p) noLine (putStep p g t) s) (formOf-lineWith f)
 
   pub old-step : (t : Lines) (f : Form) (s : List ℕ) → ShortForm v f

@@ -15,14 +15,14 @@ use Rattle.layout.specs.Points.{digit, alive, expect, chosen, spelt, inL
 use Rattle.layout.specs.Points.{next}
 use Rattle.layout.specs.Parse.{Line, Parsed, took, putLine, keep, atEnd, run}
 use Rattle.layout.specs.declared.Word.{Word}
-use Rattle.layout.specs.declared.Word.the-variants.{Old, New, Job, Done, Step, In, Out, Read, Write}
+use Rattle.layout.specs.declared.Word.the-variants.{Old, New, Job, Done, Step, In, Out, Read, Write, Cloth}
 use Rattle.layout.specs.declared.Part.{Part}
 use Rattle.layout.specs.declared.Part.the-variants.{OldRoute, NewRoute, JobPart}
 use Rattle.layout.specs.declared.Point.{Point}
 use Rattle.layout.specs.declared.Point.the-variants.{Start, Open, Choice, Letters, Past, Digit, Digits, Gap}
 use Rattle.layout.specs.declared.Point.the-variants.{Closed, Lf, Stuck}
 use Rattle.layout.proofs.Numbers.{run-on}
-use Rattle.layout.proofs.PrefixStep.{never, expected, either}
+use Rattle.layout.proofs.PrefixStep.{never, expected, either, either-where}
 
 -- ---- the points that reading reaches
 
@@ -36,17 +36,20 @@ numbered In = true
 numbered Out = true
 numbered Read = true
 numbered Write = true
+numbered Cloth = false
 
-unfoldable pub isList : Word → Bool
-isList Old = false
-isList New = false
-isList Job = false
-isList Done = false
-isList Step = false
-isList In = true
-isList Out = true
-isList Read = true
-isList Write = true
+-- a list, or the mark: what has a closing bracket of its own
+unfoldable pub bracketed : Word → Bool
+bracketed Old = false
+bracketed New = false
+bracketed Job = false
+bracketed Done = false
+bracketed Step = false
+bracketed In = true
+bracketed Out = true
+bracketed Read = true
+bracketed Write = true
+bracketed Cloth = true
 
 unfoldable pub good : Point → Bool
 good Start = true
@@ -57,7 +60,7 @@ good (Past w p) = true
 good (Digit w p) = numbered w
 good (Digits w p k) = numbered w
 good (Gap w p) = true
-good (Closed w p) = isList w
+good (Closed w p) = bracketed w
 good (Lf w p) = true
 good Stuck = false
 
@@ -76,15 +79,16 @@ word-some In = refl
 word-some Out = refl
 word-some Read = refl
 word-some Write = refl
+word-some Cloth = refl
 
-list-good : (w : Word) (p : Part) (b : ℕ) → numbered w ≡ true → isList w ≡ true → alive (inList w p b) ≡ true
+list-good : (w : Word) (p : Part) (b : ℕ) → numbered w ≡ true → bracketed w ≡ true → alive (inList w p b) ≡ true
     → good (inList w p b) ≡ true
 unfolding inList good
 list-good w p b n l = either Good b 32 (Digit w p) (expect b 41 (Closed w p)) n
     (λ far. expected Good b 41 (Closed w p) l)
 
 past-good : (w : Word) (p : Part) (b : ℕ) → alive (pastWord w p b) ≡ true → good (pastWord w p b) ≡ true
-unfolding pastWord good numbered isList
+unfolding pastWord good numbered bracketed
 past-good Old p b = expected Good b 32 (Digit Old p) refl
 past-good New p b = expected Good b 32 (Digit New p) refl
 past-good Job p b = expected Good b 41 (Lf Job p) refl
@@ -94,9 +98,10 @@ past-good In p b = list-good In p b refl refl
 past-good Out p b = list-good Out p b refl refl
 past-good Read p b = list-good Read p b refl refl
 past-good Write p b = list-good Write p b refl refl
+past-good Cloth p b = expected Good b 41 (Closed Cloth p) refl
 
 ended-good : (w : Word) (p : Part) (b : ℕ) → alive (ended w p b) ≡ true → good (ended w p b) ≡ true
-unfolding ended good numbered isList
+unfolding ended good numbered bracketed
 ended-good Old p b = expected Good b 41 (Lf Old p) refl
 ended-good New p b = expected Good b 41 (Lf New p) refl
 ended-good Job p b = λ l. absurd (never l)
@@ -106,18 +111,22 @@ ended-good In p b = list-good In p b refl refl
 ended-good Out p b = list-good Out p b refl refl
 ended-good Read p b = list-good Read p b refl refl
 ended-good Write p b = list-good Write p b refl refl
+ended-good Cloth p b = λ l. absurd (never l)
 
-closed-good : (w : Word) (p : Part) (b : ℕ) → alive (closed w p b) ≡ true → good (closed w p b) ≡ true
+closed-good : (v : Version) (w : Word) (p : Part) (b : ℕ) → alive (closed v w p b) ≡ true
+    → good (closed v w p b) ≡ true
 unfolding closed good
-closed-good Old p b = λ l. absurd (never l)
-closed-good New p b = λ l. absurd (never l)
-closed-good Job p b = λ l. absurd (never l)
-closed-good Done p b = λ l. absurd (never l)
-closed-good Step p b = λ l. absurd (never l)
-closed-good In p b = expected Good b 32 (Gap Out p) refl
-closed-good Out p b = expected Good b 32 (Gap Read p) refl
-closed-good Read p b = expected Good b 32 (Gap Write p) refl
-closed-good Write p b = expected Good b 41 (Lf Write p) refl
+closed-good v Old p b = λ l. absurd (never l)
+closed-good v New p b = λ l. absurd (never l)
+closed-good v Job p b = λ l. absurd (never l)
+closed-good v Done p b = λ l. absurd (never l)
+closed-good v Step p b = λ l. absurd (never l)
+closed-good v In p b = expected Good b 32 (Gap Out p) refl
+closed-good v Out p b = expected Good b 32 (Gap Read p) refl
+closed-good v Read p b = expected Good b 32 (Gap Write p) refl
+closed-good v Write p b = either-where Good b 32 (v .cloth) (Gap Cloth p) (expect b 41 (Lf Write p)) (λ has. refl)
+    (expected Good b 41 (Lf Write p) refl)
+closed-good v Cloth p b = expected Good b 41 (Lf Cloth p) refl
 
 chosen-good : (p : Part) (b : ℕ) → alive (chosen p b) ≡ true → good (chosen p b) ≡ true
 unfolding chosen good spelling
@@ -181,7 +190,7 @@ module _ (v : Version) where
   stays-good (Digit w p) b h = first-good w p b h
   stays-good (Digits w p k) b h = more-good w p k b h
   stays-good (Gap w p) b h = expected Good b 40 (Letters w p 0) (word-some w)
-  stays-good (Closed w p) b h = closed-good w p b
+  stays-good (Closed w p) b h = closed-good v w p b
   stays-good (Lf w p) b h = expected Good b 10 (Open p) refl
   stays-good Stuck b h = λ l. absurd (never l)
 
@@ -265,6 +274,10 @@ module _ (v : Version) where
     past-write : (c : Line) (t : Lines) → Ends (Past Write p) c t
     past-write c t = ends-list Write p closed-write c t (unfold pastWord inList expect in refl)
 
+    closed-cloth : (c : Line) (t : Lines) → Ends (Closed Cloth p) c t
+    unfolding next closed expect alive took keep
+    closed-cloth c t = by-byte (Closed Cloth p) (Lf Cloth p) 41 c t refl refl (ends-lf Cloth p c t)
+
     closed-read : (c : Line) (t : Lines) → Ends (Closed Read p) c t
     unfolding next closed expect alive took keep
     closed-read c t = by-byte (Closed Read p) (Gap Write p) 32 c t refl refl (ends-gap Write p past-write c t)
@@ -286,12 +299,13 @@ module _ (v : Version) where
     past-in : (c : Line) (t : Lines) → Ends (Past In p) c t
     past-in c t = ends-list In p closed-in c t (unfold pastWord inList expect in refl)
 
-    ends-closed : (w : Word) (c : Line) (t : Lines) → isList w ≡ true → Ends (Closed w p) c t
-    unfolding isList
+    ends-closed : (w : Word) (c : Line) (t : Lines) → bracketed w ≡ true → Ends (Closed w p) c t
+    unfolding bracketed
     ends-closed In c t h = closed-in c t
     ends-closed Out c t h = closed-out c t
     ends-closed Read c t h = closed-read c t
     ends-closed Write c t h = closed-write c t
+    ends-closed Cloth c t h = closed-cloth c t
     ends-closed Old c t h = absurd (false≢true h)
     ends-closed New c t h = absurd (false≢true h)
     ends-closed Job c t h = absurd (false≢true h)
@@ -309,6 +323,7 @@ module _ (v : Version) where
     ends-digits Read k c t h = by-byte (Digits Read p k) (Closed Read p) 41 c t refl refl (closed-read _ t)
     ends-digits Write k c t h = by-byte (Digits Write p k) (Closed Write p) 41 c t refl refl (closed-write _ t)
     ends-digits Job k c t h = absurd (false≢true h)
+    ends-digits Cloth k c t h = absurd (false≢true h)
 
     ends-digit : (w : Word) (c : Line) (t : Lines) → numbered w ≡ true → Ends (Digit w p) c t
     unfolding next first alive keep
@@ -329,6 +344,7 @@ module _ (v : Version) where
     ends-past Out c t = past-out c t
     ends-past Read c t = past-read c t
     ends-past Write c t = past-write c t
+    ends-past Cloth c t = ends-list Cloth p closed-cloth c t refl
 
   -- every point that reading reaches
   pub ends : (p : Point) (c : Line) (t : Lines) → good p ≡ true → Ends p c t

@@ -1,4 +1,4 @@
--- The line in hand after a step's name and its four lists: its form is that name with those lists.
+-- The line in hand after a step's name and its four lists: its form is that name with those lists, marked or not.
 use mathlib.Core.Path.{_≡_, refl, ap, _∙_}
 use mathlib.Core.List.{List, [], _∷_, reverseAux, reverse-reverse}
 use Prim.Native.Nat.{ℕ}
@@ -53,10 +53,10 @@ abbrev pub lineWith : Form → Line
 lineWith f = withEntries Write (f .writes) (withEntries Read (f .reads)
     (withEntries Out (f .outs) (withEntries In (f .ins) (stored Step (withNum (f .name) noLine)))))
 
-pub formOf-lineWith : (f : Form) → formOf (lineWith f) ≡ f
+pub formOf-lineWith : (f : Form) → formOf (f .cloth) (lineWith f) ≡ f
 unfolding stored
 formOf-lineWith f =
-    ap formOf
+    ap (formOf (f .cloth))
     (withEntries-writes (f .writes) _
     ∙ ap (withWrites (f .writes)) (withEntries-reads (f .reads) _
     ∙ ap (withReads (f .reads)) (withEntries-outs (f .outs) _
@@ -67,4 +67,5 @@ formOf-lineWith f =
       outs = reverse-reverse (f .outs) i;
       reads = reverse-reverse (f .reads) i;
       writes = reverse-reverse (f .writes) i;
+      cloth = f .cloth;
     })

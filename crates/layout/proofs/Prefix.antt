@@ -1,7 +1,7 @@
 -- What has been read up to a point: the bytes in front of what follows, said from the point and what has been gathered.
 -- Assumes nothing.
 use mathlib.Core.Path.{_≡_}
-use mathlib.Core.Bool.{Bool, true, false}
+use mathlib.Core.Bool.{Bool, true, false, _&&_}
 use mathlib.Core.Logic.{_⊎_}
 use mathlib.Core.List.{List, [], _∷_, _++_}
 use Prim.Native.Nat.{ℕ, _-_, _^_, _≤_, _<_}
@@ -11,7 +11,7 @@ use Rattle.layout.specs.Words.{spelling}
 use Rattle.layout.specs.Text.{Lines, number, wordLine, jobLine, Short, Shorts, ShortLines}
 use Rattle.layout.specs.Parse.{Line}
 use Rattle.layout.specs.declared.Word.{Word}
-use Rattle.layout.specs.declared.Word.the-variants.{Old, New, Job, Done, Step, In, Out, Read, Write}
+use Rattle.layout.specs.declared.Word.the-variants.{Old, New, Job, Done, Step, In, Out, Read, Write, Cloth}
 use Rattle.layout.specs.declared.Part.{Part}
 use Rattle.layout.specs.declared.Part.the-variants.{OldRoute, NewRoute, JobPart}
 use Rattle.layout.specs.declared.Point.{Point}
@@ -50,6 +50,9 @@ gapRead p c t s = gapOut p c t (40 ∷ (spelling Out ++ entriesBack (c .outs) (4
 unfoldable pub gapWrite : Part → Rest → Lines → List ℕ → List ℕ
 gapWrite p c t s = gapRead p c t (40 ∷ (spelling Read ++ entriesBack (c .reads) (41 ∷ 32 ∷ s)))
 
+unfoldable pub gapCloth : Part → Rest → Lines → List ℕ → List ℕ
+gapCloth p c t s = gapWrite p c t (40 ∷ (spelling Write ++ entriesBack (c .writes) (41 ∷ 32 ∷ s)))
+
 -- up to the bracket in front of a word
 unfoldable pub gap : Word → Part → Rest → Lines → List ℕ → List ℕ
 gap Old p c t s = s
@@ -61,6 +64,7 @@ gap In p c t s = gapIn p c t s
 gap Out p c t s = gapOut p c t s
 gap Read p c t s = gapRead p c t s
 gap Write p c t s = gapWrite p c t s
+gap Cloth p c t s = gapCloth p c t s
 
 unfoldable pub listOf : Word → Rest → List ℕ
 listOf Old c = []
@@ -72,6 +76,7 @@ listOf In c = c .ins
 listOf Out c = c .outs
 listOf Read c = c .reads
 listOf Write c = c .writes
+listOf Cloth c = []
 
 -- up to a word and the entries that follow it
 unfoldable pub upto : Word → Part → Rest → Lines → List ℕ → List ℕ
@@ -88,6 +93,7 @@ lineEnd In p c t s = s
 lineEnd Out p c t s = s
 lineEnd Read p c t s = s
 lineEnd Write p c t s = upto Write p c t (41 ∷ 41 ∷ s)
+lineEnd Cloth p c t s = upto Cloth p c t (41 ∷ 41 ∷ s)
 
 unfoldable pub sofar : Point → Line → Lines → List ℕ → List ℕ
 sofar Start c t s = s
@@ -110,37 +116,39 @@ routed OldRoute = true
 routed NewRoute = true
 routed JobPart = false
 
--- the word stands in the part
-unfoldable pub goes : Word → Part → Bool
-goes Old OldRoute = true
-goes Old NewRoute = false
-goes Old JobPart = false
-goes New OldRoute = false
-goes New NewRoute = true
-goes New JobPart = false
-goes Job OldRoute = false
-goes Job NewRoute = false
-goes Job JobPart = true
-goes Done OldRoute = false
-goes Done NewRoute = false
-goes Done JobPart = true
-goes Step p = routed p
-goes In p = routed p
-goes Out p = routed p
-goes Read p = routed p
-goes Write p = routed p
+-- the word stands in the part, and the mark only where the version has it
+unfoldable pub goes : Version → Word → Part → Bool
+goes v Old OldRoute = true
+goes v Old NewRoute = false
+goes v Old JobPart = false
+goes v New OldRoute = false
+goes v New NewRoute = true
+goes v New JobPart = false
+goes v Job OldRoute = false
+goes v Job NewRoute = false
+goes v Job JobPart = true
+goes v Done OldRoute = false
+goes v Done NewRoute = false
+goes v Done JobPart = true
+goes v Step p = routed p
+goes v In p = routed p
+goes v Out p = routed p
+goes v Read p = routed p
+goes v Write p = routed p
+goes v Cloth p = routed p && v .cloth
 
 -- the word is the last of a line of the part
-unfoldable pub closes : Word → Part → Bool
-closes Old p = goes Old p
-closes New p = goes New p
-closes Job p = goes Job p
-closes Done p = goes Done p
-closes Step p = false
-closes In p = false
-closes Out p = false
-closes Read p = false
-closes Write p = goes Write p
+unfoldable pub closes : Version → Word → Part → Bool
+closes v Old p = goes v Old p
+closes v New p = goes v New p
+closes v Job p = goes v Job p
+closes v Done p = goes v Done p
+closes v Step p = false
+closes v In p = false
+closes v Out p = false
+closes v Read p = false
+closes v Write p = goes v Write p
+closes v Cloth p = goes v Cloth p
 
 -- the lists from a word on are empty; those after it are
 abbrev pub From : Word → Rest → Type 0
@@ -153,6 +161,7 @@ From In c = (c .ins ≡ []) × ((c .outs ≡ []) × ((c .reads ≡ []) × (c .wr
 From Out c = (c .outs ≡ []) × ((c .reads ≡ []) × (c .writes ≡ []))
 From Read c = (c .reads ≡ []) × (c .writes ≡ [])
 From Write c = c .writes ≡ []
+From Cloth c = Unit {0}
 
 abbrev pub After : Word → Rest → Type 0
 After Old c = Unit {0}
@@ -164,6 +173,7 @@ After In c = From Out c
 After Out c = From Read c
 After Read c = From Write c
 After Write c = Unit {0}
+After Cloth c = Unit {0}
 
 -- the number in hand, where k more digits may follow; none may follow a lone 0
 abbrev pub Wide : Version → ℕ → ℕ → Type 0
@@ -173,13 +183,13 @@ abbrev pub Shape : Version → Point → Line → Type 0
 Shape v Start c = Unit {0}
 Shape v (Open p) c = From Step (rest c)
 Shape v (Choice p) c = From Step (rest c)
-Shape v (Letters w p k) c = (goes w p ≡ true) × From w (rest c)
-Shape v (Past w p) c = (goes w p ≡ true) × After w (rest c)
-Shape v (Digit w p) c = (goes w p ≡ true) × After w (rest c)
-Shape v (Digits w p k) c = ((goes w p ≡ true) × After w (rest c)) × Wide v k (c .num)
-Shape v (Gap w p) c = (goes w p ≡ true) × From w (rest c)
-Shape v (Closed w p) c = (goes w p ≡ true) × After w (rest c)
-Shape v (Lf w p) c = closes w p ≡ true
+Shape v (Letters w p k) c = (goes v w p ≡ true) × From w (rest c)
+Shape v (Past w p) c = (goes v w p ≡ true) × After w (rest c)
+Shape v (Digit w p) c = (goes v w p ≡ true) × After w (rest c)
+Shape v (Digits w p k) c = ((goes v w p ≡ true) × After w (rest c)) × Wide v k (c .num)
+Shape v (Gap w p) c = (goes v w p ≡ true) × From w (rest c)
+Shape v (Closed w p) c = (goes v w p ≡ true) × After w (rest c)
+Shape v (Lf w p) c = closes v w p ≡ true
 Shape v Stuck c = Unit {0}
 
 -- every number that has been put away is short

@@ -2,7 +2,7 @@
 -- Assumes nothing.
 use mathlib.Core.Path.{_≡_, refl, sym, ap, ap₂, _∙_, subst}
 use mathlib.Core.Logic.{_⊎_, inl, inr, ⊎-elim}
-use mathlib.Core.Bool.{Bool, true, false, cond, false≢true}
+use mathlib.Core.Bool.{Bool, true, false, cond, _&&_, false≢true}
 use mathlib.Core.List.{List, [], _∷_, _++_, reverse}
 use Prim.Native.Nat.{ℕ, suc, _+_, _-_, _*_, _^_, _/_, _%_, _≤_, _<_}
 use native.Mathlib.Nat.{pow-suc}
@@ -17,13 +17,13 @@ use Rattle.version.specs.declared.Version.{Version}
 use Rattle.version.proofs.Tens.{tens-mono}
 use Rattle.version.proofs.Limits.{low-short}
 use Rattle.layout.specs.Words.{spelling}
-use Rattle.layout.specs.Text.{Lines, digits, number, entries, listed, stepLine, wordLine, jobLine, Short}
+use Rattle.layout.specs.Text.{Lines, digits, number, entries, listed, marked, stepLine, wordLine, jobLine, Short}
 use Rattle.layout.specs.Text.{ShortForm, ShortLines}
 use Rattle.layout.specs.Points.{digit, alive, expect, chosen, spelt, inList, pastWord, first, ended, more, closed}
 use Rattle.layout.specs.Points.{next}
 use Rattle.layout.specs.Parse.{Line, noLine, withNum, grown, stored, took, formOf, putStep, putLine, keep}
 use Rattle.layout.specs.declared.Word.{Word}
-use Rattle.layout.specs.declared.Word.the-variants.{Old, New, Job, Done, Step, In, Out, Read, Write}
+use Rattle.layout.specs.declared.Word.the-variants.{Old, New, Job, Done, Step, In, Out, Read, Write, Cloth}
 use Rattle.layout.specs.declared.Part.{Part}
 use Rattle.layout.specs.declared.Part.the-variants.{OldRoute, NewRoute, JobPart}
 use Rattle.layout.specs.declared.Point.{Point}
@@ -31,8 +31,8 @@ use Rattle.layout.specs.declared.Point.the-variants.{Start, Open, Choice
 use Rattle.layout.specs.declared.Point.the-variants.{Closed, Lf, Stuck}
 use Rattle.layout.proofs.Numbers.{digits-enough}
 use Rattle.layout.proofs.Reversed.{entriesBack, stepsBack, donesBack, entries-back, shorts-back}
-use Rattle.layout.proofs.Prefix.{rest, above, gapIn, gapOut, gapRead, gapWrite, gap, listOf, upto, lineEnd}
-use Rattle.layout.proofs.Prefix.{sofar, routed, goes, closes, From, After, Wide, Shape, ShortLine, Onward}
+use Rattle.layout.proofs.Prefix.{rest, above, gapIn, gapOut, gapRead, gapWrite, gapCloth, gap, listOf, upto}
+use Rattle.layout.proofs.Prefix.{lineEnd, sofar, routed, goes, closes, From, After, Wide, Shape, ShortLine, Onward}
 use Rattle.mask.proofs.Truth.{both}
 
 -- ---- tests that hold
@@ -56,6 +56,16 @@ either P b k q r h other = go (eqb b k) refl
     go : (x : Bool) → eqb b k ≡ x → alive (cond x q r) ≡ true → P b (cond x q r)
     go true e l = subst (λ (m : ℕ). P m q) (sym (eqb-true b k e)) h
     go false e l = other e l
+
+-- where y says whether the byte k is one that the layout has
+pub either-where : (P : ℕ → Point → Type 0) (b k : ℕ) (y : Bool) (q r : Point) → (y ≡ true → P k q)
+    → (alive r ≡ true → P b r) → alive (cond (eqb b k && y) q r) ≡ true → P b (cond (eqb b k && y) q r)
+either-where P b k y q r h other = go (eqb b k) refl y refl
+  where
+    go : (x : Bool) → eqb b k ≡ x → (z : Bool) → y ≡ z → alive (cond (x && z) q r) ≡ true → P b (cond (x && z) q r)
+    go true e true d l = subst (λ (m : ℕ). P m q) (sym (eqb-true b k e)) (h d)
+    go true e false d l = other l
+    go false e z d l = other l
 
 -- ---- numbers
 
@@ -125,6 +135,7 @@ module _ (v : Version) (limits : Limits v) (c : Line) (t : Lines) (line : ShortL
   from-after Out h = h .1
   from-after Read h = h .1
   from-after Write h = tt
+  from-after Cloth h = tt
 
   from-empty : (w : Word) → From w (rest c) → listOf w (rest c) ≡ []
   unfolding listOf
@@ -137,6 +148,7 @@ module _ (v : Version) (limits : Limits v) (c : Line) (t : Lines) (line : ShortL
   from-empty Out h = h .0
   from-empty Read h = h .0
   from-empty Write h = h
+  from-empty Cloth h = refl
 
   at-letters : (w : Word) (p : Part) (k b : ℕ) → Shape v (Letters w p k) c → alive (next v (Letters w p k) b) ≡ true
       → Onward v (Letters w p k) b c t (next v (Letters w p k) b) c t
@@ -209,6 +221,8 @@ module _ (v : Version) (limits : Limits v) (c : Line) (t : Lines) (line : ShortL
   at-past Out p b h = at-list Out p b c (Past Out p) (λ s. refl) h line
   at-past Read p b h = at-list Read p b c (Past Read p) (λ s. refl) h line
   at-past Write p b h = at-list Write p b c (Past Write p) (λ s. refl) h line
+  at-past Cloth p b h = expected (λ x q. Onward v (Past Cloth p) x c t q c t) b 41 (Closed Cloth p)
+      (record { same = λ s. refl; shape = h; line = line; lines = lines })
 
   at-digit : (w : Word) (p : Part) (b : ℕ) → Shape v (Digit w p) c → alive (next v (Digit w p) b) ≡ true
       → Onward v (Digit w p) b c t (next v (Digit w p) b) (withNum (b - 48) c) t
@@ -271,6 +285,7 @@ module _ (v : Version) (limits : Limits v) (c : Line) (t : Lines) (line : ShortL
         lines = lines;
       })
   at-ended Job p k b h = λ l. absurd (never l)
+  at-ended Cloth p k b h = λ l. absurd (never l)
   at-ended In p k b h = at-list In p b (stored In c) (Digits In p k) (λ s. refl) (h .0)
       (line .0, ((wide-short k (c .num) (h .1), line .1 .0), line .1 .1))
   at-ended Out p k b h = at-list Out p b (stored Out c) (Digits Out p k) (λ s. refl) (h .0)
@@ -319,14 +334,24 @@ module _ (v : Version) (limits : Limits v) (c : Line) (t : Lines) (line : ShortL
 
   at-closed : (w : Word) (p : Part) (b : ℕ) → Shape v (Closed w p) c → alive (next v (Closed w p) b) ≡ true
       → Onward v (Closed w p) b c t (next v (Closed w p) b) c t
-  unfolding next closed closes sofar lineEnd upto gap listOf gapOut gapRead gapWrite goes
+  unfolding next closed closes sofar lineEnd upto gap listOf gapOut gapRead gapWrite gapCloth goes
   at-closed In p b h = expected (λ x q. Onward v (Closed In p) x c t q c t) b 32 (Gap Out p)
       (record { same = λ s. refl; shape = h; line = line; lines = lines })
   at-closed Out p b h = expected (λ x q. Onward v (Closed Out p) x c t q c t) b 32 (Gap Read p)
       (record { same = λ s. refl; shape = h; line = line; lines = lines })
   at-closed Read p b h = expected (λ x q. Onward v (Closed Read p) x c t q c t) b 32 (Gap Write p)
       (record { same = λ s. refl; shape = h; line = line; lines = lines })
-  at-closed Write p b h = expected (λ x q. Onward v (Closed Write p) x c t q c t) b 41 (Lf Write p)
+  at-closed Write p b h = either-where (λ x q. Onward v (Closed Write p) x c t q c t) b 32 (v .cloth) (Gap Cloth p)
+      (expect b 41 (Lf Write p))
+      (λ has. record {
+        same = λ s. refl;
+        shape = (ap₂ (λ (x y : Bool). x && y) (h .0) has, tt);
+        line = line;
+        lines = lines;
+      })
+      (expected (λ x q. Onward v (Closed Write p) x c t q c t) b 41 (Lf Write p)
+      (record { same = λ s. refl; shape = h .0; line = line; lines = lines }))
+  at-closed Cloth p b h = expected (λ x q. Onward v (Closed Cloth p) x c t q c t) b 41 (Lf Cloth p)
       (record { same = λ s. refl; shape = h .0; line = line; lines = lines })
   at-closed Old p b h = λ l. absurd (never l)
   at-closed New p b h = λ l. absurd (never l)
@@ -341,14 +366,14 @@ unfolding listed entries
 listed-back w l s = ap (λ (m : List ℕ). 32 ∷ 40 ∷ (spelling w ++ m)) (entries-back l [] (41 ∷ s))
 
 -- the line of a step, from what was gathered
-step-back : (c : Line) (s : List ℕ) → stepLine (formOf c) s
+step-back : (m : Bool) (c : Line) (s : List ℕ) → stepLine (formOf m c) s
     ≡ 40 ∷ (spelling Step ++ (32 ∷ number (c .head)
     (32 ∷ 40 ∷ (spelling In ++ entriesBack (c .ins)
     (41 ∷ 32 ∷ 40 ∷ (spelling Out ++ entriesBack (c .outs)
     (41 ∷ 32 ∷ 40 ∷ (spelling Read ++ entriesBack (c .reads)
-    (41 ∷ 32 ∷ 40 ∷ (spelling Write ++ entriesBack (c .writes) (41 ∷ 41 ∷ 10 ∷ s)))))))))))
+    (41 ∷ 32 ∷ 40 ∷ (spelling Write ++ entriesBack (c .writes) (41 ∷ marked m (41 ∷ 10 ∷ s))))))))))))
 unfolding stepLine
-step-back c s =
+step-back m c s =
     ap (λ (y : List ℕ). 40 ∷ (spelling Step ++ (32 ∷ number (c .head) y)))
     (listed-back In (c .ins) _
     ∙ ap (λ (y : List ℕ). 32 ∷ 40 ∷ (spelling In ++ entriesBack (c .ins) (41 ∷ y)))
@@ -356,27 +381,29 @@ step-back c s =
     ∙ ap (λ (y : List ℕ). 32 ∷ 40 ∷ (spelling Out ++ entriesBack (c .outs) (41 ∷ y)))
     (listed-back Read (c .reads) _
     ∙ ap (λ (y : List ℕ). 32 ∷ 40 ∷ (spelling Read ++ entriesBack (c .reads) (41 ∷ y)))
-    (listed-back Write (c .writes) (41 ∷ 10 ∷ s)))))
+    (listed-back Write (c .writes) (marked m (41 ∷ 10 ∷ s))))))
 
 no-line-short : (v : Version) → Limits v → ShortLine v (rest noLine)
 no-line-short v limits = (low-short v limits 0 (omega arith), (tt, (tt, (tt, tt))))
 
-form-short : (v : Version) (c : Line) → ShortLine v (rest c) → ShortForm v (formOf c)
-form-short v c h = record {
+form-short : (v : Version) (m : Bool) → (m ≡ true → v .cloth ≡ true) → (c : Line) → ShortLine v (rest c)
+    → ShortForm v (formOf m c)
+form-short v m has c h = record {
   name = h .0;
   ins = shorts-back v (c .ins) [] (h .1 .0) tt;
   outs = shorts-back v (c .outs) [] (h .1 .1 .0) tt;
   reads = shorts-back v (c .reads) [] (h .1 .1 .1 .0) tt;
   writes =
       shorts-back v (c .writes) [] (h .1 .1 .1 .1) tt;
+  cloth = has;
 }
 
 module _ (v : Version) (limits : Limits v) (c : Line) (t : Lines) (line : ShortLine v (rest c))
     (lines : ShortLines v t) where
-  line-on : (w : Word) (p : Part) → closes w p ≡ true
+  line-on : (w : Word) (p : Part) → closes v w p ≡ true
       → ((s : List ℕ) → above p (putLine w p c t) s ≡ lineEnd w p (rest c) t (10 ∷ s)) × ShortLines v (putLine w p c t)
-  unfolding closes goes routed above putLine putStep lineEnd upto gap gapIn gapOut gapRead gapWrite listOf wordLine
-      jobLine spelling entriesBack stepsBack donesBack
+  unfolding closes goes routed above putLine putStep lineEnd upto gap gapIn gapOut gapRead gapWrite gapCloth listOf
+      wordLine jobLine marked spelling entriesBack stepsBack donesBack
   line-on Old OldRoute g = (
     λ s. refl,
     record {
@@ -431,10 +458,10 @@ module _ (v : Version) (limits : Limits v) (c : Line) (t : Lines) (line : ShortL
   line-on Read p g = absurd (false≢true g)
   line-on Write OldRoute g = (
     λ s. ap (λ (y : List ℕ). wordLine Old (t .oldPlaces) (stepsBack (t .old) y))
-        (step-back c s),
+        (step-back false c s),
     record {
       oldPlaces = lines .oldPlaces;
-      old = (form-short v c line, lines .old);
+      old = (form-short v false (λ e. absurd (false≢true e)) c line, lines .old);
       newPlaces = lines .newPlaces;
       new = lines .new;
       done = lines .done;
@@ -443,16 +470,40 @@ module _ (v : Version) (limits : Limits v) (c : Line) (t : Lines) (line : ShortL
   line-on Write NewRoute g = (
     λ s. ap (λ (y : List ℕ).
         wordLine Old (t .oldPlaces) (stepsBack (t .old) (wordLine New (t .newPlaces) (stepsBack (t .new) y))))
-        (step-back c s),
+        (step-back false c s),
     record {
       oldPlaces = lines .oldPlaces;
       old = lines .old;
       newPlaces = lines .newPlaces;
-      new = (form-short v c line, lines .new);
+      new = (form-short v false (λ e. absurd (false≢true e)) c line, lines .new);
       done = lines .done;
     },
   )
   line-on Write JobPart g = absurd (false≢true g)
+  line-on Cloth OldRoute g = (
+    λ s. ap (λ (y : List ℕ). wordLine Old (t .oldPlaces) (stepsBack (t .old) y))
+        (step-back true c s),
+    record {
+      oldPlaces = lines .oldPlaces;
+      old = (form-short v true (λ e. g) c line, lines .old);
+      newPlaces = lines .newPlaces;
+      new = lines .new;
+      done = lines .done;
+    },
+  )
+  line-on Cloth NewRoute g = (
+    λ s. ap (λ (y : List ℕ).
+        wordLine Old (t .oldPlaces) (stepsBack (t .old) (wordLine New (t .newPlaces) (stepsBack (t .new) y))))
+        (step-back true c s),
+    record {
+      oldPlaces = lines .oldPlaces;
+      old = lines .old;
+      newPlaces = lines .newPlaces;
+      new = (form-short v true (λ e. g) c line, lines .new);
+      done = lines .done;
+    },
+  )
+  line-on Cloth JobPart g = absurd (false≢true g)
 
   at-lf : (w : Word) (p : Part) (b : ℕ) → Shape v (Lf w p) c → alive (next v (Lf w p) b) ≡ true
       → Onward v (Lf w p) b c t (next v (Lf w p) b) noLine (putLine w p c t)

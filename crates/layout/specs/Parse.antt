@@ -1,12 +1,12 @@
 -- Reading: from point to point through the bytes, gathering the lines. Lists are gathered with the latest first.
-use mathlib.Core.Bool.{cond}
+use mathlib.Core.Bool.{Bool, true, false, cond}
 use mathlib.Core.List.{List, [], _∷_, reverse}
 use Prim.Native.Nat.{ℕ, _+_, _-_, _*_}
 use Rattle.version.specs.declared.Version.{Version}
 use Rattle.layout.specs.Text.{Form, Lines}
 use Rattle.layout.specs.Points.{digit, alive, next}
 use Rattle.layout.specs.declared.Word.{Word}
-use Rattle.layout.specs.declared.Word.the-variants.{Old, New, Job, Done, Step, In, Out, Read, Write}
+use Rattle.layout.specs.declared.Word.the-variants.{Old, New, Job, Done, Step, In, Out, Read, Write, Cloth}
 use Rattle.layout.specs.declared.Part.{Part}
 use Rattle.layout.specs.declared.Part.the-variants.{OldRoute, NewRoute, JobPart}
 use Rattle.layout.specs.declared.Point.{Point}
@@ -47,6 +47,7 @@ stored In c = withForm c (c .head) (c .num ∷ c .ins) (c .outs) (c .reads) (c .
 stored Out c = withForm c (c .head) (c .ins) (c .num ∷ c .outs) (c .reads) (c .writes)
 stored Read c = withForm c (c .head) (c .ins) (c .outs) (c .num ∷ c .reads) (c .writes)
 stored Write c = withForm c (c .head) (c .ins) (c .outs) (c .reads) (c .num ∷ c .writes)
+stored Cloth c = c
 
 -- what a byte does to the line in hand
 unfoldable pub took : Point → ℕ → Line → Line
@@ -62,13 +63,15 @@ took (Closed w p) b c = c
 took (Lf w p) b c = noLine
 took Stuck b c = c
 
-abbrev pub formOf : Line → Form
-formOf c = record {
+-- the line's form, marked or not
+abbrev pub formOf : Bool → Line → Form
+formOf m c = record {
   name = c .head;
   ins = reverse (c .ins);
   outs = reverse (c .outs);
   reads = reverse (c .reads);
   writes = reverse (c .writes);
+  cloth = m;
 }
 
 -- the lines that have been read, the latest first in each list
@@ -108,7 +111,8 @@ putLine Step p c t = t
 putLine In p c t = t
 putLine Out p c t = t
 putLine Read p c t = t
-putLine Write p c t = putStep p (formOf c) t
+putLine Write p c t = putStep p (formOf false c) t
+putLine Cloth p c t = putStep p (formOf true c) t
 
 unfoldable pub keep : Point → Line → Lines → Lines
 keep Start c t = t

@@ -7,7 +7,7 @@ use lib.ListN.{length, getD}
 use Rattle.version.specs.declared.Version.{Version}
 use Rattle.layout.specs.Words.{spelling}
 use Rattle.layout.specs.declared.Word.{Word}
-use Rattle.layout.specs.declared.Word.the-variants.{Old, New, Job, Done, Step, In, Out, Read, Write}
+use Rattle.layout.specs.declared.Word.the-variants.{Old, New, Job, Done, Step, In, Out, Read, Write, Cloth}
 use Rattle.layout.specs.declared.Part.{Part}
 use Rattle.layout.specs.declared.Part.the-variants.{OldRoute, NewRoute, JobPart}
 use Rattle.layout.specs.declared.Point.{Point}
@@ -61,6 +61,7 @@ pastWord In p b = inList In p b
 pastWord Out p b = inList Out p b
 pastWord Read p b = inList Read p b
 pastWord Write p b = inList Write p b
+pastWord Cloth p b = expect b 41 (Closed Cloth p)
 
 -- a number's first digit: nothing follows a 0, and past another all but one of the version's digits may follow
 unfoldable pub first : Version → Word → Part → ℕ → Point
@@ -77,21 +78,23 @@ ended In p b = inList In p b
 ended Out p b = inList Out p b
 ended Read p b = inList Read p b
 ended Write p b = inList Write p b
+ended Cloth p b = Stuck
 
 unfoldable pub more : Word → Part → ℕ → ℕ → Point
 more w p k b = cond (digit b) (cond (ltb 0 k) (Digits w p (k - 1)) Stuck) (ended w p b)
 
--- past a list
-unfoldable pub closed : Word → Part → ℕ → Point
-closed In p b = expect b 32 (Gap Out p)
-closed Out p b = expect b 32 (Gap Read p)
-closed Read p b = expect b 32 (Gap Write p)
-closed Write p b = expect b 41 (Lf Write p)
-closed Old p b = Stuck
-closed New p b = Stuck
-closed Job p b = Stuck
-closed Done p b = Stuck
-closed Step p b = Stuck
+-- past a list, or past the mark; past the last list the mark may follow, where the version has it
+unfoldable pub closed : Version → Word → Part → ℕ → Point
+closed v In p b = expect b 32 (Gap Out p)
+closed v Out p b = expect b 32 (Gap Read p)
+closed v Read p b = expect b 32 (Gap Write p)
+closed v Write p b = cond (eqb b 32 && v .cloth) (Gap Cloth p) (expect b 41 (Lf Write p))
+closed v Cloth p b = expect b 41 (Lf Cloth p)
+closed v Old p b = Stuck
+closed v New p b = Stuck
+closed v Job p b = Stuck
+closed v Done p b = Stuck
+closed v Step p b = Stuck
 
 unfoldable pub next : Version → Point → ℕ → Point
 next v Start b = expect b 40 (Letters Old OldRoute 0)
@@ -102,6 +105,6 @@ next v (Past w p) b = pastWord w p b
 next v (Digit w p) b = first v w p b
 next v (Digits w p k) b = more w p k b
 next v (Gap w p) b = expect b 40 (Letters w p 0)
-next v (Closed w p) b = closed w p b
+next v (Closed w p) b = closed v w p b
 next v (Lf w p) b = expect b 10 (Open p)
 next v Stuck b = Stuck

@@ -1,21 +1,23 @@
 -- The text of a sheet as a function of its lines. Each definition puts its text in front of what follows, `s`. The
 -- bytes: 40 and 41 are the brackets, 32 the space, 10 the LF, 48 the digit 0.
-use mathlib.Core.Bool.{cond}
+use mathlib.Core.Path.{_≡_}
+use mathlib.Core.Bool.{Bool, true, cond}
 use mathlib.Core.List.{List, [], _∷_, _++_}
 use Prim.Native.Nat.{ℕ, zero, suc, _+_, _/_, _%_, _^_, _<_}
 use lib.Dec.{ltb}
 use Rattle.version.specs.declared.Version.{Version}
 use Rattle.layout.specs.Words.{spelling}
 use Rattle.layout.specs.declared.Word.{Word}
-use Rattle.layout.specs.declared.Word.the-variants.{Old, New, Job, Done, Step, In, Out, Read, Write}
+use Rattle.layout.specs.declared.Word.the-variants.{Old, New, Job, Done, Step, In, Out, Read, Write, Cloth}
 
--- a step as it is written: its name and the entries of its four lists in turn
+-- a step as it is written: its name, the entries of its four lists in turn, and whether it is marked
 pub record Form : Type 0 where
   pub name : ℕ
   pub ins : List ℕ
   pub outs : List ℕ
   pub reads : List ℕ
   pub writes : List ℕ
+  pub cloth : Bool
 
 -- the lines of a sheet: `(old N)`, its steps, `(new N)`, its steps, `(job)`, then `(done NAME)` lines, as many as there
 -- are
@@ -44,13 +46,17 @@ entries (n ∷ l) s = 32 ∷ number n (entries l s)
 unfoldable pub listed : Word → List ℕ → List ℕ → List ℕ
 listed w l s = 32 ∷ 40 ∷ (spelling w ++ entries l (41 ∷ s))
 
--- `(step NAME (in ..) (out ..) (read ..) (write ..))`
+-- 02: "A step form may end with ` (cloth)` inside its bracket"
+unfoldable pub marked : Bool → List ℕ → List ℕ
+marked c s = cond c (32 ∷ 40 ∷ (spelling Cloth ++ (41 ∷ s))) s
+
+-- `(step NAME (in ..) (out ..) (read ..) (write ..))`, or with the mark
 unfoldable pub stepLine : Form → List ℕ → List ℕ
 stepLine f s =
     40
     ∷ (spelling Step
     ++ (32 ∷ number (f .name) (listed In (f .ins)
-    (listed Out (f .outs) (listed Read (f .reads) (listed Write (f .writes) (41 ∷ 10 ∷ s)))))))
+    (listed Out (f .outs) (listed Read (f .reads) (listed Write (f .writes) (marked (f .cloth) (41 ∷ 10 ∷ s))))))))
 
 -- `(old N)`, `(new N)`, `(done NAME)`
 unfoldable pub wordLine : Word → ℕ → List ℕ → List ℕ
@@ -84,12 +90,14 @@ abbrev pub Shorts : Version → List ℕ → Type 0
 Shorts v [] = Unit {0}
 Shorts v (n ∷ l) = Short v n × Shorts v l
 
+-- and a step is marked only where the version has the mark
 pub record ShortForm (v : Version) (f : Form) : Type 0 where
   pub name : Short v (f .name)
   pub ins : Shorts v (f .ins)
   pub outs : Shorts v (f .outs)
   pub reads : Shorts v (f .reads)
   pub writes : Shorts v (f .writes)
+  pub cloth : f .cloth ≡ true → v .cloth ≡ true
 
 abbrev pub ShortForms : Version → List Form → Type 0
 ShortForms v [] = Unit {0}

@@ -1,7 +1,7 @@
-// The layout of a sheet: the one table of the nine words. The parts and the points are what the definitions speak of.
+// The layout of a sheet: the one table of the ten words. The parts and the points are what the definitions speak of.
 pub mod words;
 
-// The nine words.
+// 01's nine words and 02's tenth, cloth.
 pub enum Word {
     Old,
     New,
@@ -12,6 +12,7 @@ pub enum Word {
     Out,
     Read,
     Write,
+    Cloth,
 }
 
 // Which part of the sheet a line belongs to; a head opens its part.
@@ -37,9 +38,9 @@ pub enum Point {
     Digit(Word, Part),
     // past a digit of a number, where that many more may follow; none may follow a lone 0
     Digits(Word, Part, usize),
-    // at the bracket of the list of that word
+    // at the bracket of the list of that word, or of the mark
     Gap(Word, Part),
-    // past a list's closing bracket
+    // past the closing bracket of a list, or of the mark
     Closed(Word, Part),
     // at the LF of a line whose last word it is
     Lf(Word, Part),

@@ -1,4 +1,4 @@
-// The one table of the nine words.
+// The one table of the ten words.
 use crate::Word;
 ghost use mathlib.Core.Path.{_≡_};
 ghost use lib.ListN.{length};
@@ -6,7 +6,7 @@ ghost use Rattle.layout.specs.Words.{wordTable, spelling, numberOf};
 
 // Six bytes for each word: its length, and its letters filled up with 0. A reader or a writer copies the table once and
 // lends it.
-pub const TABLE: [u8; 54] = [
+pub const TABLE: [u8; 60] = [
     3,
     111,
     108,
@@ -61,6 +61,12 @@ pub const TABLE: [u8; 54] = [
     105,
     116,
     101, // write
+    5,
+    99,
+    108,
+    111,
+    116,
+    104, // cloth
 ];
 
 // The row of a word.
@@ -77,6 +83,7 @@ pub fn place(w: Word) -> usize
         Word::Out => 6,
         Word::Read => 7,
         Word::Write => 8,
+        Word::Cloth => 9,
     }
 }
 

@@ -15,7 +15,7 @@ use Rattle.layout.specs.Points.{digit, alive, next, expect, inList, pastWord, m
 use Rattle.layout.specs.Parse.{Line, Parsed, withNum, grown, stored, took, keep, atEnd, run}
 use Rattle.layout.specs.inner.Entries.{withEntries}
 use Rattle.layout.specs.declared.Word.{Word}
-use Rattle.layout.specs.declared.Word.the-variants.{Old, New, Job, Done, Step, In, Out, Read, Write}
+use Rattle.layout.specs.declared.Word.the-variants.{Old, New, Job, Done, Step, In, Out, Read, Write, Cloth}
 use Rattle.layout.specs.declared.Part.{Part}
 use Rattle.layout.specs.declared.Point.{Point}
 use Rattle.layout.specs.declared.Point.the-variants.{Digit, Digits, Past, Closed, Stuck}
@@ -38,6 +38,7 @@ past-list In h q b = refl
 past-list Out h q b = refl
 past-list Read h q b = refl
 past-list Write h q b = refl
+past-list Cloth h q b = cc
 
 ended-list : (w : Word) → listWord w ≡ true → (q : Part) (b : ℕ) → ended w q b ≡ inList w q b
 unfolding listWord ended
@@ -50,6 +51,7 @@ ended-list In h q b = refl
 ended-list Out h q b = refl
 ended-list Read h q b = refl
 ended-list Write h q b = refl
+ended-list Cloth h q b = cc
 
 -- ---- the byte past an entry
 

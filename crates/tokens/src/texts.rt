@@ -33,6 +33,17 @@ pub const WRITE: [u8; 7] = [
     TABLE[53],
 ];
 
+pub const CLOTH: [u8; 8] = [
+    b' ',
+    b'(',
+    TABLE[55],
+    TABLE[56],
+    TABLE[57],
+    TABLE[58],
+    TABLE[59],
+    b')',
+];
+
 pub const END: [u8; 2] = [b')', b'\n'];
 
 // Byte by byte, as long as they agree.

@@ -1,16 +1,17 @@
 -- The limits of a version: 01's values, the present ones, and what every version keeps to.
-use mathlib.Core.Bool.{Bool, _&&_}
+use mathlib.Core.Bool.{Bool, true, false, _&&_}
 use Prim.Native.Nat.{ℕ, _^_, _≤_, _<_}
 use lib.Dec.{leb}
 use Rattle.version.specs.declared.Version.{Version}
 
 -- "A number has one to five digits", "a name (1 to 65,535)"
 abbrev pub scope : Version
-scope = record { digits = 5; greatest = 65535 }
+scope = record { digits = 5; greatest = 65535; cloth = false }
 
--- 02: "A name may be 1 to 4,294,967,295 and every number up to ten digits long."
+-- 02: "A name may be 1 to 4,294,967,295 and every number up to ten digits long.", "A step form may end with ` (cloth)`
+-- inside its bracket."
 abbrev pub present : Version
-present = record { digits = 10; greatest = 4294967295 }
+present = record { digits = 10; greatest = 4294967295; cloth = true }
 
 -- a name is 1 to the greatest
 unfoldable pub nameFits : Version → ℕ → Bool

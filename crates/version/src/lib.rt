@@ -7,18 +7,22 @@ pub struct Version {
     pub digits: usize,
     // the greatest name
     pub greatest: u64,
+    // whether a step may be marked as cloth
+    pub cloth: bool,
 }
 
 impl Version {
-    // 01's: five digits, and names to 65,535.
+    // 01's: five digits, names to 65,535, no marks.
     pub const SCOPE: Version = Version {
         digits: 5,
         greatest: 65535,
+        cloth: false,
     };
-    // The present one: ten digits, and names to 4,294,967,295.
+    // The present one: ten digits, names to 4,294,967,295, and steps that may be marked.
     pub const PRESENT: Version = Version {
         digits: 10,
         greatest: 4294967295,
+        cloth: true,
     };
 
     pub fn name_fits(self, n: u64) -> bool

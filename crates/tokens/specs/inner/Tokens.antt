@@ -13,7 +13,7 @@ use Rattle.layout.specs.Points.{alive, next}
 use Rattle.layout.specs.Parse.{Line, Parsed, withNum, took, keep, atEnd, run, parse}
 use Rattle.layout.specs.inner.Entries.{withEntries}
 use Rattle.layout.specs.declared.Word.{Word}
-use Rattle.layout.specs.declared.Word.the-variants.{Old, New, Job, Done, Step, In, Out, Read, Write}
+use Rattle.layout.specs.declared.Word.the-variants.{Old, New, Job, Done, Step, In, Out, Read, Write, Cloth}
 use Rattle.layout.specs.declared.Part.{Part}
 use Rattle.layout.specs.declared.Point.{Point}
 use Rattle.layout.specs.declared.Point.the-variants.{Past, Digit, Digits, Closed, Stuck}
@@ -96,6 +96,7 @@ listWord In = true
 listWord Out = true
 listWord Read = true
 listWord Write = true
+listWord Cloth = false
 
 abbrev pub noEntries : Entries
 noEntries = record { mask = 0; top = 0; count = 0; falls = false }
