@@ -12,8 +12,8 @@ use borrow.Author.Tests.{ne-eqb, eq-eqb}
 use Rattle.version.specs.Limits.{present}
 use Rattle.version.proofs.Limits.{present-limits}
 use Rattle.layout.specs.Words.{spelling}
-use Rattle.layout.specs.Text.{Form, Lines, digits, number, entries, listed, stepLine, wordLine, stepLines, jobText}
-use Rattle.layout.specs.Text.{text}
+use Rattle.layout.specs.Text.{Form, Lines, digits, number, entries, listed, marked, stepLine, wordLine, stepLines}
+use Rattle.layout.specs.Text.{jobText, text}
 use Rattle.layout.specs.declared.Word.{Word}
 use Rattle.layout.specs.declared.Word.the-variants.{Old, New}
 use Rattle.layout.proofs.Sound.{sound}
@@ -55,6 +55,11 @@ over-word-line : (k : ℕ) (w : Word) (n : ℕ) (s : List ℕ)
 unfolding wordLine afterLines
 over-word-line k w n s word = word (32 ∷ number n (41 ∷ 10 ∷ s)) ∙ over-number k n (41 ∷ 10 ∷ s)
 
+over-marked : (k : ℕ) (m : Bool) (s : List ℕ) → afterLines (suc k) (marked m s) ≡ afterLines (suc k) s
+unfolding marked spelling afterLines
+over-marked k true s = refl
+over-marked k false s = refl
+
 over-step-line : (k : ℕ) (f : Form) (s : List ℕ) → afterLines (suc k) (stepLine f s) ≡ afterLines k s
 unfolding stepLine listed spelling afterLines
 over-step-line k f s =
@@ -63,6 +68,7 @@ over-step-line k f s =
     ∙ over-entries k (f .outs) _
     ∙ over-entries k (f .reads) _
     ∙ over-entries k (f .writes) _
+    ∙ over-marked k (f .cloth) _
 
 over-steps : (l : List Form) (k : ℕ) (s : List ℕ) → afterLines (length l + k) (stepLines l s) ≡ afterLines k s
 unfolding stepLines

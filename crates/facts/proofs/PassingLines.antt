@@ -20,6 +20,7 @@ use Rattle.version.specs.declared.Version.{Version}
 use Rattle.layout.specs.Text.{Form, Lines, Shorts, ShortForm, ShortForms, ShortLines}
 use Rattle.facts.specs.Forms.{allBelow, rising, listFits, formFits, formLists, formRow}
 use Rattle.facts.specs.Names.{Within, formNames, NamesTo}
+use Rattle.facts.specs.Marks.{Marks, MarksTo}
 use Rattle.facts.specs.SheetRows.{formRows, afterForms, routeFormRows, sheetRows}
 
 abbrev pub Passes : List Outcome → Type 0
@@ -166,6 +167,22 @@ lines-named v x h = record {
   done = names-within v (x .done) (h .done);
 }
 
+-- ---- the marks of lines that a version can write, and those of any lines where steps may be marked
+
+forms-marks : (v : Version) (l : List Form) → ShortForms v l → Marks (v .cloth) l
+forms-marks v [] h = tt
+forms-marks v (f ∷ l) h = (h .0 .cloth, forms-marks v l (h .1))
+
+pub short-marks : (v : Version) (x : Lines) → ShortLines v x → MarksTo (v .cloth) x
+short-marks v x h = record { old = forms-marks v (x .old) (h .old); new = forms-marks v (x .new) (h .new) }
+
+any-marks : (l : List Form) → Marks true l
+any-marks [] = tt
+any-marks (f ∷ l) = (λ e. refl, any-marks l)
+
+pub all-marks : (x : Lines) → MarksTo true x
+all-marks x = record { old = any-marks (x .old); new = any-marks (x .new) }
+
 -- ---- every number is short
 
 below-short : (v : Version) (limits : Limits v) (l : List ℕ) (n : ℕ) → n ≤ 64 → allBelow n l ≡ true → Shorts v l
@@ -175,35 +192,37 @@ below-short v limits (m ∷ l) n h e =
     let parts = both (ltb m n) (allBelow n l) e in
     (low-short v limits m (omega (arith, ltb-true m n (parts .0))), below-short v limits l n h (parts .1))
 
-form-short : (v : Version) (limits : Limits v) (places : ℕ) (f : Form) → places ≤ 64 → Fine v places f → ShortForm v f
-form-short v limits places f h fine = record {
+form-short : (v : Version) (limits : Limits v) (places : ℕ) (f : Form) → places ≤ 64
+    → (f .cloth ≡ true → v .cloth ≡ true) → Fine v places f → ShortForm v f
+form-short v limits places f h mark fine = record {
   name = name-short v limits (f .name) (fine .name);
   ins = below-short v limits (f .ins) places h (fine .ins .low);
   outs = below-short v limits (f .outs) places h (fine .outs .low);
   reads = below-short v limits (f .reads) 32 (omega arith) (fine .reads .low);
   writes = below-short v limits (f .writes) 32 (omega arith) (fine .writes .low);
+  cloth = mark;
 }
 
-forms-short : (v : Version) (limits : Limits v) (l : List Form) (places : ℕ) → places ≤ 64 → AllFine v places l
-    → ShortForms v l
-forms-short v limits [] places h fine = tt
-forms-short v limits (f ∷ l) places h fine = (
-  form-short v limits places f h (fine .0),
-  forms-short v limits l places h (fine .1),
+forms-short : (v : Version) (limits : Limits v) (l : List Form) (places : ℕ) → places ≤ 64 → Marks (v .cloth) l
+    → AllFine v places l → ShortForms v l
+forms-short v limits [] places h marks fine = tt
+forms-short v limits (f ∷ l) places h marks fine = (
+  form-short v limits places f h (marks .0) (fine .0),
+  forms-short v limits l places h (marks .1) (fine .1),
 )
 
 names-short : (v : Version) (limits : Limits v) (l : List ℕ) → AllNamed v l → Shorts v l
 names-short v limits [] h = tt
 names-short v limits (n ∷ l) h = (name-short v limits n (h .0), names-short v limits l (h .1))
 
-pub lines-short : (v : Version) (limits : Limits v) (x : Lines) → AllLines v x → ShortLines v x
-lines-short v limits x h = record {
+pub lines-short : (v : Version) (limits : Limits v) (x : Lines) → MarksTo (v .cloth) x → AllLines v x → ShortLines v x
+lines-short v limits x marks h = record {
   oldPlaces = low-short v limits (x .oldPlaces) (omega (arith, h .oldPlaces));
-  old = forms-short v limits (x .old) (x .oldPlaces) (h .oldPlaces) (h .old);
+  old = forms-short v limits (x .old) (x .oldPlaces) (h .oldPlaces) (marks .old) (h .old);
   newPlaces =
       low-short v limits (x .newPlaces) (omega (arith, h .newPlaces));
   new =
-      forms-short v limits (x .new) (x .newPlaces) (h .newPlaces) (h .new);
+      forms-short v limits (x .new) (x .newPlaces) (h .newPlaces) (marks .new) (h .new);
   done =
       names-short v limits (x .done) (h .done);
 }

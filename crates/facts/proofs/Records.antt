@@ -24,6 +24,7 @@ use Rattle.facts.specs.Forms.{allBelow, recordOf}
 use Rattle.facts.specs.Facts.{failed, factsOf, answered, readBy, readOf, jobRead}
 use Rattle.facts.specs.SheetRows.{sheetRows, filled, factsRecord}
 use Rattle.facts.specs.LinesOf.{formOf, linesOf, Wide, AllWide}
+use Rattle.facts.specs.Marks.{MarksTo}
 use Rattle.facts.specs.declared.Sheet.{Sheet}
 use Rattle.facts.proofs.RowsFold.{reads-facts, rows-facts, filled-steps}
 use Rattle.facts.proofs.Masks.{mask-members, members-mask, masked-below}
@@ -36,6 +37,7 @@ pub record-form : (s : Step) → Wide s → recordOf (formOf s) ≡ s
 unfolding recordOf formOf
 record-form s h = λ i. record {
   name = s .name;
+  cloth = s .cloth;
   ins = mask-members 64 (s .ins) (h .ins) i;
   outs = mask-members 64 (s .outs) (h .outs) i;
   reads = mask-members 32 (s .reads) (h .reads) i;
@@ -62,7 +64,7 @@ form-record v places f h fine =
     let outs = members-mask 64 (f .outs) (fine .outs .rises) (wider (f .outs) places 64 h (fine .outs .low)) in
     let reads = members-mask 32 (f .reads) (fine .reads .rises) (fine .reads .low) in
     let writes = members-mask 32 (f .writes) (fine .writes .rises) (fine .writes .low) in
-    λ i. record { name = f .name; ins = ins i; outs = outs i; reads = reads i; writes = writes i }
+    λ i. record { name = f .name; ins = ins i; outs = outs i; reads = reads i; writes = writes i; cloth = f .cloth }
 
 forms-records : (v : Version) (l : List Form) (places : ℕ) → places ≤ 64 → AllFine v places l
     → map formOf (map recordOf l) ≡ l
@@ -92,10 +94,11 @@ pub read-is : (v : Version) (s : List ℕ) (x : Lines) → parse v s ≡ Parsed.
 unfolding readBy answered
 read-is v s x e = ap (answered v (length s)) e
 
--- what is written of lines that a version's rows pass, it reads as their facts
-pub text-reads : {v : Version} → Limits v → (x : Lines) → Passes (sheetRows v x) → readBy v (text x) ≡ factsRecord x
-text-reads {v} limits x h =
-    read-is v (text x) x (complete v limits x (lines-short v limits x (lines-fine v x h))) ∙ rows-facts v x h
+-- what is written of lines that a version's rows pass and whose marks it allows, it reads as their facts
+pub text-reads : {v : Version} → Limits v → (x : Lines) → MarksTo (v .cloth) x → Passes (sheetRows v x)
+    → readBy v (text x) ≡ factsRecord x
+text-reads {v} limits x marks h =
+    read-is v (text x) x (complete v limits x (lines-short v limits x marks (lines-fine v x h))) ∙ rows-facts v x h
 
 -- ---- the records that reading gives pass the rows
 

@@ -1,8 +1,8 @@
 -- Versions compared: a row asks for the version only where it looks at a name, so lines whose names both allow have the
--- same rows in both. Assumes nothing.
+-- same rows in both; and their text has marks that both allow. Assumes nothing.
 use mathlib.Core.Path.{_≡_, refl, sym, ap, ap₂, _∙_, subst}
 use mathlib.Core.Logic.{_↔_}
-use mathlib.Core.Bool.{not}
+use mathlib.Core.Bool.{true, not}
 use mathlib.Core.List.{List, [], _∷_, _++_}
 use Prim.Native.Nat.{ℕ, _+_, _≤_}
 use native.Mathlib.Nat.{le-refl}
@@ -11,7 +11,7 @@ use lib.Dec.{eqb}
 use lib.ListN.{length}
 use Rattle.refusal.specs.Rows.{unless, first}
 use Rattle.refusal.specs.declared.Outcome.{Outcome}
-use Rattle.version.specs.Limits.{nameFits, Limits}
+use Rattle.version.specs.Limits.{nameFits, Limits, Wider}
 use Rattle.version.specs.declared.Version.{Version}
 use Rattle.version.proofs.Limits.{fits-iff}
 use Rattle.job.specs.Lines.{placesFit, doneRow, doneRows}
@@ -21,9 +21,10 @@ use Rattle.facts.specs.Forms.{formFits, formRow}
 use Rattle.facts.specs.Facts.{readBy, jobRead}
 use Rattle.facts.specs.LinesOf.{linesOf}
 use Rattle.facts.specs.Names.{Within, formNames, NamesTo}
+use Rattle.facts.specs.Marks.{Marks, MarksTo}
 use Rattle.facts.specs.SheetRows.{formRows, afterForms, routeFormRows, sheetRows, factsRecord}
 use Rattle.facts.specs.declared.Sheet.{Sheet}
-use Rattle.facts.proofs.PassingLines.{lines-fine, lines-named}
+use Rattle.facts.proofs.PassingLines.{lines-fine, lines-named, short-marks}
 use Rattle.facts.proofs.Records.{ReadAs, reads-as, text-reads, read-back}
 
 module _ (v w : Version) (g : ℕ) (in-v : g ≤ v .greatest) (in-w : g ≤ w .greatest) where
@@ -65,40 +66,58 @@ module _ (v w : Version) (g : ℕ) (in-v : g ≤ v .greatest) (in-w : g ≤ w .g
       ++ (route-same (afterForms 1 (x .old)) (x .newPlaces) (x .new) (h .new) i
       ++ dones-same (x .done) (afterForms (afterForms 1 (x .old)) (x .new) + 1) 0 (h .done) i)
 
-  -- lines that v reads with such names w reads as the same facts
+  -- lines that v reads with such names, and with marks that w allows, w reads as the same facts
   reads-same : Limits v → Limits w → (s : List ℕ) (r : ReadAs v s) → NamesTo g (r .lines)
-      → readBy w s ≡ factsRecord (r .lines)
-  reads-same limits limits′ s r h =
+      → MarksTo (w .cloth) (r .lines) → readBy w s ≡ factsRecord (r .lines)
+  reads-same limits limits′ s r h marks =
       ap (readBy w) (sound v limits s (r .lines) (r .parsed) .same)
-      ∙ text-reads limits′ (r .lines)
+      ∙ text-reads limits′ (r .lines) marks
       (ap (λ (rows : List Outcome). eqb (first rows .number) 0) (rows-same (r .lines) h) ∙ r .passes)
 
--- the names of the lines that a version reads
+-- the names and the marks of the lines that a version reads
 read-named : (v : Version) (s : List ℕ) (r : ReadAs v s) → NamesTo (v .greatest) (r .lines)
 read-named v s r = lines-named v (r .lines) (lines-fine v (r .lines) (r .passes))
 
-module _ {v w : Version} (wider : v .greatest ≤ w .greatest) (limits : Limits v) (limits′ : Limits w) (s : List ℕ) where
+read-marked : (v : Version) → Limits v → (s : List ℕ) (r : ReadAs v s) → MarksTo (v .cloth) (r .lines)
+read-marked v limits s r = short-marks v (r .lines) (sound v limits s (r .lines) (r .parsed) .short)
+
+module _ {v w : Version} (wider : Wider v w) where
+  forms-wider : (l : List Form) → Marks (v .cloth) l → Marks (w .cloth) l
+  forms-wider [] h = tt
+  forms-wider (f ∷ l) h = (λ e. wider .marks (h .0 e), forms-wider l (h .1))
+
+  marks-wider : (x : Lines) → MarksTo (v .cloth) x → MarksTo (w .cloth) x
+  marks-wider x h = record { old = forms-wider (x .old) (h .old); new = forms-wider (x .new) (h .new) }
+
+module _ {v w : Version} (wider : Wider v w) (limits : Limits v) (limits′ : Limits w) (s : List ℕ) where
   pub wider-reads : readBy v s .number ≡ 0 → readBy w s ≡ readBy v s
   wider-reads z = let r = reads-as v s z in
-      reads-same v w (v .greatest) (le-refl (v .greatest)) wider limits limits′ s r (read-named v s r) ∙ sym (r .facts)
+      reads-same v w (v .greatest) (le-refl (v .greatest)) (wider .names) limits limits′ s r (read-named v s r)
+      (marks-wider wider (r .lines) (read-marked v limits s r)) ∙ sym (r .facts)
 
-  -- a version reads what a wider one does, where no name is over its own greatest
+  -- a version reads what a wider one does, where no name is over its own greatest and no step has a mark that it lacks
   pub narrower-reads : (readBy v s .number ≡ 0)
-      ↔ ((readBy w s .number ≡ 0) × NamesTo (v .greatest) (linesOf (jobRead (readBy w s))))
+      ↔ ((readBy w s .number ≡ 0) × NamesTo (v .greatest) (linesOf (jobRead (readBy w s)))
+      × MarksTo (v .cloth) (linesOf (jobRead (readBy w s))))
   unfolding factsRecord
   narrower-reads = (to, from)
     where
+      Fits : Lines → Type 0
+      Fits x = NamesTo (v .greatest) x × MarksTo (v .cloth) x
+
       to : readBy v s .number ≡ 0 → (readBy w s .number ≡ 0) × NamesTo (v .greatest) (linesOf (jobRead (readBy w s)))
+          × MarksTo (v .cloth) (linesOf (jobRead (readBy w s)))
       to z =
           let same = wider-reads z in
-          let r = reads-as v s z in (
-            ap (λ (y : Sheet). y .number) same ∙ z,
-            subst (NamesTo (v .greatest)) (sym (ap (λ (y : Sheet). linesOf (jobRead y)) same ∙ read-back v s r))
-                (read-named v s r),
-          )
+          let r = reads-as v s z in
+          let (names, marks) = subst Fits (sym (ap (λ (y : Sheet). linesOf (jobRead y)) same ∙ read-back v s r))
+          (read-named v s r, read-marked v limits s r) in
+          (ap (λ (y : Sheet). y .number) same ∙ z, names, marks)
 
-      from : (readBy w s .number ≡ 0) × NamesTo (v .greatest) (linesOf (jobRead (readBy w s))) → readBy v s .number ≡ 0
-      from (z, h) =
+      from : (readBy w s .number ≡ 0) × NamesTo (v .greatest) (linesOf (jobRead (readBy w s)))
+          × MarksTo (v .cloth) (linesOf (jobRead (readBy w s))) → readBy v s .number ≡ 0
+      from (z, names, marks) =
           let r = reads-as w s z in
-          ap (λ (y : Sheet). y .number) (reads-same w v (v .greatest) wider (le-refl (v .greatest)) limits′ limits s r
-          (subst (NamesTo (v .greatest)) (read-back w s r) h))
+          let (n, m) = subst Fits (read-back w s r) (names, marks) in
+          ap (λ (y : Sheet). y .number) (reads-same w v (v .greatest) (wider .names) (le-refl (v .greatest)) limits′
+          limits s r n m)

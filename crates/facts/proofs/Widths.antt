@@ -36,6 +36,7 @@ form-same s = λ i. record {
   outs = members 64 (s .outs);
   reads = members-cut 32 (s .reads) i;
   writes = members-cut 32 (s .writes) i;
+  cloth = s .cloth;
 }
 
 forms-same : (l : List Step) → map formOf (map asRecord l) ≡ map formOf l
@@ -139,6 +140,7 @@ step-own : (s : Step) → Wide s → asRecord s ≡ s
 unfolding asRecord
 step-own s w = λ i. record {
   name = s .name;
+  cloth = s .cloth;
   ins = s .ins;
   outs = s .outs;
   reads = cut-same (s .reads) 32 (w .reads) i;

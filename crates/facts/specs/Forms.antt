@@ -54,10 +54,11 @@ unfoldable pub masked : ℕ → ℕ → List ℕ → ℕ
 masked w m [] = m
 masked w m (v ∷ l) = masked w (bitOr m (cond (ltb v w) (bit v) 0)) l
 
--- "with the lists as bit masks, place p at bit p"
+-- "with the lists as bit masks, place p at bit p", and the mark
 unfoldable pub recordOf : Form → Step
 recordOf f = record {
   name = f .name;
+  cloth = f .cloth;
   ins = masked 64 0 (f .ins);
   outs = masked 64 0 (f .outs);
   reads = masked 32 0 (f .reads);

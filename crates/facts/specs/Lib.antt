@@ -5,3 +5,4 @@ pub mod JobPart
 pub mod SheetRows
 pub mod LinesOf
 pub mod Names
+pub mod Marks

@@ -1,4 +1,4 @@
--- The lines of records: each mask's entries rise.
+-- The lines of records: each mask's entries rise, and a step has its mark.
 use mathlib.Core.List.{List, [], _∷_, map}
 use Prim.Native.Nat.{_<_, _^_}
 use lib.Bits.{bitAnd}
@@ -14,6 +14,7 @@ formOf s = record {
   outs = members 64 (s .outs);
   reads = members 32 (s .reads);
   writes = members 32 (s .writes);
+  cloth = s .cloth;
 }
 
 unfoldable pub linesOf : Job → Lines
@@ -42,6 +43,7 @@ AllWide (s ∷ l) = Wide s × AllWide l
 unfoldable pub asRecord : Step → Step
 asRecord s = record {
   name = s .name;
+  cloth = s .cloth;
   ins = s .ins;
   outs = s .outs;
   reads = bitAnd (s .reads) (below 32);

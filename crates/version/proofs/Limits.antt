@@ -8,7 +8,7 @@ use native.Mathlib.Omega.{arith}
 use lib.Dec.{leb, lit<, lit≤}
 use borrow.Author.Tests.{leb-true, le-leb}
 use Rattle.mask.proofs.Truth.{both}
-use Rattle.version.specs.Limits.{scope, present, nameFits, Limits}
+use Rattle.version.specs.Limits.{scope, present, nameFits, Limits, Wider}
 use Rattle.version.specs.declared.Version.{Version}
 use Rattle.version.proofs.Tens.{tens-mono}
 
@@ -17,6 +17,9 @@ scope-limits = record { two = lit≤ tt; ten = lit≤ tt; written = lit< tt; sto
 
 pub present-limits : Limits present
 present-limits = record { two = lit≤ tt; ten = lit≤ tt; written = lit< tt; stored = lit< tt }
+
+pub scope-present : Wider scope present
+scope-present = record { names = lit≤ tt; marks = λ e. refl }
 
 -- a name is 1 to the greatest
 pub fits-iff : (v : Version) (n : ℕ) → (nameFits v n ≡ true) ↔ ((1 ≤ n) × (n ≤ v .greatest))

@@ -1,4 +1,5 @@
 -- The limits of a version: 01's values, the present ones, and what every version keeps to.
+use mathlib.Core.Path.{_≡_}
 use mathlib.Core.Bool.{Bool, true, false, _&&_}
 use Prim.Native.Nat.{ℕ, _^_, _≤_, _<_}
 use lib.Dec.{leb}
@@ -24,3 +25,8 @@ pub record Limits (v : Version) : Type 0 where
   pub ten : v .digits ≤ 10
   pub written : v .greatest < 10 ^ v .digits
   pub stored : v .greatest < 2 ^ 32
+
+-- the version w allows every name and every mark that v allows
+pub record Wider (v w : Version) : Type 0 where
+  pub names : v .greatest ≤ w .greatest
+  pub marks : v .cloth ≡ true → w .cloth ≡ true
