@@ -134,6 +134,7 @@ module _ (r : StepLine) (f : Form) (h : IsForm r f) where
   pub step-form : (v : Version) (places : ℕ) → Limits v → places ≤ 64 → formFits v places f ≡ true
       → record {
         name = r .name % 4294967296;
+        cloth = r .cloth;
         ins = r .ins .mask;
         outs = r .outs .mask;
         reads = r .reads .mask % 4294967296;
@@ -152,6 +153,7 @@ module _ (r : StepLine) (f : Form) (h : IsForm r f) where
       omega (arith, name-stored v limits (f .name) (and-left (nameFits v (f .name)) _ fits), h .name) in
       λ j. record {
         name = name j;
+        cloth = h .cloth j;
         ins = (ap (λ (e : Entries). e .mask) (h .ins) ∙ ins) j;
         outs = (ap (λ (e : Entries). e .mask) (h .outs) ∙ outs) j;
         reads = (ap (λ (e : Entries). e .mask % 4294967296) (h .reads) ∙ reads) j;

@@ -1,7 +1,7 @@
 -- The texts of the lines lead from point to point.
 -- Assumes nothing.
-use mathlib.Core.Path.{_≡_, refl, sym, ap, _∙_}
-use mathlib.Core.Bool.{Bool, true, false, cond, false≢true}
+use mathlib.Core.Path.{_≡_, refl, sym, ap, _∙_, subst}
+use mathlib.Core.Bool.{Bool, true, false, cond, _&&_, false≢true}
 use mathlib.Core.List.{List, [], _∷_}
 use Prim.Native.Nat.{ℕ, zero, suc, _+_, _-_, _≤_, _<_}
 use native.Mathlib.Omega.{arith}
@@ -14,7 +14,7 @@ use Rattle.layout.specs.Text.{Lines}
 use Rattle.layout.specs.Points.{digit, alive, next, expect, chosen, spelt, more, ended, closed, pastWord}
 use Rattle.layout.specs.Parse.{Line, noLine, stored, took, keep, putLine, atEnd}
 use Rattle.layout.specs.declared.Word.{Word}
-use Rattle.layout.specs.declared.Word.the-variants.{Old, New, Job, Done, Step, In, Out, Read, Write}
+use Rattle.layout.specs.declared.Word.the-variants.{Old, New, Job, Done, Step, In, Out, Read, Write, Cloth}
 use Rattle.layout.specs.declared.Part.{Part}
 use Rattle.layout.specs.declared.Part.the-variants.{OldRoute, NewRoute, JobPart}
 use Rattle.layout.specs.declared.Point.{Point}
@@ -36,14 +36,18 @@ neither : (b c d : ℕ) (p q : Point) → (b ≡ c → ⊥) → (b ≡ d → ⊥
 neither b c d p q far further = ap (λ (x : Bool). cond x p (cond (eqb b d) q Stuck)) (ne-eqb b c far)
     ∙ other b d q further
 
--- no letter past the end
+-- no letter and no space past the end
+past : (l : List ℕ) (k : ℕ) → length l ≤ k → getD l k 0 ≡ 0
+past [] k r = refl
+past (x ∷ l) zero r = absurd (omega (arith, r))
+past (x ∷ l) (suc k) r = past l k (omega (arith, r))
+
 pub no-letter : (s : List ℕ) (i : ℕ) → length s - i < 2 → false ≡ eqb (getD s (i + 1) 0) 115
 no-letter s i h = sym (ne-eqb (getD s (i + 1) 0) 115 (λ e. omega (arith, e, past s (i + 1) (omega (arith, h)))))
-  where
-    past : (l : List ℕ) (k : ℕ) → length l ≤ k → getD l k 0 ≡ 0
-    past [] k r = refl
-    past (x ∷ l) zero r = absurd (omega (arith, r))
-    past (x ∷ l) (suc k) r = past l k (omega (arith, r))
+
+pub no-space : (s : List ℕ) (i : ℕ) (may : Bool) → length s ≤ i → false ≡ (eqb (getD s i 0) 32 && may)
+no-space s i may h =
+    ap (λ (x : Bool). x && may) (sym (ne-eqb (getD s i 0) 32 (λ e. omega (arith, e, past s i h))))
 
 -- one byte of a text: the layout has it there, no other, and doesn't end there; and what follows
 byte : {A B C D : Type 0} → A → B → C → D → A × (B × (C × D))
@@ -120,6 +124,7 @@ end-spells v s i In q c t h = absurd (false≢true h)
 end-spells v s i Out q c t h = absurd (false≢true h)
 end-spells v s i Read q c t h = absurd (false≢true h)
 end-spells v s i Write q c t h = absurd (false≢true h)
+end-spells v s i Cloth q c t h = absurd (false≢true h)
 
 -- ---- a step's line
 
@@ -190,10 +195,48 @@ write-spells v s i q c t =
     byte refl (λ far. other _ 101 _ far) (λ _. refl) (λ is.
     (refl, (refl, refl)))))))))
 
+-- past the last list, where no mark stands
 pub write-end-spells : (v : Version) (s : List ℕ) (i : ℕ) (q : Part) (c : Line) (t : Lines)
+    → (eqb (getD s i 0) 32 && v .cloth) ≡ false
     → Spells v s i (Closed Write q) c t (41 ∷ 10 ∷ []) (Open q) noLine (putLine Write q c t)
 unfolding Spells next expect alive took keep atEnd closed
-write-end-spells v s i q c t =
+write-end-spells v s i q c t none =
+    byte refl (λ far. ap (λ (x : Bool). cond x (Gap Cloth q) (expect (getD s i 0) 41 (Lf Write q))) none
+    ∙ other _ 41 _ far) (λ _. refl) (λ is.
+    byte refl (λ far. other _ 10 _ far) (λ _. refl) (λ is.
+    (refl, (refl, refl))))
+
+-- and where one does: from its bracket, and from the space
+bracket-spells : (v : Version) (s : List ℕ) (i : ℕ) (q : Part) (c : Line) (t : Lines)
+    → Spells v s i (Gap Cloth q) c t (40 ∷ 99 ∷ 108 ∷ 111 ∷ 116 ∷ 104 ∷ 41 ∷ []) (Closed Cloth q) c t
+unfolding Spells next expect alive took keep atEnd spelt spelling pastWord
+bracket-spells v s i q c t =
+    byte refl (λ far. other _ 40 _ far) (λ _. refl) (λ is.
+    byte refl (λ far. other _ 99 _ far) (λ _. refl) (λ is.
+    byte refl (λ far. other _ 108 _ far) (λ _. refl) (λ is.
+    byte refl (λ far. other _ 111 _ far) (λ _. refl) (λ is.
+    byte refl (λ far. other _ 116 _ far) (λ _. refl) (λ is.
+    byte refl (λ far. other _ 104 _ far) (λ _. refl) (λ is.
+    byte refl (λ far. other _ 41 _ far) (λ _. refl) (λ is.
+    (refl, (refl, refl)))))))))
+
+space-on : (v : Version) (q : Part) → v .cloth ≡ true → Gap Cloth q ≡ next v (Closed Write q) 32
+unfolding next closed
+space-on v q has = ap (λ (x : Bool). cond x (Gap Cloth q) (expect 32 41 (Lf Write q))) (sym has)
+
+pub cloth-spells : (v : Version) (s : List ℕ) (i : ℕ) (q : Part) (c : Line) (t : Lines) → getD s i 0 ≡ 32
+    → v .cloth ≡ true
+    → Spells v s i (Closed Write q) c t (32 ∷ 40 ∷ 99 ∷ 108 ∷ 111 ∷ 116 ∷ 104 ∷ 41 ∷ []) (Closed Cloth q) c t
+unfolding Spells took keep atEnd
+cloth-spells v s i q c t space has =
+    byte (ap alive (sym (space-on v q has)) ∙ (unfold alive in refl)) (λ far. absurd (far space)) (λ _. refl) (λ is.
+    subst (λ (p : Point). Spells v s (i + 1) p c t (40 ∷ 99 ∷ 108 ∷ 111 ∷ 116 ∷ 104 ∷ 41 ∷ []) (Closed Cloth q) c t)
+    (space-on v q has) (bracket-spells v s (i + 1) q c t))
+
+pub cloth-end-spells : (v : Version) (s : List ℕ) (i : ℕ) (q : Part) (c : Line) (t : Lines)
+    → Spells v s i (Closed Cloth q) c t (41 ∷ 10 ∷ []) (Open q) noLine (putLine Cloth q c t)
+unfolding Spells next expect alive took keep atEnd closed
+cloth-end-spells v s i q c t =
     byte refl (λ far. other _ 41 _ far) (λ _. refl) (λ is.
     byte refl (λ far. other _ 10 _ far) (λ _. refl) (λ is.
     (refl, (refl, refl))))

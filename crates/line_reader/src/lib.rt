@@ -4,7 +4,15 @@ use tokens::Entries;
 pub mod reading;
 pub mod rows;
 
-// A step's line: how far reading came and whether the layout holds to there, the name, and what is kept of its lists.
+// The end of a step's line: how far reading came, whether the layout holds to there, and whether the mark stood.
+pub struct Ending {
+    pub at: usize,
+    pub ok: bool,
+    pub cloth: bool,
+}
+
+// A step's line: how far reading came and whether the layout holds to there, the name, what is kept of its lists, and
+// whether it is marked.
 pub struct StepLine {
     pub at: usize,
     pub ok: bool,
@@ -13,4 +21,5 @@ pub struct StepLine {
     pub outs: Entries,
     pub reads: Entries,
     pub writes: Entries,
+    pub cloth: bool,
 }

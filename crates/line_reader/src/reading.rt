@@ -1,4 +1,5 @@
 // The lines, each made of its tokens.
+use crate::Ending;
 use crate::StepLine;
 use tokens::Numeral;
 use tokens::lists::list;
@@ -7,11 +8,12 @@ use tokens::texts;
 use tokens::texts::text;
 use version::Version;
 ghost use mathlib.Core.Path.{_≡_};
+ghost use mathlib.Core.Bool.{_&&_};
 ghost use Prim.Native.Nat.{_+_, _≤_};
 ghost use lib.Dec.{eqb};
 ghost use lib.ListN.{length, getD};
 ghost use Rattle.version.specs.Limits.{Limits};
-ghost use Rattle.line_reader.specs.inner.Lines.{NumberedOn, StepOn};
+ghost use Rattle.line_reader.specs.inner.Lines.{NumberedOn, EndingOn, StepOn};
 
 // A line of one word and one number: its first text, the number, and the end.
 pub fn numbered(v: Version, s: &[u8], from: usize, w: &[u8]) -> Numeral
@@ -42,6 +44,40 @@ pub fn stepping(s: &[u8], from: usize) -> bool
     s[from + 1] == w[1]
 }
 
+// Past the last list: a space, which only the mark begins with, in a version that has it.
+fn marked(v: Version, s: &[u8], at: usize) -> bool
+    ensures { λ r. ⌜ r ≡ (eqb (getD (now (s .entry)) at 0) 32 && v .cloth) ⌝ }
+{
+    if s.len() <= at {
+        return false;
+    }
+    s[at] == b' ' && v.cloth
+}
+
+// Past the last list: the mark, where it stands, and the end.
+fn line_end(v: Version, s: &[u8], from: usize, ok: bool) -> Ending
+    requires { ⌜ from ≤ length (now s) ⌝ }
+    ensures { λ r. ⌜ EndingOn v (now (s .entry)) from ok r ⌝ }
+{
+    let end = texts::END;
+    if marked(v, s, from) {
+        let cloth = texts::CLOTH;
+        let m = text(s, from, ok, &cloth);
+        let e = text(s, m.at, m.ok, &end);
+        return Ending {
+            at: e.at,
+            ok: e.ok,
+            cloth: true,
+        };
+    }
+    let e = text(s, from, ok, &end);
+    Ending {
+        at: e.at,
+        ok: e.ok,
+        cloth: false,
+    }
+}
+
 pub fn step(v: Version, s: &[u8], from: usize) -> StepLine
     requires { ⌜ Limits v ⌝ }
     requires { ⌜ from ≤ length (now s) ⌝ }
@@ -52,7 +88,6 @@ pub fn step(v: Version, s: &[u8], from: usize) -> StepLine
     let out = texts::OUT;
     let read = texts::READ;
     let write = texts::WRITE;
-    let end = texts::END;
     let a = text(s, from, true, &step);
     let n = number(v, s, a.at, a.ok);
     let b = text(s, n.at, n.ok, &inn);
@@ -63,7 +98,7 @@ pub fn step(v: Version, s: &[u8], from: usize) -> StepLine
     let r = list(v, s, d.at, d.ok);
     let e = text(s, r.at, r.ok, &write);
     let w = list(v, s, e.at, e.ok);
-    let f = text(s, w.at, w.ok, &end);
+    let f = line_end(v, s, w.at, w.ok);
     let ins = i.entries;
     let outs = o.entries;
     let reads = r.entries;
@@ -76,5 +111,6 @@ pub fn step(v: Version, s: &[u8], from: usize) -> StepLine
         outs,
         reads,
         writes,
+        cloth: f.cloth,
     }
 }

@@ -137,5 +137,12 @@ pub fn step_of(l: StepLine) -> Step
     ensures { λ r. ⌜ ((v : Version) (f : Form) (places : ℕ) → Limits v → IsForm l f → places ≤ 64
         → formFits v places f ≡ true → r ≡ recordOf f) ⌝ }
 {
-    Step::of(l.name, l.ins.mask, l.outs.mask, l.reads.mask, l.writes.mask)
+    Step::of(
+        l.name,
+        l.cloth,
+        l.ins.mask,
+        l.outs.mask,
+        l.reads.mask,
+        l.writes.mask,
+    )
 }

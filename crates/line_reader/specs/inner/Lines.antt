@@ -8,16 +8,17 @@ use lib.ListN.{length, getD}
 use Rattle.version.specs.Limits.{nameFits}
 use Rattle.version.specs.declared.Version.{Version}
 use Rattle.layout.specs.Text.{Form, Lines}
-use Rattle.layout.specs.Parse.{Line, noLine, withNum, stored, putStep, putLine}
+use Rattle.layout.specs.Parse.{Line, noLine, withNum, stored, formOf, putStep, putLine}
 use Rattle.layout.specs.declared.Word.{Word}
-use Rattle.layout.specs.declared.Word.the-variants.{Old, New, Job, Done, Step, In, Out, Read, Write}
+use Rattle.layout.specs.declared.Word.the-variants.{Old, New, Job, Done, Step, In, Out, Read, Write, Cloth}
 use Rattle.layout.specs.declared.Part.{Part}
 use Rattle.layout.specs.declared.Part.the-variants.{OldRoute, NewRoute, JobPart}
 use Rattle.layout.specs.declared.Point.{Point}
-use Rattle.layout.specs.declared.Point.the-variants.{Open, Digit}
+use Rattle.layout.specs.declared.Point.the-variants.{Open, Digit, Closed}
 use Rattle.tokens.specs.inner.Tokens.{Reading, Reached, Spells, noEntries, along}
 use Rattle.tokens.specs.declared.Numeral.{Numeral}
 use Rattle.tokens.specs.declared.Entries.{Entries}
+use Rattle.line_reader.specs.declared.Ending.{Ending}
 use Rattle.line_reader.specs.declared.StepLine.{StepLine}
 
 -- the words of a line that one number ends
@@ -31,6 +32,7 @@ headWord In = false
 headWord Out = false
 headWord Read = false
 headWord Write = false
+headWord Cloth = false
 
 pub record NumberedOn (v : Version) (s : List ℕ) (from : ℕ) (w : List ℕ) (r : Numeral) : Type 0 where
   pub past : r .ok ≡ true → from < r .at
@@ -39,6 +41,13 @@ pub record NumberedOn (v : Version) (s : List ℕ) (from : ℕ) (w : List ℕ) (
       → Spells v s from p c t w (Digit x q) c t → Reading v s from p c t
       → Reached v s (r .at) (r .ok) (Open q) noLine (putLine x q (stored x (withNum (r .value) c)) t)
 
+-- from past the last list of a step's line to the next line: the form is marked where the mark stood
+pub record EndingOn (v : Version) (s : List ℕ) (from : ℕ) (ok : Bool) (r : Ending) : Type 0 where
+  pub past : r .ok ≡ true → from < r .at
+  pub within : r .at ≤ length s
+  pub goes : (q : Part) (c : Line) (t : Lines) → Reached v s from ok (Closed Write q) c t
+      → Reached v s (r .at) (r .ok) (Open q) noLine (putStep q (formOf (r .cloth) c) t)
+
 -- what is kept of a step's line is that of its form
 pub record IsForm (r : StepLine) (f : Form) : Type 0 where
   pub name : r .name ≡ f .name
@@ -46,6 +55,7 @@ pub record IsForm (r : StepLine) (f : Form) : Type 0 where
   pub outs : r .outs ≡ along noEntries (f .outs)
   pub reads : r .reads ≡ along noEntries (f .reads)
   pub writes : r .writes ≡ along noEntries (f .writes)
+  pub cloth : r .cloth ≡ f .cloth
 
 -- the parts that have steps
 unfoldable pub hasSteps : Part → Bool

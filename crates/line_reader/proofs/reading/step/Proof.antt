@@ -19,7 +19,7 @@ list-requires-4 c κs =
 
 returns : tie.Need-returns
 returns c =
-    let at-end : tie.After-text6 = search in
+    let at-end : tie.After-line-end = search in
     let at-write : tie.After-list4 = search in
     let at-read : tie.After-list3 = search in
     let at-out : tie.After-list2 = search in
@@ -29,10 +29,10 @@ returns c =
     (at-in .before .text2 .ensures) (at-in .list .ensures)
     (at-out .before .text3 .ensures) (at-out .list2 .ensures) (at-read .before .text4 .ensures)
     (at-read .list3 .ensures)
-    (at-write .before .text5 .ensures) (at-write .list4 .ensures) (at-end .text6 .ensures)
+    (at-write .before .text5 .ensures) (at-write .list4 .ensures) (at-end .«line-end» .ensures)
 
 pub step-spec : {M : Type 1} → statement M
 step-spec = tie.close (tie.spec (λ c. search needs) (λ c κs. search needs) (λ c κs. search needs) (λ c. search needs)
     (λ c κs. search needs) (λ c κs. search needs) (λ c. search needs) (λ c κs. search needs) (λ c κs. search needs)
     (λ c. search needs) (λ c κs. search needs) list-requires-3 (λ c. search needs) (λ c κs. search needs)
-    list-requires-4 (λ c. search needs) (λ c κs. search needs) returns)
+    list-requires-4 (λ c κs. search needs) returns)
