@@ -1,17 +1,19 @@
 -- The texts of a sheet in the parts that calls write, and the room that each call has.
 -- Assumes nothing.
 use mathlib.Core.Path.{_≡_, refl, sym, ap, ap₂, _∙_}
+use mathlib.Core.Bool.{Bool, true, false}
 use mathlib.Core.List.{List, [], _∷_, _++_, append-nil, map}
 use Prim.Native.Nat.{ℕ, _+_, _^_, _<_}
 use Rattle.mask.specs.Mask.{members}
-use Rattle.mask.proofs.FromLowest.{members-narrow}
+use Rattle.mask.proofs.FromLowest.{members-none, members-narrow}
 use Rattle.emit.specs.Numbers.{decimal, entry, over}
 use Rattle.emit.proofs.Chains.{parts, First, Second, Third, Fourth, Two, Three, Four, first-room, second-room}
-use Rattle.emit.proofs.Chains.{third-room, fourth-room, two-emits, three-emits, four-emits}
+use Rattle.emit.specs.Emit.{Emits}
+use Rattle.emit.proofs.Chains.{third-room, fourth-room, two-emits, three-emits, four-emits, emits-as}
 use Rattle.emit.proofs.Over.{from-zero}
 use Rattle.route.specs.declared.Step.{Step}
 use Rattle.layout.specs.Words.{spelling}
-use Rattle.layout.specs.Text.{listed, stepLine, wordLine, jobLine, stepLines, doneLines, jobText}
+use Rattle.layout.specs.Text.{entries, listed, marked, stepLine, wordLine, jobLine, stepLines, doneLines, jobText}
 use Rattle.layout.specs.declared.Word.{Word}
 use Rattle.layout.specs.declared.Word.the-variants as W
 use Rattle.facts.specs.LinesOf.{formOf}
@@ -63,6 +65,36 @@ module _ (w : Word) (m : ℕ) where
   pub list-whole : Four (listed w (members 64 m) []) (32 ∷ []) (opening w) numbers (41 ∷ [])
   list-whole = four-emits _ _ _ _ _ list-parts
 
+-- the end of a step's line, with the mark and without
+module _ (m : Bool) where
+  abbrev mark : List ℕ
+  mark = listed W.Cloth (members 64 0) []
+
+  marked-parts : m ≡ true → marked m closing ≡ parts (mark ∷ closing ∷ [])
+  unfolding marked listed entries spelling parts
+  marked-parts e = ap (λ (x : Bool). marked x closing) e
+      ∙ ap (λ (l : List ℕ). listed W.Cloth l [] ++ closing) (sym (members-none 64))
+
+  unmarked : m ≡ false → marked m closing ≡ closing
+  unfolding marked
+  unmarked e = ap (λ (x : Bool). marked x closing) e
+
+  pub marked-first : m ≡ true → First (marked m closing) mark
+  marked-first e = first-room _ _ _ (marked-parts e)
+
+  pub marked-second : m ≡ true → Second (marked m closing) mark closing
+  marked-second e = second-room _ _ _ _ (marked-parts e)
+
+  pub marked-whole : m ≡ true → Two (marked m closing) mark closing
+  marked-whole e = two-emits _ _ _ (marked-parts e)
+
+  pub unmarked-room : m ≡ false → First (marked m closing) closing
+  unfolding parts
+  unmarked-room e = first-room _ _ [] (unmarked e)
+
+  pub unmarked-whole : m ≡ false → (o p : List ℕ) (n k : ℕ) → Emits closing o n p k → Emits (marked m closing) o n p k
+  unmarked-whole e o p n k w = emits-as (unmarked e) w
+
 -- a step
 module _ (s : Step) where
   -- its lists; a mask of 32 bits has no member from 32 on
@@ -99,12 +131,16 @@ module _ (s : Step) where
         (list W.Write (s .writes))
     four-whole = four-emits _ _ _ _ _ four-parts
 
-  step-parts : stepLine (formOf s) [] ≡ parts (opening W.Step ∷ entry (s .name) ∷ lists (formOf s) [] ∷ closing ∷ [])
+  abbrev ending : List ℕ
+  ending = marked (s .cloth) closing
+
+  step-parts : stepLine (formOf s) [] ≡ parts (opening W.Step ∷ entry (s .name) ∷ lists (formOf s) [] ∷ ending ∷ [])
   unfolding stepLine formOf entry parts
   step-parts =
       ap (λ (t : List ℕ). 40 ∷ (spelling W.Step ++ (32 ∷ t)))
-      (number-is (s .name) (lists (formOf s) closing)
-      ∙ ap (λ (t : List ℕ). decimal (s .name) ++ t) (lists-front (formOf s) closing))
+      (number-is (s .name) (lists (formOf s) ending)
+      ∙ ap (λ (t : List ℕ). decimal (s .name) ++ t) (lists-front (formOf s) ending
+      ∙ ap (λ (t : List ℕ). lists (formOf s) [] ++ t) (sym (append-nil ending))))
 
   pub step-first : First (stepLine (formOf s) []) (opening W.Step)
   step-first = first-room _ _ _ step-parts
@@ -115,10 +151,10 @@ module _ (s : Step) where
   pub step-third : Third (stepLine (formOf s) []) (opening W.Step) (entry (s .name)) (lists (formOf s) [])
   step-third = third-room _ _ _ _ _ step-parts
 
-  pub step-fourth : Fourth (stepLine (formOf s) []) (opening W.Step) (entry (s .name)) (lists (formOf s) []) closing
+  pub step-fourth : Fourth (stepLine (formOf s) []) (opening W.Step) (entry (s .name)) (lists (formOf s) []) ending
   step-fourth = fourth-room _ _ _ _ _ _ step-parts
 
-  pub step-whole : Four (stepLine (formOf s) []) (opening W.Step) (entry (s .name)) (lists (formOf s) []) closing
+  pub step-whole : Four (stepLine (formOf s) []) (opening W.Step) (entry (s .name)) (lists (formOf s) []) ending
   step-whole = four-emits _ _ _ _ _ step-parts
 
 -- a head, and a done line

@@ -1,7 +1,7 @@
 -- Each text of a sheet stands in front of what follows; its numbers are those that an emitter writes.
 -- Assumes nothing.
 use mathlib.Core.Path.{_≡_, refl, sym, ap, _∙_}
-use mathlib.Core.Bool.{Bool, cond}
+use mathlib.Core.Bool.{Bool, true, false, cond}
 use mathlib.Core.List.{List, [], _∷_, _++_, append-assoc, append-nil, map}
 use Prim.Native.Nat.{ℕ, zero, suc, _+_, _/_, _%_}
 use lib.Dec.{ltb}
@@ -10,7 +10,7 @@ use Rattle.emit.specs.Numbers.{decimal, entry, over}
 use Rattle.emit.specs.Numbers as N
 use Rattle.route.specs.declared.Step.{Step}
 use Rattle.layout.specs.Words.{spelling}
-use Rattle.layout.specs.Text.{Form, digits, number, entries, listed, stepLine, wordLine, stepLines}
+use Rattle.layout.specs.Text.{Form, digits, number, entries, listed, marked, stepLine, wordLine, stepLines}
 use Rattle.layout.specs.declared.Word.{Word}
 use Rattle.layout.specs.declared.Word.the-variants.{In, Out, Read, Write}
 use Rattle.layout.specs.declared.Word.the-variants as W
@@ -74,14 +74,21 @@ lists-front f =
     (front-then (listed Read (f .reads)) (listed Write (f .writes)) (listed-front Read (f .reads))
     (listed-front Write (f .writes))))
 
+marked-front : (m : Bool) → Front (marked m)
+unfolding marked spelling
+marked-front true s = refl
+marked-front false s = refl
+
 pub step-front : (f : Form) → Front (stepLine f)
 unfolding stepLine
 step-front f =
-    front-then (λ s. 40 ∷ (spelling W.Step ++ s)) (λ s. 32 ∷ number (f .name) (lists f (41 ∷ 10 ∷ s)))
+    front-then (λ s. 40 ∷ (spelling W.Step ++ s))
+    (λ s. 32 ∷ number (f .name) (lists f (marked (f .cloth) (41 ∷ 10 ∷ s))))
     (front-text (40 ∷ spelling W.Step))
-    (front-then (λ s. 32 ∷ s) (λ s. number (f .name) (lists f (41 ∷ 10 ∷ s))) (λ s. refl)
-    (front-then (number (f .name)) (λ s. lists f (41 ∷ 10 ∷ s)) (number-front (f .name))
-    (front-then (lists f) (λ s. 41 ∷ 10 ∷ s) (lists-front f) (λ s. refl))))
+    (front-then (λ s. 32 ∷ s) (λ s. number (f .name) (lists f (marked (f .cloth) (41 ∷ 10 ∷ s)))) (λ s. refl)
+    (front-then (number (f .name)) (λ s. lists f (marked (f .cloth) (41 ∷ 10 ∷ s))) (number-front (f .name))
+    (front-then (lists f) (λ s. marked (f .cloth) (41 ∷ 10 ∷ s)) (lists-front f)
+    (front-then (marked (f .cloth)) (λ s. 41 ∷ 10 ∷ s) (marked-front (f .cloth)) (λ s. refl)))))
 
 pub word-front : (w : Word) (n : ℕ) → Front (wordLine w n)
 unfolding wordLine

@@ -9,7 +9,7 @@ ghost use Rattle.mask.specs.Mask.{members};
 ghost use Rattle.emit.specs.Emit.{Room, Emits};
 ghost use Rattle.flat.specs.Flat.{stepsIn};
 ghost use Rattle.layout.specs.Words.{spelling};
-ghost use Rattle.layout.specs.Text.{listed, stepLine, stepLines, wordLine, doneLines, jobText};
+ghost use Rattle.layout.specs.Text.{listed, marked, stepLine, stepLines, wordLine, doneLines, jobText};
 ghost use Rattle.facts.specs.LinesOf.{formOf};
 ghost use Rattle.sheet_lines.specs.inner.Parts.{opening, closing, lists, routeText};
 
@@ -65,6 +65,18 @@ fn four(out: &mut [u8], at: usize, s: Step) -> usize
     list(out, c, Word::Write, s.writes as u64)
 }
 
+// The mark, where the step has it, which is written as a list with no entry; and the end.
+fn ended(out: &mut [u8], at: usize, cloth: bool) -> usize
+    requires { ⌜ Room (marked cloth closing) (now out) at ⌝ }
+    ensures { λ r. ⌜ Emits (marked cloth closing) (now (out .entry)) at (now (out .exit)) r ⌝ }
+{
+    if cloth {
+        let p = list(out, at, Word::Cloth, 0);
+        return closed(out, p);
+    }
+    closed(out, at)
+}
+
 fn step_line(out: &mut [u8], at: usize, s: Step) -> usize
     requires { ⌜ Room (stepLine (formOf s) []) (now out) at ⌝ }
     ensures { λ r. ⌜ Emits (stepLine (formOf s) []) (now (out .entry)) at (now (out .exit)) r ⌝ }
@@ -72,7 +84,7 @@ fn step_line(out: &mut [u8], at: usize, s: Step) -> usize
     let a = opened(out, at, Word::Step);
     let b = entry(out, a, s.name as u64);
     let c = four(out, b, s);
-    closed(out, c)
+    ended(out, c, s.cloth)
 }
 
 fn word_line(out: &mut [u8], at: usize, w: Word, n: u64) -> usize

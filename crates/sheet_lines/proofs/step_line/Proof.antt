@@ -13,12 +13,12 @@ entry-requires c κs = search (needs, step-second)
 four-requires : tie.Need-four-requires
 four-requires c κs = search (needs, step-third)
 
-closed-requires : tie.Need-closed-requires
-closed-requires c κs = search (needs, step-fourth)
+ended-requires : tie.Need-ended-requires
+ended-requires c κs = search (needs, step-fourth)
 
 returns : tie.Need-returns
 returns c = search (needs, step-whole)
 
 pub step-line-spec : {M : Type 1} → statement M
-step-line-spec = tie.close (tie.spec opened-requires (λ c. search needs) entry-requires four-requires closed-requires
+step-line-spec = tie.close (tie.spec opened-requires (λ c. search needs) entry-requires four-requires ended-requires
     (λ c. search needs) returns)
