@@ -2,7 +2,7 @@
 -- step holds at every position and no law here asks for a bound. The laws on `liveAt` are all that the proofs above
 -- this one need.
 use mathlib.Core.Path.{_≡_, refl, sym, ap, ap₂, _∙_}
-use mathlib.Core.Logic.{_⊎_, inl, inr}
+use mathlib.Core.Logic.{_⊎_, inl, inr, ⊎-elim}
 use mathlib.Core.Bool.{Bool, true, false, not, cond, _&&_, _||_, or-false, or-true, and-true, and-false}
 use mathlib.Core.List.{List, [], _∷_}
 use Prim.Native.Nat.{ℕ, zero, suc, _≤_, _<_}
@@ -14,34 +14,50 @@ use lib.Seq.{drop-cons}
 use lib.Bits.{bitOr}
 use borrow.Author.Tests.{eq-eqb, ne-eqb}
 use Rattle.mask.specs.Mask.{has, bit, without, meets}
-use Rattle.mask.proofs.Laws.{has-or, has-without, has-bit, has-zero, meets-some, meets-none, some-meets}
+use Rattle.mask.proofs.Laws.{has-or, has-without, has-bit, has-zero, meets-some, meets-none}
 use Rattle.mask.proofs.Truth.{both}
 use Rattle.route.specs.Steps.{blank}
 use Rattle.route.specs.declared.Step.{Step}
-use Rattle.slice.specs.Slice.{readsAt, writesAt, Sweep, sweepStep, sweep, keptMask}
+use Rattle.slice.specs.Slice.{Item, variable, wants, makes, readsAt, writesAt, cutsAt, Sweep, keeps, sweepStep}
+use Rattle.slice.specs.Slice.{sweep, keptMask}
 
 -- the sweep from position i on
 abbrev pub sweepFrom : List Step → ℕ → ℕ → Sweep
 sweepFrom l vars i = sweep vars i (drop i l)
 
--- the live variables before position i
-pub liveAt : List Step → ℕ → ℕ → ℕ
-liveAt l vars i = sweepFrom l vars i .live
+-- an item is live
+isLive : Sweep → Item → Bool
+isLive w (variable v) = has (w .live) v
 
--- past the end nothing is written
+-- an item is live before position i
+pub liveAt : List Step → ℕ → ℕ → Item → Bool
+liveAt l vars i x = isLive (sweepFrom l vars i) x
+
+-- past the end nothing is written and nothing is cut
 blank-past : (l : List Step) (i : ℕ) → length l ≤ i → getD l i blank ≡ blank
 blank-past l i h = List·getD-eq-default l blank h
 
-pub written-below : (l : List Step) (i v : ℕ) → writesAt l i v ≡ true → i < length l
-unfolding writesAt
-written-below l i v w = go (decLt i (length l))
+blank-makes : (x : Item) → makes blank x ≡ false
+unfolding makes
+blank-makes (variable v) = has-zero v
+
+-- what a blank step doesn't have, only occurrences have
+below : (P : Step → Bool) → P blank ≡ false → (l : List Step) (i : ℕ) → P (getD l i blank) ≡ true → i < length l
+below P none l i w = go (decLt i (length l))
   where
     go : Dec (i < length l) → i < length l
     go (yes h) = h
-    go (no h) = let z : _≡_ {A = ℕ} 0 1 = cc (
-      has-zero v,
-      ap (λ (s : Step). has (s .writes) v) (blank-past l i (omega arith)),
-    ) in absurd (omega arith)
+    go (no h) =
+        let z : _≡_ {A = ℕ} 0 1 = cc (none, w, ap P (blank-past l i (omega arith))) in
+        absurd (omega arith)
+
+pub written-below : (l : List Step) (i : ℕ) (x : Item) → writesAt l i x ≡ true → i < length l
+unfolding writesAt
+written-below l i x w = below (λ s. makes s x) (blank-makes x) l i w
+
+cut-below : (l : List Step) (i : ℕ) → cutsAt l i ≡ true → i < length l
+unfolding cutsAt
+cut-below l i w = below (λ s. s .cloth) refl l i w
 
 pub sweep-end : (l : List Step) (vars i : ℕ) → length l ≤ i → sweepFrom l vars i ≡ record { live = vars; kept = 0 }
 unfolding sweep
@@ -53,7 +69,7 @@ unfolding sweep
 sweep-on l vars i = go (decLt i (length l))
   where
     still : (w : Sweep) → sweepStep i blank w ≡ w
-    still w = unfold sweepStep in refl
+    still w = unfold sweepStep keeps in refl
 
     go : Dec (i < length l) → sweepFrom l vars i ≡ sweepStep i (getD l i blank) (sweepFrom l vars (suc i))
     go (yes h) = ap (λ (k : List Step). sweep vars i k) (drop-cons l i blank h)
@@ -68,18 +84,45 @@ taken i s w = record { live = bitOr (without (w .live) (s .writes)) (s .reads); 
 
 -- one step of the sweep: the kept, and the live
 kept-step : (i k : ℕ) (s : Step) (w : Sweep) → has (sweepStep i s w .kept) k
-    ≡ (has (w .kept) k || (meets (s .writes) (w .live) && eqb k i))
+    ≡ (has (w .kept) k || (keeps s w && eqb k i))
 unfolding sweepStep
-kept-step i k s w = go (meets (s .writes) (w .live))
+kept-step i k s w = go (keeps s w)
   where
     go : (t : Bool) → has ((cond t (taken i s w) w) .kept) k ≡ (has (w .kept) k || (t && eqb k i))
     go true = has-or (w .kept) (bit i) k ∙ ap (λ (t : Bool). has (w .kept) k || t) (has-bit i k)
     go false = sym (or-false (has (w .kept) k))
 
-live-step : (i v : ℕ) (s : Step) (w : Sweep) → has (sweepStep i s w .live) v
-    ≡ (has (w .live) v && not (has (s .writes) v) || (meets (s .writes) (w .live) && has (s .reads) v))
+-- what is not kept writes nothing that is live, so what writes something live is kept
+spares : (s : Step) (w : Sweep) (x : Item) → keeps s w ≡ false → (makes s x && isLive w x) ≡ false
+unfolding keeps makes isLive
+spares s w (variable v) e = meets-none (s .writes) (w .live) (last (s .cloth) (meets (s .writes) (w .live)) e) v
+  where
+    last : (c m : Bool) → (c || m) ≡ false → m ≡ false
+    last false m e = e
+    last true m e = cc
+
+kept-for : (s : Step) (w : Sweep) (x : Item) → makes s x ≡ true → isLive w x ≡ true → keeps s w ≡ true
+kept-for s w x m h = go (keeps s w) refl
+  where
+    go : (t : Bool) → keeps s w ≡ t → t ≡ true
+    go true e = refl
+    go false e = sym (spares s w x e) ∙ ap₂ (λ (a b : Bool). a && b) m h
+
+-- why something is kept
+why : (s : Step) (w : Sweep) → keeps s w ≡ true
+    → (s .cloth ≡ true) ⊎ ((x : Item) × (makes s x ≡ true) × (isLive w x ≡ true))
+unfolding keeps makes isLive
+why s w e = go (s .cloth) e
+  where
+    go : (c : Bool) → (c || meets (s .writes) (w .live)) ≡ true
+        → (c ≡ true) ⊎ ((x : Item) × (makes s x ≡ true) × (isLive w x ≡ true))
+    go true e = inl refl
+    go false e = let (v, a, b) = meets-some (s .writes) (w .live) e in inr (variable v, a, b)
+
+live-step : (i : ℕ) (x : Item) (s : Step) (w : Sweep) → isLive (sweepStep i s w) x
+    ≡ (isLive w x && not (makes s x) || (keeps s w && wants s x))
 unfolding sweepStep
-live-step i v s w = go (meets (s .writes) (w .live)) refl
+live-step i x s w = go (keeps s w) refl
   where
     apart : (x y : Bool) → (x && y) ≡ false → y ≡ (y && not x || false)
     apart true true e = cc
@@ -87,12 +130,15 @@ live-step i v s w = go (meets (s .writes) (w .live)) refl
     apart false true e = refl
     apart false false e = refl
 
-    go : (t : Bool) → meets (s .writes) (w .live) ≡ t
-        → has ((cond t (taken i s w) w) .live) v ≡
-        (has (w .live) v && not (has (s .writes) v) || (t && has (s .reads) v))
-    go true e = has-or (without (w .live) (s .writes)) (s .reads) v
+    kept : (x : Item) → isLive (taken i s w) x ≡ (isLive w x && not (makes s x) || wants s x)
+    kept (variable v) = unfold makes wants isLive in
+        has-or (without (w .live) (s .writes)) (s .reads) v
         ∙ ap (λ (t : Bool). t || has (s .reads) v) (has-without (w .live) (s .writes) v)
-    go false e = apart (has (s .writes) v) (has (w .live) v) (meets-none (s .writes) (w .live) e v)
+
+    go : (t : Bool) → keeps s w ≡ t
+        → isLive (cond t (taken i s w) w) x ≡ (isLive w x && not (makes s x) || (t && wants s x))
+    go true e = kept x
+    go false e = apart (makes s x) (isLive w x) (spares s w x e)
 
 -- the sweep from i on keeps nothing before i
 none-before : (l : List Step) (vars i k : ℕ) → k < i → has (sweep vars i l .kept) k ≡ false
@@ -100,14 +146,13 @@ unfolding sweep
 none-before [] vars i k h = has-zero k
 none-before (s ∷ l) vars i k h =
     kept-step i k s (sweep vars (suc i) l)
-    ∙ ap₂ (λ (x y : Bool). x || (meets (s .writes) (sweep vars (suc i) l .live) && y))
+    ∙ ap₂ (λ (x y : Bool). x || (keeps s (sweep vars (suc i) l) && y))
     (none-before l vars (suc i) k (omega arith)) (ne-eqb k i (omega arith))
-    ∙ and-false (meets (s .writes) (sweep vars (suc i) l .live))
+    ∙ and-false (keeps s (sweep vars (suc i) l))
 
 module _ (l : List Step) (vars : ℕ) where
   kept-on : (i k : ℕ) → has (sweepFrom l vars i .kept) k
-      ≡ (has (sweepFrom l vars (suc i) .kept) k || (meets (getD l i blank .writes) (liveAt l vars (suc i)) && eqb k i))
-  unfolding liveAt
+      ≡ (has (sweepFrom l vars (suc i) .kept) k || (keeps (getD l i blank) (sweepFrom l vars (suc i)) && eqb k i))
   kept-on i k = ap (λ (w : Sweep). has (w .kept) k) (sweep-on l vars i)
       ∙ kept-step i k (getD l i blank) (sweepFrom l vars (suc i))
 
@@ -119,49 +164,48 @@ module _ (l : List Step) (vars : ℕ) where
       all-from i k (omega arith)
       ∙ kept-on i k
       ∙ ap (λ (t : Bool). has (sweepFrom l vars (suc i) .kept) k ||
-      (meets (getD l i blank .writes) (liveAt l vars (suc i)) && t)) (ne-eqb k i (omega arith))
-      ∙ table (has (sweepFrom l vars (suc i) .kept) k) (meets (getD l i blank .writes) (liveAt l vars (suc i)))
+      (keeps (getD l i blank) (sweepFrom l vars (suc i)) && t)) (ne-eqb k i (omega arith))
+      ∙ table (has (sweepFrom l vars (suc i) .kept) k) (keeps (getD l i blank) (sweepFrom l vars (suc i)))
     where
       table : (x y : Bool) → (x || (y && false)) ≡ x
       table x y = simp (and-false, or-false)
 
-  -- an occurrence is kept when it writes a variable that is live after it
-  pub kept-is : (i : ℕ) → has (keptMask l vars) i ≡ meets (getD l i blank .writes) (liveAt l vars (suc i))
+  -- an occurrence is kept as the sweep that has come down to it says
+  pub kept-is : (i : ℕ) → has (keptMask l vars) i ≡ keeps (getD l i blank) (sweepFrom l vars (suc i))
   kept-is i =
       all-from i i (omega arith)
       ∙ kept-on i i
-      ∙ ap₂ (λ (x y : Bool). x || (meets (getD l i blank .writes) (liveAt l vars (suc i)) && y))
+      ∙ ap₂ (λ (x y : Bool). x || (keeps (getD l i blank) (sweepFrom l vars (suc i)) && y))
       (none-before (drop (suc i) l) vars (suc i) i (omega arith)) (eq-eqb i i refl)
-      ∙ and-true (meets (getD l i blank .writes) (liveAt l vars (suc i)))
+      ∙ and-true (keeps (getD l i blank) (sweepFrom l vars (suc i)))
 
-  -- a variable is live before an occurrence when it is live after it and not written there, or when the occurrence is
-  -- kept and reads it
-  pub live-on : (i v : ℕ) → has (liveAt l vars i) v
-      ≡ (has (liveAt l vars (suc i)) v && not (writesAt l i v) || (has (keptMask l vars) i && readsAt l i v))
+  -- an item is live before an occurrence when it is live after it and not written there, or when the occurrence is kept
+  -- and reads it
+  pub live-on : (i : ℕ) (x : Item) → liveAt l vars i x
+      ≡ (liveAt l vars (suc i) x && not (writesAt l i x) || (has (keptMask l vars) i && readsAt l i x))
   unfolding liveAt readsAt writesAt
-  live-on i v =
-      ap (λ (w : Sweep). has (w .live) v) (sweep-on l vars i)
-      ∙ live-step i v (getD l i blank) (sweepFrom l vars (suc i))
-      ∙ ap (λ (t : Bool). has (liveAt l vars (suc i)) v && not (writesAt l i v) || (t && readsAt l i v))
-      (sym (kept-is i))
+  live-on i x =
+      ap (λ (w : Sweep). isLive w x) (sweep-on l vars i)
+      ∙ live-step i x (getD l i blank) (sweepFrom l vars (suc i))
+      ∙ ap (λ (t : Bool). liveAt l vars (suc i) x && not (writesAt l i x) || (t && readsAt l i x)) (sym (kept-is i))
 
   -- at the end the new route's variables are live
-  pub live-end : (i : ℕ) → length l ≤ i → liveAt l vars i ≡ vars
-  unfolding liveAt
-  live-end i h = ap (λ (w : Sweep). w .live) (sweep-end l vars i h)
+  pub live-end : (i v : ℕ) → length l ≤ i → liveAt l vars i (variable v) ≡ has vars v
+  unfolding liveAt isLive
+  live-end i v h = ap (λ (w : Sweep). has (w .live) v) (sweep-end l vars i h)
 
-  pub live-stays : (i v : ℕ) → has (liveAt l vars (suc i)) v ≡ true → writesAt l i v ≡ false
-      → has (liveAt l vars i) v ≡ true
-  live-stays i v h w = rw (live-on i v, h, w)
+  pub live-stays : (i : ℕ) (x : Item) → liveAt l vars (suc i) x ≡ true → writesAt l i x ≡ false
+      → liveAt l vars i x ≡ true
+  live-stays i x h w = rw (live-on i x, h, w)
 
-  pub live-read : (i v : ℕ) → has (keptMask l vars) i ≡ true → readsAt l i v ≡ true → has (liveAt l vars i) v ≡ true
-  live-read i v h r = rw (live-on i v, h, r) (or-true (has (liveAt l vars (suc i)) v && not (writesAt l i v)))
+  pub live-read : (i : ℕ) (x : Item) → has (keptMask l vars) i ≡ true → readsAt l i x ≡ true → liveAt l vars i x ≡ true
+  live-read i x h r = rw (live-on i x, h, r) (or-true (liveAt l vars (suc i) x && not (writesAt l i x)))
 
-  pub live-cases : (i v : ℕ) → has (liveAt l vars i) v ≡ true
-      → ((has (liveAt l vars (suc i)) v ≡ true) × (writesAt l i v ≡ false)) ⊎
-      ((has (keptMask l vars) i ≡ true) × (readsAt l i v ≡ true))
-  live-cases i v h = table (has (liveAt l vars (suc i)) v) (writesAt l i v) (has (keptMask l vars) i) (readsAt l i v)
-      (sym (live-on i v) ∙ h)
+  pub live-cases : (i : ℕ) (x : Item) → liveAt l vars i x ≡ true
+      → ((liveAt l vars (suc i) x ≡ true) × (writesAt l i x ≡ false)) ⊎
+      ((has (keptMask l vars) i ≡ true) × (readsAt l i x ≡ true))
+  live-cases i x h = table (liveAt l vars (suc i) x) (writesAt l i x) (has (keptMask l vars) i) (readsAt l i x)
+      (sym (live-on i x) ∙ h)
     where
       table : (a w k r : Bool) → (a && not w || (k && r)) ≡ true
           → ((a ≡ true) × (w ≡ false)) ⊎ ((k ≡ true) × (r ≡ true))
@@ -169,20 +213,29 @@ module _ (l : List Step) (vars : ℕ) where
       table true true k r e = inr (both k r e)
       table false w k r e = inr (both k r e)
 
-  pub kept-writer : (i v : ℕ) → writesAt l i v ≡ true → has (liveAt l vars (suc i)) v ≡ true
+  pub kept-writer : (i : ℕ) (x : Item) → writesAt l i x ≡ true → liveAt l vars (suc i) x ≡ true
       → has (keptMask l vars) i ≡ true
-  unfolding writesAt
-  kept-writer i v w h = kept-is i ∙ some-meets (getD l i blank .writes) (liveAt l vars (suc i)) v w h
+  unfolding writesAt liveAt
+  kept-writer i x w h = kept-is i ∙ kept-for (getD l i blank) (sweepFrom l vars (suc i)) x w h
 
-  pub kept-writes : (i : ℕ) → has (keptMask l vars) i ≡ true
-      → (v : ℕ) × (writesAt l i v ≡ true) × (has (liveAt l vars (suc i)) v ≡ true)
-  unfolding writesAt
-  kept-writes i h = meets-some (getD l i blank .writes) (liveAt l vars (suc i)) (sym (kept-is i) ∙ h)
+  -- every cloth occurrence is kept
+  pub cut-kept : (i : ℕ) → cutsAt l i ≡ true → has (keptMask l vars) i ≡ true
+  unfolding cutsAt keeps
+  cut-kept i h = kept-is i ∙ rw h
 
--- an occurrence that writes nothing is never kept
-pub silent-not-kept : (l : List Step) (vars i : ℕ) → getD l i blank .writes ≡ 0 → has (keptMask l vars) i ≡ false
-silent-not-kept l vars i h = kept-is l vars i ∙ ap (λ (m : ℕ). meets m (liveAt l vars (suc i))) h
+  -- why an occurrence is kept
+  pub kept-cases : (i : ℕ) → has (keptMask l vars) i ≡ true
+      → (cutsAt l i ≡ true) ⊎ ((x : Item) × (writesAt l i x ≡ true) × (liveAt l vars (suc i) x ≡ true))
+  unfolding writesAt cutsAt liveAt
+  kept-cases i h = why (getD l i blank) (sweepFrom l vars (suc i)) (sym (kept-is i) ∙ h)
+
+-- an unmarked occurrence that writes nothing is never kept
+pub silent-not-kept : (l : List Step) (vars i : ℕ) → cutsAt l i ≡ false → getD l i blank .writes ≡ 0
+    → has (keptMask l vars) i ≡ false
+unfolding cutsAt keeps
+silent-not-kept l vars i u h = kept-is l vars i ∙ rw (u, h)
 
 -- only occurrences are kept
 pub kept-below : (l : List Step) (vars i : ℕ) → has (keptMask l vars) i ≡ true → i < length l
-kept-below l vars i h = let (v, w, k) = kept-writes l vars i h in written-below l i v w
+kept-below l vars i h =
+    ⊎-elim (cut-below l i) (λ s. written-below l i (s .0) (s .1)) (kept-cases l vars i h)

@@ -1,6 +1,6 @@
 -- `slice::sweeping::keep`: the loop is the sweep, from the position it has come down to.
 use mathlib.Core.Path.{_≡_, sym, ap, ap₂, _∙_}
-use mathlib.Core.Bool.{Bool, true, false, cond}
+use mathlib.Core.Bool.{Bool, true, false, cond, _||_}
 use mathlib.Core.List.{List}
 use Prim.Native.Nat.{ℕ, suc, _-_, _≤_, _<_}
 use native.Mathlib.Omega.{arith}
@@ -11,7 +11,7 @@ use Rattle.mask.specs.Mask.{bit, without, meets}
 use Rattle.route.specs.Steps.{blank}
 use Rattle.flat.specs.Flat.{stepsIn}
 use Rattle.route.specs.declared.Step.{Step}
-use Rattle.slice.specs.Slice.{Sweep, sweepStep, keptMask}
+use Rattle.slice.specs.Slice.{Sweep, keeps, sweepStep, keptMask}
 use Rattle.slice.proofs.Sweep.{sweepFrom, sweep-end, sweep-on}
 use Rattle.slice.proofs.sweeping.keep.Statement.{statement}
 use Rattle.slice.proofs.sweeping.keep.Tie as tie
@@ -32,9 +32,9 @@ module _ (l : List Step) (vars i live kept : ℕ) where
       (s : Step)
       (is : s ≡ getD l (i - 1) blank)
       (t : Bool)
-      (test : t ≡ meets (s .writes) live) where
+      (test : t ≡ (s .cloth || meets (s .writes) live)) where
     one-back : sweepFrom l vars (i - 1) ≡ before s t
-    unfolding sweepStep
+    unfolding sweepStep keeps
     one-back =
         sweep-on l vars (i - 1)
         ∙ ap₂ (λ (x : Step) (w : Sweep). sweepStep (i - 1) x w) (sym is) (ap (sweepFrom l vars) next ∙ inv)
