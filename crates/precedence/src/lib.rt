@@ -1,5 +1,6 @@
 // The precedence table, by variable: the earlier writers and the earlier readers of each.
 ghost use mathlib.Core.Path.{_≡_};
+ghost use mathlib.Core.Bool.{cond};
 ghost use Prim.Native.Nat.{ℕ, _≤_};
 ghost use lib.ListN.{length};
 ghost use lib.Bits.{bitOr};
@@ -42,6 +43,13 @@ fn after_reads(writers: &[u64; 32], readers: &mut [u64; 32], vars: u32, own: u64
     wrote
 }
 
+// The mask, where the step is marked.
+fn only(cloth: bool, m: u64) -> u64
+    ensures { λ r. ⌜ r ≡ cond cloth m 0 ⌝ }
+{
+    if cloth { m } else { 0 }
+}
+
 // An occurrence's own write comes before its read here, so that its own bit is taken off its row. `cut` holds the
 // occurrences so far that cut cloth.
 pub fn table_of(occurrences: &[u64]) -> [u64; 64]
@@ -59,8 +67,8 @@ pub fn table_of(occurrences: &[u64]) -> [u64; 64]
         let own = mask::bit64(i);
         let users = after_writes(&readers, &mut writers, s.writes, own);
         let sources = after_reads(&writers, &mut readers, s.reads, own);
-        let cuts = after_cut(s.cloth, cut);
-        cut |= own_cut(s.cloth, own);
+        let cuts = only(s.cloth, cut);
+        cut |= only(s.cloth, own);
         rows[i] = (users | sources | cuts) & (own - 1);
         i += 1;
     }

@@ -3,7 +3,7 @@
 -- this one need.
 use mathlib.Core.Path.{_≡_, refl, sym, ap, ap₂, _∙_}
 use mathlib.Core.Logic.{_⊎_, inl, inr, ⊎-elim}
-use mathlib.Core.Bool.{Bool, true, false, not, cond, _&&_, _||_, or-false, or-true, and-true, and-false}
+use mathlib.Core.Bool.{Bool, true, false, not, cond, _&&_, _||_, or-false, or-true, or-comm, and-true, and-false}
 use mathlib.Core.List.{List, [], _∷_}
 use Prim.Native.Nat.{ℕ, zero, suc, _≤_, _<_}
 use native.Mathlib.Omega.{arith}
@@ -15,7 +15,7 @@ use lib.Bits.{bitOr}
 use borrow.Author.Tests.{eq-eqb, ne-eqb}
 use Rattle.mask.specs.Mask.{has, bit, without, meets}
 use Rattle.mask.proofs.Laws.{has-or, has-without, has-bit, has-zero, meets-some, meets-none}
-use Rattle.mask.proofs.Truth.{both}
+use Rattle.mask.proofs.Truth.{both, or-fails}
 use Rattle.route.specs.Steps.{blank}
 use Rattle.route.specs.declared.Step.{Step}
 use Rattle.slice.specs.Slice.{Item, variable, wants, makes, readsAt, writesAt, cutsAt, Sweep, keeps, sweepStep}
@@ -95,11 +95,8 @@ kept-step i k s w = go (keeps s w)
 -- what is not kept writes nothing that is live, so what writes something live is kept
 spares : (s : Step) (w : Sweep) (x : Item) → keeps s w ≡ false → (makes s x && isLive w x) ≡ false
 unfolding keeps makes isLive
-spares s w (variable v) e = meets-none (s .writes) (w .live) (last (s .cloth) (meets (s .writes) (w .live)) e) v
-  where
-    last : (c m : Bool) → (c || m) ≡ false → m ≡ false
-    last false m e = e
-    last true m e = cc
+spares s w (variable v) e = meets-none (s .writes) (w .live)
+    (or-fails (meets (s .writes) (w .live)) (s .cloth) (or-comm (meets (s .writes) (w .live)) (s .cloth) ∙ e)) v
 
 kept-for : (s : Step) (w : Sweep) (x : Item) → makes s x ≡ true → isLive w x ≡ true → keeps s w ≡ true
 kept-for s w x m h = go (keeps s w) refl
