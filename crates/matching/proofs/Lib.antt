@@ -5,4 +5,5 @@ pub mod KeptRows
 pub mod KeptWrong
 pub mod Matched
 pub mod SameMask
+pub mod SameStep
 pub mod StraightEnd

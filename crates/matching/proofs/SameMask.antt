@@ -15,7 +15,7 @@ use Rattle.mask.proofs.Laws.{collect-hit, collect-miss}
 use Rattle.route.specs.Steps.{blank}
 use Rattle.flat.specs.Flat.{stepsIn}
 use Rattle.route.specs.declared.Step.{Step}
-use Rattle.matching.specs.Straight.{sameData, sameStep}
+use Rattle.matching.specs.Straight.{sameMark, sameData, sameStep}
 use Rattle.matching.specs.inner.Matches.{MatchesOf, present, sameMask}
 use Rattle.matching.proofs.Matched.{present-at}
 
@@ -33,14 +33,34 @@ module _ (s t : Step) where
   pub data-reads : (t .name ≡ 0 → ⊥) → (t .reads ≡ s .reads → ⊥) → false ≡ sameData s (present t)
   unfolding sameData
   data-reads h d =
-      ap (λ (b : Bool). b && eqb (t .writes) (s .writes)) (sym (ne-eqb (t .reads) (s .reads) d)) ∙ there-is h
+      ap (λ (b : Bool). b && (eqb (t .writes) (s .writes) && sameMark (t .cloth) (s .cloth)))
+      (sym (ne-eqb (t .reads) (s .reads) d)) ∙ there-is h
 
-  pub data-writes : (t .name ≡ 0 → ⊥) → t .reads ≡ s .reads → eqb (t .writes) (s .writes) ≡ sameData s (present t)
-  unfolding sameData
-  data-writes h e =
-      ap (λ (b : Bool). b && eqb (t .writes) (s .writes)) (sym (eq-eqb (t .reads) (s .reads) e)) ∙ there-is h
+  module _ (h : t .name ≡ 0 → ⊥) (e : t .reads ≡ s .reads) where
+    reads-too : (eqb (t .writes) (s .writes) && sameMark (t .cloth) (s .cloth)) ≡ sameData s (present t)
+    unfolding sameData
+    reads-too =
+        ap (λ (b : Bool). b && (eqb (t .writes) (s .writes) && sameMark (t .cloth) (s .cloth)))
+        (sym (eq-eqb (t .reads) (s .reads) e)) ∙ there-is h
 
-pub ruleset data-tests = (needs, data-none, data-reads, data-writes)
+    pub data-writes : (t .writes ≡ s .writes → ⊥) → false ≡ sameData s (present t)
+    data-writes d =
+        ap (λ (b : Bool). b && sameMark (t .cloth) (s .cloth)) (sym (ne-eqb (t .writes) (s .writes) d)) ∙ reads-too
+
+    module _ (w : t .writes ≡ s .writes) where
+      pub data-mark : sameMark (t .cloth) (s .cloth) ≡ sameData s (present t)
+      data-mark =
+          ap (λ (b : Bool). b && sameMark (t .cloth) (s .cloth)) (sym (eq-eqb (t .writes) (s .writes) w)) ∙ reads-too
+
+      pub data-marked : t .cloth ≡ true → s .cloth ≡ sameData s (present t)
+      unfolding sameMark
+      data-marked c = rw (← data-mark, c)
+
+      pub data-unmarked : t .cloth ≡ false → not (s .cloth) ≡ sameData s (present t)
+      unfolding sameMark
+      data-unmarked c = rw (← data-mark, c)
+
+pub ruleset data-tests = (needs, data-none, data-reads, data-writes, data-marked, data-unmarked)
 
 -- the occurrences below i that are in the new route with the same data
 abbrev pub sameBelow : List Step → List Step → ℕ → ℕ
