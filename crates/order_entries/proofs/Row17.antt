@@ -7,17 +7,15 @@ use Prim.Native.Nat.{ℕ, _+_, _-_}
 use native.Mathlib.Omega.{arith}
 use lib.Dec.{eqb, leb}
 use lib.Bits.{bitAnd, bitOr}
-use lib.ListN.{getD}
-use borrow.Author.Tests.{eqb-true, ne-eqb, le-ltb, not-true}
+use borrow.Author.Tests.{eqb-true, ne-eqb, not-true}
 use Rattle.mask.specs.Mask.{has, bit, within}
 use Rattle.mask.proofs.Laws.{has-and, has-or, has-bit, within-all, all-within}
 use Rattle.mask.proofs.Truth.{split, both, either, bool-ext, or-fails}
-use Rattle.route.specs.Steps.{blank}
 use Rattle.refusal.specs.Rows.{pass, refuse}
 use Rattle.route.specs.declared.Step.{Step}
-use Rattle.precedence.specs.Precedence.{clash, comesAfter, row}
+use Rattle.precedence.specs.Precedence.{comesAfter, row}
 use Rattle.precedence.specs.Order.{noneOf}
-use Rattle.precedence.proofs.Rows.{row-exact}
+use Rattle.precedence.proofs.Rows.{row-exact, not-after}
 use Rattle.order_entries.specs.Entries.{isKept, listRow}
 use Rattle.order_entries.proofs.Row16.{passed-entry}
 
@@ -75,8 +73,8 @@ module _ (kept : ℕ) (t : ℕ → Bool) where
 -- row 17 at an entry, by the table
 pub order-test : (l : List Step) (kept seen at b : ℕ) (o : List ℕ) → listRow kept seen at (b ∷ o) .number ≡ 0
     → noneOf (comesAfter l (b - 1)) (positions o) ≡ within (bitAnd (row l (b - 1)) kept) seen
-unfolding noneOf comesAfter
+unfolding noneOf
 order-test l kept seen at b o e =
-    ap (λ (x : Bool). not (x && clash (getD l (b - 1) blank) (getD l (b - 1) blank))
-    && noneOf (comesAfter l (b - 1)) (positions o)) (sym (le-ltb (b - 1) (b - 1) (omega arith)))
+    ap (λ (x : Bool). not x && noneOf (comesAfter l (b - 1)) (positions o))
+    (sym (not-after l (b - 1) (b - 1) (omega arith)))
     ∙ left-test kept (comesAfter l (b - 1)) (row l (b - 1)) seen at (b ∷ o) (row-exact l (b - 1)) e
