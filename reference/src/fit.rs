@@ -18,7 +18,7 @@ pub fn end(job: &Job, list: &[usize]) -> Option<Marking> {
 }
 
 /// Straight: the whole done list in its own order, each name in the new route
-/// with the same reads and writes, all firing from the new start.
+/// with the same reads, writes and mark, all firing from the new start.
 pub fn straight(job: &Job, list: &[usize]) -> bool {
     list == job.whole() && list.iter().all(|&o| job.same_in_new(o)) && end(job, list).is_some()
 }
@@ -30,7 +30,7 @@ pub fn moves_straight(job: &Job) -> bool {
 
 /// Fit: a list that is straight, or that holds each kept occurrence once and no
 /// other, none before one that it comes after, each step in the new route with
-/// the same reads and writes, all firing in turn from the new start. Where
+/// the same reads, writes and mark, all firing in turn from the new start. Where
 /// straight replay fails and over 16 are kept, no list is fit.
 pub fn fit(job: &Job, list: &[usize]) -> bool {
     let few = job.kept.len() <= MOST_KEPT || moves_straight(job);

@@ -38,10 +38,12 @@ impl<'a> Job<'a> {
         self.sheet.new.step(self.sheet.done[occurrence - 1])
     }
 
-    /// Whether the occurrence's step is in the new route with the same reads and writes.
+    /// Whether the occurrence's step is in the new route with the same reads, writes
+    /// and mark.
     pub fn same_in_new(&self, occurrence: usize) -> bool {
+        let facts = |step: &'a Step| (&step.reads, &step.writes, step.cloth);
         let old = self.done[occurrence - 1];
         self.new_step(occurrence)
-            .is_some_and(|new| new.reads == old.reads && new.writes == old.writes)
+            .is_some_and(|new| facts(new) == facts(old))
     }
 }

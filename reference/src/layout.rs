@@ -3,14 +3,14 @@
 //! the sheet ends early. It has no limit on steps, done lines or entries.
 
 use crate::refusal::Refusal;
-use crate::sheet::{Route, Sheet, Step};
+use crate::sheet::{Route, Sheet, Step, MARK};
 use crate::version::Version;
 
 /// The bytes of a sheet, and the offset of the first one not yet taken.
 struct Reader<'a> {
     bytes: &'a [u8],
     at: usize,
-    most_digits: usize,
+    version: &'a Version,
 }
 
 /// Reads the facts of a sheet that keeps the layout. The numbers may be out of range.
@@ -18,7 +18,7 @@ pub fn read(bytes: &[u8], version: &Version) -> Result<Sheet, Refusal> {
     let mut reader = Reader {
         bytes,
         at: 0,
-        most_digits: version.most_digits,
+        version,
     };
     reader.sheet()
 }
@@ -57,6 +57,7 @@ impl Reader<'_> {
         let outs = self.list(" (out")?;
         let reads = self.list(" (read")?;
         let writes = self.list(" (write")?;
+        let cloth = self.mark()?;
         self.take(")\n")?;
         Ok(Step {
             name,
@@ -64,7 +65,17 @@ impl Reader<'_> {
             outs,
             reads,
             writes,
+            cloth,
         })
+    }
+
+    /// The mark, where the version has it and a space tells it from the step's end.
+    fn mark(&mut self) -> Result<bool, Refusal> {
+        let marked = self.version.cloth && self.peek() == Some(b' ');
+        if marked {
+            self.take(MARK)?;
+        }
+        Ok(marked)
     }
 
     /// A list: its word, then entries with one space before each.
@@ -85,7 +96,7 @@ impl Reader<'_> {
         let first = self.digit().ok_or(self.broken())?;
         let mut value = first;
         let mut digits = 1;
-        while first != 0 && digits < self.most_digits {
+        while first != 0 && digits < self.version.most_digits {
             let Some(digit) = self.digit() else { break };
             value = value * 10 + digit;
             digits += 1;

@@ -1,8 +1,11 @@
-//! Step records: a step's facts with the lists as bit masks, place p at bit p.
-//! A route by value holds 64 of them.
+//! Step records: a step's facts with the lists as bit masks, place p at bit p, and
+//! its mark. A route by value holds 64 of them.
 
 use crate::lines::MOST_STEPS;
 use crate::sheet::{entries, Route, Step};
+
+/// The numbers of a record.
+pub const FIELDS: usize = 6;
 
 #[derive(Clone, Copy, Debug, Default, PartialEq, Eq)]
 pub struct Record {
@@ -11,6 +14,7 @@ pub struct Record {
     pub outs: u64,
     pub reads: u32,
     pub writes: u32,
+    pub cloth: bool,
 }
 
 /// A route by value: its first `len` records are its steps. `len` may be past 64.
@@ -37,6 +41,7 @@ impl Record {
             outs: places(&step.outs),
             reads: variables(&step.reads),
             writes: variables(&step.writes),
+            cloth: step.cloth,
         }
     }
 
@@ -48,19 +53,22 @@ impl Record {
             outs: entries(self.outs),
             reads: entries(self.reads.into()),
             writes: entries(self.writes.into()),
+            cloth: self.cloth,
         }
     }
 
-    /// The five numbers, in the order of a script.
-    pub fn numbers(&self) -> [u64; 5] {
+    /// The six numbers, in the order of a script; a mark is 1.
+    pub fn numbers(&self) -> [u64; FIELDS] {
         let Record {
             name,
             ins,
             outs,
             reads,
             writes,
+            cloth,
         } = *self;
-        [name.into(), ins, outs, reads.into(), writes.into()]
+        let (reads, writes) = (reads.into(), writes.into());
+        [name.into(), ins, outs, reads, writes, cloth.into()]
     }
 }
 

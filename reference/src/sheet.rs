@@ -5,7 +5,11 @@ use crate::lines;
 use crate::refusal::{refuse_if, Refusal};
 use crate::version::Version;
 
-/// A step: its name, its places, and the variables read and written.
+/// How a step form that is marked ends, inside its bracket.
+pub const MARK: &str = " (cloth)";
+
+/// A step: its name, its places, the variables read and written, and whether it is
+/// marked as cloth (02, A.4).
 #[derive(Clone, Debug, PartialEq, Eq)]
 pub struct Step {
     pub name: u64,
@@ -13,6 +17,7 @@ pub struct Step {
     pub outs: Vec<u64>,
     pub reads: Vec<u64>,
     pub writes: Vec<u64>,
+    pub cloth: bool,
 }
 
 /// A route: the number N of its places, and its steps.
@@ -133,12 +138,13 @@ pub fn text(sheet: &Sheet) -> String {
 /// One step line.
 fn step_text(step: &Step) -> String {
     format!(
-        "(step {} {} {} {} {})\n",
+        "(step {} {} {} {} {}{})\n",
         step.name,
         form("in", &step.ins),
         form("out", &step.outs),
         form("read", &step.reads),
-        form("write", &step.writes)
+        form("write", &step.writes),
+        if step.cloth { MARK } else { "" }
     )
 }
 

@@ -34,11 +34,18 @@ pub fn variables(route: &Route) -> BTreeSet<u64> {
     route.steps.iter().flat_map(lists).collect()
 }
 
-/// Kept: the last writer of each new-route variable, and all that these need,
-/// over and over, until nothing is added.
+/// The cloth occurrences: those whose step is marked.
+pub fn cloth(done: &[&Step]) -> Occurrences {
+    let marked = |o: &usize| done[o - 1].cloth;
+    (1..=done.len()).filter(marked).collect()
+}
+
+/// Kept: the last writer of each new-route variable, every cloth occurrence, and
+/// all that these need, over and over, until nothing is added.
 pub fn kept(done: &[&Step], new: &Route) -> Occurrences {
     let writer = |variable| last_writer(done, variable);
     let mut kept: Occurrences = variables(new).into_iter().filter_map(writer).collect();
+    kept.extend(cloth(done));
     loop {
         let mut more = kept.clone();
         for &occurrence in &kept {
@@ -52,7 +59,7 @@ pub fn kept(done: &[&Step], new: &Route) -> Occurrences {
 }
 
 /// The later comes after the earlier when one writes a variable that the other
-/// reads or writes.
+/// reads or writes, or when both are cloth occurrences.
 pub fn comes_after(done: &[&Step], later: usize, earlier: usize) -> bool {
     let touches = |writer: &Step, other: &Step| {
         let mut writes = writer.writes.iter();
@@ -61,7 +68,7 @@ pub fn comes_after(done: &[&Step], later: usize, earlier: usize) -> bool {
     let valid = 1 <= earlier && earlier < later && later <= done.len();
     valid && {
         let (first, second) = (done[earlier - 1], done[later - 1]);
-        touches(first, second) || touches(second, first)
+        touches(first, second) || touches(second, first) || first.cloth && second.cloth
     }
 }
 

@@ -17,6 +17,9 @@ pub struct End {
     pub taken: usize,
     pub marking: Marking,
     pub variables: [Held; 32],
+    /// The cloth occurrences, those whose step on this route is marked, in the
+    /// order in which they fired.
+    pub cloth: Vec<usize>,
 }
 
 /// Replays the list on the route, from its start with all variables blank.
@@ -25,6 +28,7 @@ pub fn replay(route: &Route, names: &[u64], list: &[usize], function: Function) 
         taken: 0,
         marking: net::start(route),
         variables: [None; 32],
+        cloth: Vec::new(),
     };
     for &occurrence in list {
         let Some(step) = route.step(names[occurrence - 1]) else {
@@ -37,6 +41,9 @@ pub fn replay(route: &Route, names: &[u64], list: &[usize], function: Function) 
         let read: Vec<Held> = step.reads.iter().map(held).collect();
         for &variable in &step.writes {
             end.variables[variable as usize] = Some(function(occurrence, variable, &read));
+        }
+        if step.cloth {
+            end.cloth.push(occurrence);
         }
         end.marking = next;
         end.taken += 1;

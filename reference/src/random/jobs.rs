@@ -89,6 +89,7 @@ fn any_route(dice: &mut Dice) -> Route {
         outs: some(places, dice),
         reads: perhaps(3, dice),
         writes: perhaps(3, dice),
+        cloth: false,
     };
     Route {
         steps: (1..=count).map(step).collect(),
@@ -142,6 +143,7 @@ fn chain_of(names: &[u64], reads: bool) -> Route {
             vec![]
         },
         writes: vec![(name - 1) % 32],
+        cloth: false,
     };
     Route {
         places: names.len() as u64 + 1,
@@ -186,6 +188,7 @@ fn building(dice: &mut Dice) -> Sheet {
         outs: outs.to_vec(),
         reads: vec![variable],
         writes: vec![variable],
+        cloth: false,
     };
     let first = step(10, &[0], &[1, 2], 3);
     let (second, third) = (step(20, &[1], &[1], 30), step(30, &[2], &[2], 31));
@@ -222,6 +225,7 @@ fn beside(dice: &mut Dice) -> Sheet {
         outs: vec![count + at],
         reads: perhaps(count as usize, dice),
         writes: vec![at],
+        cloth: false,
     };
     let old = Route {
         places: 2 * count,
@@ -267,6 +271,7 @@ fn tangled(dice: &mut Dice) -> Sheet {
             vec![]
         },
         writes: vec![at],
+        cloth: false,
     };
     let old = Route {
         places: 2 * count,
@@ -322,6 +327,7 @@ fn crowded(dice: &mut Dice) -> Sheet {
         outs: layer(if at % 8 == 7 { 1 } else { at % 8 + 1 }),
         reads: eight(dice),
         writes: eight(dice),
+        cloth: false,
     };
     let old = Route {
         places: 64,

@@ -143,6 +143,7 @@ impl Plan {
             outs: renumber(outs),
             reads: self.data[name].reads.clone(),
             writes: self.data[name].writes.clone(),
+            cloth: false,
         };
         let steps = arrows.iter().map(step).collect();
         Route { places, steps }

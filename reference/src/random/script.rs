@@ -6,11 +6,15 @@ use super::{damage, jobs, names, orders};
 use crate::judge::WORK;
 use crate::print::listing_of;
 use crate::record::Record;
+use crate::script::arguments::MOST_SLICE;
 use crate::script::writing::{self, bytes, fill};
 use crate::sheet::{self, Sheet};
 
 /// Each script is shorter.
 pub const MOST_BYTES: usize = 60_000;
+
+/// The longest slice that is lent.
+const LONGEST: usize = MOST_SLICE as usize;
 
 /// What a script's ending may add to its operations.
 pub(super) const ENDING: usize = 2_000;
@@ -37,7 +41,7 @@ const OPERATIONS: [(u64, usize); 17] = [
 ];
 
 /// How an operation begins that is none, or that has an argument past its limit.
-pub const PAST_A_LIMIT: [&str; 38] = [
+pub const PAST_A_LIMIT: [&str; 43] = [
     "0",
     "11",
     "17",
@@ -46,14 +50,18 @@ pub const PAST_A_LIMIT: [&str; 38] = [
     "1 1 4294967296 1 2",
     "1 1 1 18446744073709551616 2",
     "1 1 1 1 2 0 4294967296",
+    "1 1 1 1 2 0 0 2",
+    "1 1 1 1 2 0 0 18446744073709551615",
     "2 4 65 65",
+    "2 2 1 1 1 1 2 0 0 2",
     "12 4 101",
+    "12 2 1 1 1 2 0 0 2",
     "12 4 0 4 0 101",
     "2 1 0 0 1 0 0 101",
     "2 1 0 0 1 0 0 1 4294967296",
-    "7 20001",
+    "7 21001",
     "7 1 256",
-    "8 1 0 0 1 0 0 0 20001 0",
+    "8 1 0 0 1 0 0 0 21001 0",
     "8 1 0 0 1 0 0 0 1 256",
     "8 1 0 0 1 0 0 0 0 256",
     "16 0 101 0 0",
@@ -67,13 +75,14 @@ pub const PAST_A_LIMIT: [&str; 38] = [
     "21 4294967296",
     "21 1 4294967296",
     "21 1 1 65 65",
+    "21 1 2 1 1 1 1 2 0 0 2",
     "22 4294967296",
     "22 1 4294967296",
     "22 1 2 101",
     "22 1 2 1 4294967296",
-    "22 1 2 0 20001",
+    "22 1 2 0 21001",
     "22 1 2 0 1 256",
-    "23 20001",
+    "23 21001",
     "23 1 256",
     "26",
 ];
@@ -206,7 +215,7 @@ fn of_sheet(number: u64, dice: &mut Dice) -> Vec<String> {
 
 /// A work slice, seldom too short.
 pub(super) fn work(dice: &mut Dice) -> String {
-    let lengths = [0, 1, WORK - 1, WORK - 1, WORK + 1, 20_000];
+    let lengths = [0, 1, WORK - 1, WORK - 1, WORK + 1, LONGEST];
     let length = if dice.chance(85) {
         WORK
     } else {
@@ -223,7 +232,7 @@ fn out(needed: usize, dice: &mut Dice) -> String {
     } else {
         needed + dice.below(40)
     };
-    fill(length.min(20_000), some_byte(dice))
+    fill(length.min(LONGEST), some_byte(dice))
 }
 
 fn some_byte(dice: &mut Dice) -> u8 {
@@ -263,7 +272,7 @@ fn strange(text: &str, dice: &mut Dice) -> String {
 fn past_a_limit(text: &str, limits: &[&str], dice: &mut Dice) -> String {
     let zeros = " 0".repeat(600);
     let begin = limits[dice.below(limits.len())];
-    format!("{text}{begin}{zeros}\n1 1 1 1 2 0 0\n")
+    format!("{text}{begin}{zeros}\n1 1 1 1 2 0 0 0\n")
 }
 
 /// The same with more spaces and LFs between, and none at the end.

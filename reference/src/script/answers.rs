@@ -6,7 +6,7 @@ use crate::judge::{self, Moved};
 use crate::lookup;
 use crate::net::{self, Marking};
 use crate::print;
-use crate::record::{mask, Record, RouteByValue};
+use crate::record::{mask, Record, RouteByValue, FIELDS};
 use crate::refusal::Refusal;
 use crate::sheet::{self, entries, Route, Sheet};
 use crate::shelf::{Edition, Shelf};
@@ -16,9 +16,8 @@ use crate::version::Version;
 /// Rows of a table, entries of an order, records of a route by value, done names.
 const ROWS: usize = 64;
 const VARIABLES: usize = 32;
-/// The numbers of a record.
-const FIELDS: usize = 5;
-/// What every number of a lent list is before a reading into it.
+/// What every number of a lent list is before a reading into it, save a record's
+/// mark, which is 1.
 const BEFORE: u32 = 7;
 
 /// Number, second and so many others.
@@ -164,6 +163,7 @@ pub fn read_into(bytes: &[u8], room: [usize; 3]) -> Vec<u64> {
         outs: BEFORE.into(),
         reads: BEFORE,
         writes: BEFORE,
+        cloth: true,
     };
     let (mut old, mut new) = (vec![seven; room[0]], vec![seven; room[1]]);
     let mut done = vec![u64::from(BEFORE); room[2]];

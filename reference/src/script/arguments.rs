@@ -11,7 +11,7 @@ pub const MOST_BY_VALUE: u64 = MOST_STEPS as u64;
 /// The most records or names in a lent list.
 pub const MOST_LENT: u64 = 100;
 /// The most bytes in a lent slice.
-pub const MOST_SLICE: u64 = 20_000;
+pub const MOST_SLICE: u64 = 21_000;
 
 /// A number below 2^32.
 pub fn word(script: &mut Numbers) -> Option<u32> {
@@ -41,6 +41,7 @@ pub fn record(script: &mut Numbers) -> Option<Record> {
         outs: script.any()?,
         reads: word(script)?,
         writes: word(script)?,
+        cloth: script.most(1)? == 1,
     })
 }
 

@@ -2,6 +2,7 @@
 
 use reference::print::listing_of;
 use reference::refusal::Refusal;
+use reference::sheet::{read, Sheet, MARK};
 
 macro_rules! old {
     () => {
@@ -36,6 +37,11 @@ pub fn sheet(old: &str, new: &str, done: &[u64]) -> String {
     format!("{old}{new}(job)\n{lines}")
 }
 
+/// The facts of that sheet.
+pub fn facts(old: &str, new: &str, done: &[u64]) -> Sheet {
+    read(sheet(old, new, done).as_bytes()).unwrap()
+}
+
 /// The sheet of these routes and done names has this listing.
 #[track_caller]
 pub fn lists(old: &str, new: &str, done: &[u64], listing: &str) {
@@ -68,13 +74,14 @@ pub fn turned_round(count: u64) -> (String, String, Vec<u64>) {
 }
 
 /// All lists, routes and the done list as long as they may be: the last old and
-/// new names are these, and the old one is done over and over.
-pub fn longest(old: u64, new: u64) -> String {
+/// new names are these, the old one is done over and over, and each step ends with
+/// this text.
+pub fn longest(old: u64, new: u64, end: &str) -> String {
     let lists = "(in 56 57 58 59 60 61 62 63) (out 48 49 50 51 52 53 54 55) \
                  (read 24 25 26 27 28 29 30 31) (write 16 17 18 19 20 21 22 23)";
     let route = |word: &str, last: u64| {
         let names = last - 63..=last;
-        let steps = names.map(|name| format!("(step {name} {lists})\n"));
+        let steps = names.map(|name| format!("(step {name} {lists}{end})\n"));
         format!("({word} 64)\n{}", steps.collect::<String>())
     };
     sheet(&route("old", old), &route("new", new), &[old; 64])
@@ -101,6 +108,12 @@ pub fn with_lines(changes: &[(usize, &str)]) -> String {
 /// A step line; each list is given with the spaces before its entries.
 pub fn step(name: u64, ins: &str, outs: &str, reads: &str, writes: &str) -> String {
     format!("(step {name} (in{ins}) (out{outs}) (read{reads}) (write{writes}))\n")
+}
+
+/// A step line that is marked.
+pub fn cut(name: u64, ins: &str, outs: &str, reads: &str, writes: &str) -> String {
+    let line = step(name, ins, outs, reads, writes);
+    line.replace("))\n", &format!("){MARK})\n"))
 }
 
 /// The listing of this sheet is a refusal by this row.

@@ -98,8 +98,8 @@ fn the_empty_sheet() {
 }
 
 #[test]
-fn the_longest_sheet_that_reads() {
-    let text = longest(4_294_967_295, 1_000_000_063);
+fn the_longest_sheet_without_a_mark() {
+    let text = longest(4_294_967_295, 1_000_000_063, "");
     assert_eq!(text.len(), 19_096);
     let facts = reference::sheet::read(text.as_bytes()).unwrap();
     assert_eq!(reference::sheet::text(&facts), text);

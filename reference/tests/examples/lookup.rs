@@ -1,7 +1,7 @@
 //! Look-up from where we were (02, A.3), worked by hand: where it begins, where it
 //! goes round, how many names it compares, and the totals of jobs.
 
-use crate::common::{chain, refusal, sheet, step, turned_round, NEW, OLD, SHEET};
+use crate::common::{chain, facts, refusal, step, turned_round, NEW, OLD, SHEET};
 use crate::shelf::letter;
 use reference::lookup::{comparisons, find, find_in_turn, positions, total, Found};
 use reference::net::run;
@@ -137,10 +137,6 @@ fn totals_of_names_in_turn() {
     }
     assert_eq!(total(&[], &[10, 20]), 0);
     assert_eq!(total(&[], &[]), 0);
-}
-
-fn facts(old: &str, new: &str, done: &[u64]) -> Sheet {
-    read(sheet(old, new, done).as_bytes()).unwrap()
 }
 
 /// The totals of the run and of the match.

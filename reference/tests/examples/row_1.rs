@@ -52,7 +52,7 @@ fn row_1_at_bytes_that_belong_elsewhere() {
         ("(old 4)\n(step 10 (in 0", "\n"),
         ("(old 4)\n(step 10 (in 0)", ")"),
         ("(old 4)\n(step 10 (in 0 4294967295", "5"),
-        ("(old 4)\n(step 10 (in 0) (out) (read) (write)", " "),
+        ("(old 4)\n(step 10 (in 0) (out) (read) (write)", "0"),
         ("(old 4)\n(new 4)\n(", "n"),
         ("(old 4)\n(new 4)\n(", "d"),
     ] {

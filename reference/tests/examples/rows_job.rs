@@ -16,6 +16,7 @@ fn fire_answers_18_and_0() {
         outs: outs.to_vec(),
         reads: vec![],
         writes: vec![],
+        cloth: false,
     };
     let on = |places: &[u64]| Marking::from_iter(places.iter().copied());
     let no = Err(refusal(18, 0));

@@ -112,9 +112,9 @@ fn rows_in_turn() {
 
 #[test]
 fn the_longest_sheet() {
-    let text = longest(65_535, 10_063);
+    let text = longest(65_535, 10_063, "");
     assert_eq!(text.len(), 18_136);
     reads(&text);
     // The first name stands behind `(old 64)`, LF and `(step `.
-    refused(&longest(4_294_967_295, 1_000_000_063), 1, 9 + 6 + 5);
+    refused(&longest(4_294_967_295, 1_000_000_063, ""), 1, 9 + 6 + 5);
 }

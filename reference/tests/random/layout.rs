@@ -97,13 +97,15 @@ fn line(word: &str, most: usize) -> Texts {
     chain(vec![head, number(most), exactly(")\n")])
 }
 
-/// All sheets whose numbers have at most so many digits.
-fn sheets(most: usize) -> Texts {
+/// All sheets whose numbers have at most so many digits; steps may have this at
+/// their end.
+fn sheets(most: usize, mark: &Texts) -> Texts {
     let step = || {
         let lists = ["in", "out", "read", "write"].map(|word| list(word, most));
         let [ins, outs, reads, writes] = lists;
         let head = then(exactly("(step "), number(most));
-        chain(vec![head, ins, outs, reads, writes, exactly(")\n")])
+        let end = then(or(Empty, mark.clone()), exactly(")\n"));
+        chain(vec![head, ins, outs, reads, writes, end])
     };
     let old = then(line("old", most), many(step()));
     let new = then(line("new", most), many(step()));
@@ -122,13 +124,13 @@ fn breaks_at(mut left: Texts, bytes: &[u8]) -> Option<usize> {
     (!holds_empty(&left)).then_some(bytes.len())
 }
 
-/// How the sheet reads by a version whose numbers have at most so many digits:
-/// whole, broken, or ended early.
-fn compare(bytes: &[u8], version: &Version, most: usize) -> usize {
+/// How the sheet reads by a version that has these sheets: whole, broken, or ended
+/// early.
+fn compare(bytes: &[u8], version: &Version, sheets: &Texts) -> usize {
     let read = layout::read(bytes, version);
     let offset = read.err().map(|refusal| refusal.second);
     let text = String::from_utf8_lossy(bytes);
-    assert_eq!(offset, breaks_at(sheets(most), bytes), "of sheet\n{text}");
+    assert_eq!(offset, breaks_at(sheets.clone(), bytes), "of sheet\n{text}");
     match offset {
         Option::None => 0,
         Some(offset) => 1 + usize::from(offset == bytes.len()),
@@ -139,7 +141,10 @@ fn compare(bytes: &[u8], version: &Version, most: usize) -> usize {
 fn row_1_is_where_no_sheet_begins_so() {
     let seed = crate::seed();
     println!("layout: seed {seed}, 600 sheets");
-    for (version, most) in [(Version::PRESENT, 10), (Version::OF_01, 5)] {
+    let present = (Version::PRESENT, 10, exactly(" (cloth)"));
+    let of_01 = (Version::OF_01, 5, None);
+    for (version, most, mark) in [present, of_01] {
+        let sheets = sheets(most, &mark);
         let mut dice = Dice::new(seed);
         let mut counts = [0; 3];
         for _ in 0..600 {
@@ -148,7 +153,7 @@ fn row_1_is_where_no_sheet_begins_so() {
                 shorten(&mut facts, &mut dice);
             }
             let bytes = damage(sheet::text(&facts).as_bytes(), &mut dice);
-            counts[compare(&bytes, &version, most)] += 1;
+            counts[compare(&bytes, &version, &sheets)] += 1;
         }
         println!("{most} digits: whole, broken, ended early: {counts:?}");
         assert!(counts.iter().all(|&count| count > 5));

@@ -1,4 +1,5 @@
-//! Demand 3: the values that a replay in an accepted order leaves.
+//! Demand 3: the values that a replay in an accepted order leaves, and the sequence
+//! of its cloth occurrences.
 
 use crate::{as_bytes, for_each_sheet, judged, permutations};
 use reference::fit::try_order;
@@ -20,7 +21,7 @@ fn hashed(key: u64) -> impl Fn(usize, u64, &[Held]) -> u64 {
 }
 
 #[test]
-fn an_accepted_order_leaves_the_values_of_the_whole_job() {
+fn an_accepted_order_leaves_what_the_whole_job_does() {
     let mut replays = 0;
     for_each_sheet("values", &mut |facts, dice| {
         let Ok(job) = Job::of(facts) else { return };
@@ -35,6 +36,7 @@ fn an_accepted_order_leaves_the_values_of_the_whole_job() {
                 let v = variable as usize;
                 assert_eq!(moved.variables[v], whole.variables[v], "variable {v}");
             }
+            assert_eq!(moved.cloth, whole.cloth);
             replays += 1;
         }
     });

@@ -26,6 +26,14 @@ fn long_name(bytes: &[u8]) -> Option<usize> {
     text.lines().position(is_long).map(|at| at + 1)
 }
 
+/// The offset of the first space behind a write list, where a mark begins.
+fn space_of_a_mark(bytes: &[u8]) -> Option<usize> {
+    let lists = bytes.windows(6).enumerate().filter(|(_, w)| w == b"(write");
+    let end = |at: usize| Some(at + 1 + bytes[at..].iter().position(|&byte| byte == b')')?);
+    let mut ends = lists.filter_map(|(at, _)| end(at));
+    ends.find(|&end| bytes.get(end) == Some(&b' '))
+}
+
 /// What 01's version answers. An earlier fault goes first; of two on a line row 4.
 fn expected(bytes: &[u8]) -> Result<Sheet, Refusal> {
     let present = read(bytes);
@@ -34,7 +42,9 @@ fn expected(bytes: &[u8]) -> Result<Sheet, Refusal> {
         Err(refusal) => (refusal.number, refusal.second),
     };
     let broken = if number == 1 { second } else { usize::MAX };
-    if let Some(offset) = sixth_digit(bytes).filter(|&offset| offset < broken) {
+    let too_much = [sixth_digit(bytes), space_of_a_mark(bytes)];
+    let first = too_much.into_iter().flatten().min();
+    if let Some(offset) = first.filter(|&offset| offset < broken) {
         return refuse(1, offset);
     }
     let goes_first = |line: usize| line < second || line == second && number != 4;

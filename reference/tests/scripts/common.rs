@@ -1,5 +1,6 @@
 //! Records, arguments and answers written by hand.
 
+use crate::direct::Step;
 use reference::script::answer;
 
 pub type Numbers = Vec<u64>;
@@ -8,7 +9,7 @@ pub type Numbers = Vec<u64>;
 #[derive(Clone)]
 pub struct Records {
     pub places: u64,
-    pub list: Vec<[u64; 5]>,
+    pub list: Vec<Step>,
 }
 
 /// Both routes and the done list.
@@ -19,7 +20,7 @@ pub struct Facts {
     pub done: Numbers,
 }
 
-pub fn records(places: u64, list: &[[u64; 5]]) -> Records {
+pub fn records(places: u64, list: &[Step]) -> Records {
     let list = list.to_vec();
     Records { places, list }
 }
@@ -27,8 +28,22 @@ pub fn records(places: u64, list: &[[u64; 5]]) -> Records {
 /// The facts of example A.
 pub fn facts_a() -> Facts {
     Facts {
-        old: records(4, &[[10, 1, 2, 0, 1], [20, 2, 4, 0, 2], [30, 4, 8, 3, 4]]),
-        new: records(4, &[[20, 1, 2, 0, 2], [10, 2, 4, 0, 1], [30, 4, 8, 3, 4]]),
+        old: records(
+            4,
+            &[
+                [10, 1, 2, 0, 1, 0],
+                [20, 2, 4, 0, 2, 0],
+                [30, 4, 8, 3, 4, 0],
+            ],
+        ),
+        new: records(
+            4,
+            &[
+                [20, 1, 2, 0, 2, 0],
+                [10, 2, 4, 0, 1, 0],
+                [30, 4, 8, 3, 4, 0],
+            ],
+        ),
         done: vec![10, 20, 30],
     }
 }
@@ -74,6 +89,9 @@ impl Facts {
         format!("{} {} {done}", self.old.by_value(), self.new.by_value())
     }
 }
+
+/// The numbers of the 64 records of a route by value.
+pub const BY_VALUE: usize = 64 * 6;
 
 /// The bytes of a text as numbers.
 pub fn numbers_of(text: &str) -> Numbers {

@@ -107,7 +107,7 @@ fn past_len(line: &str) -> bool {
     for _ in 0..2 {
         let [_, len, count] = [words.next(), words.next(), words.next()];
         past |= count > len;
-        for _ in 0..5 * count {
+        for _ in 0..6 * count {
             words.next();
         }
     }

@@ -2,7 +2,7 @@
 //! on the records, by value and lent, and on the sheet.
 
 use crate::common::{answers, counted, facts_a, numbers_of, padded, records, slice};
-use crate::common::{Facts, Numbers};
+use crate::common::{Facts, Numbers, BY_VALUE};
 
 /// A letter's sheet and listing.
 macro_rules! files {
@@ -15,29 +15,30 @@ macro_rules! files {
     };
 }
 
-type Refusal = [u64; 2];
+pub type Refusal = [u64; 2];
 
 /// What judge gives, without the unused entries.
-struct Moved {
-    kept: u64,
-    dropped: u64,
-    order: Numbers,
-    marking: u64,
-    after: Numbers,
-    writers: Numbers,
+pub struct Moved {
+    pub kept: u64,
+    pub dropped: u64,
+    pub order: Numbers,
+    pub marking: u64,
+    pub after: Numbers,
+    pub writers: Numbers,
 }
 
-struct Letter {
-    files: [String; 2],
-    facts: Facts,
+/// A job, and what each operation answers.
+pub struct Letter {
+    pub files: [String; 2],
+    pub facts: Facts,
     /// The old route's marking.
-    run: Result<u64, Refusal>,
+    pub run: Result<u64, Refusal>,
     /// The kept, and the table's first rows.
-    slice: Result<(u64, Numbers), Refusal>,
-    judge: Result<Moved, Refusal>,
-    searched: bool,
+    pub slice: Result<(u64, Numbers), Refusal>,
+    pub judge: Result<Moved, Refusal>,
+    pub searched: bool,
     /// Orders handed in, and what try answers.
-    tries: Vec<(Numbers, [u64; 3])>,
+    pub tries: Vec<(Numbers, [u64; 3])>,
 }
 
 /// Number, second and so many others: those that are used, and 0.
@@ -62,7 +63,7 @@ fn moved_numbers(moved: &Moved) -> Numbers {
 }
 
 impl Letter {
-    fn check(&self) {
+    pub fn check(&self) {
         self.check_records(0, &self.facts.by_value());
         self.check_records(10, &self.facts.lent());
         self.check_sheet();
@@ -131,9 +132,9 @@ impl Letter {
         let lengths = [old.list.len(), new.list.len(), done.len()].map(|n| n as u64);
         let read = [
             vec![0, 0, old.places, lengths[0]],
-            padded(&old.list.concat(), 320),
+            padded(&old.list.concat(), BY_VALUE),
             vec![new.places, lengths[1]],
-            padded(&new.list.concat(), 320),
+            padded(&new.list.concat(), BY_VALUE),
             vec![lengths[2]],
             padded(done, 64),
         ];
@@ -144,7 +145,7 @@ impl Letter {
             vec![0, 0, old.places, lengths[0], new.places, lengths[1]],
             vec![lengths[2], lengths[0] + 1],
             old.list.concat(),
-            vec![7; 5],
+            vec![7, 7, 7, 7, 7, 1],
             vec![lengths[1]],
             new.list.concat(),
             slice(&[done.clone(), vec![7, 7]].concat()),
@@ -284,7 +285,7 @@ fn d() {
 /// E and F: the new route without 10, where 30 reads these.
 fn facts_without_10(reads: u64) -> Facts {
     Facts {
-        new: records(3, &[[20, 1, 2, 0, 2], [30, 2, 4, reads, 4]]),
+        new: records(3, &[[20, 1, 2, 0, 2, 0], [30, 2, 4, reads, 4, 0]]),
         done: vec![10, 20],
         ..facts_a()
     }
@@ -359,7 +360,7 @@ fn i() {
 
 #[test]
 fn j() {
-    let route = records(3, &[[10, 1, 4, 0, 0], [20, 2, 4, 0, 0]]);
+    let route = records(3, &[[10, 1, 4, 0, 0, 0], [20, 2, 4, 0, 0, 0]]);
     let facts = Facts {
         old: route.clone(),
         new: route,
@@ -370,7 +371,7 @@ fn j() {
 
 #[test]
 fn k() {
-    let route = records(2, &[[10, 1, 2, 0, 0], [20, 2, 2, 0, 1]]);
+    let route = records(2, &[[10, 1, 2, 0, 0, 0], [20, 2, 2, 0, 1, 0]]);
     let moved = Moved {
         kept: 7,
         dropped: 0,
@@ -401,7 +402,7 @@ fn k() {
 
 #[test]
 fn l() {
-    let route = records(2, &[[10, 1, 3, 0, 0]]);
+    let route = records(2, &[[10, 1, 3, 0, 0, 0]]);
     let facts = Facts {
         old: route.clone(),
         new: route,

@@ -96,7 +96,7 @@ fn done_lists_of_example_a() {
         facts.done = done.to_vec();
         let [all, without_20, without_10] = matched;
         answers(COMPARE, &facts.by_value(), &[0, 0, run, all]);
-        facts.new = records(3, &[[10, 1, 2, 0, 1], [30, 2, 4, 3, 4]]);
+        facts.new = records(3, &[[10, 1, 2, 0, 1, 0], [30, 2, 4, 3, 4, 0]]);
         answers(COMPARE, &facts.by_value(), &[0, 0, run, without_20]);
         facts.new.list[0][0] = 20;
         answers(COMPARE, &facts.by_value(), &[0, 0, run, without_10]);
@@ -118,10 +118,10 @@ fn lines_in_another_order() {
 fn a_loop() {
     let mut facts = facts_a();
     let list = [
-        [10, 1, 2, 0, 0],
-        [20, 2, 4, 0, 0],
-        [30, 4, 2, 0, 0],
-        [40, 4, 4, 0, 0],
+        [10, 1, 2, 0, 0, 0],
+        [20, 2, 4, 0, 0, 0],
+        [30, 4, 2, 0, 0, 0],
+        [40, 4, 4, 0, 0, 0],
     ];
     facts.old = records(3, &list);
     facts.new = records(3, &[list[3], list[0], list[1]]);
@@ -137,8 +137,8 @@ fn a_loop() {
 #[test]
 fn records_past_len() {
     let facts = facts_a();
-    let old = [facts.old.list.clone(), vec![[7, 1, 2, 0, 0]; 3]].concat();
-    let new = [vec![[20, 1, 2, 0, 2]], vec![[10, 1, 2, 0, 1]; 9]].concat();
+    let old = [facts.old.list.clone(), vec![[7, 1, 2, 0, 0, 0]; 3]].concat();
+    let new = [vec![[20, 1, 2, 0, 2, 0]], vec![[10, 1, 2, 0, 1, 0]; 9]].concat();
     let old = records(4, &old).with_len(3);
     // Only 20 counts: 10 is a miss.
     let new = records(2, &new).with_len(1);

@@ -1,6 +1,7 @@
-//! Scripts: worked answers for 01's examples, for wrong records, for shelves and for
-//! look-ups, and random scripts held to a direct reading of 01's and 02's definitions.
+//! Scripts: worked answers for 01's examples, for wrong records, for shelves, for
+//! look-ups and for cloth, and random scripts held to a direct reading of 01's and 02's definitions.
 
+mod cloth;
 mod common;
 mod direct;
 #[path = "../random/kinds.rs"]

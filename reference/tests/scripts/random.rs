@@ -1,8 +1,8 @@
 //! Random scripts: which rows they meet, and their answers held to 01's
 //! definitions read directly.
 
-use crate::common::{counted, padded, slice, text};
-use crate::direct::{fire, Job, List, Refusal, Route};
+use crate::common::{counted, padded, slice, text, BY_VALUE};
+use crate::direct::{fire, Job, List, Refusal, Route, Step};
 use reference::random::dice::{mix, Dice};
 use reference::random::script::{script, MOST_BYTES};
 use reference::script::{answer, answers};
@@ -176,14 +176,17 @@ impl Words<'_> {
         (0..count).map(|_| self.next()).collect()
     }
 
+    fn step(&mut self) -> Step {
+        [0; 6].map(|_: u64| self.next())
+    }
+
     fn route(&mut self, lent: bool) -> Route {
         let places = self.next();
         let len = (!lent).then(|| self.next());
         let count = self.next();
-        let mut step = || [0; 5].map(|_: u64| self.next());
-        let mut steps: Vec<[u64; 5]> = (0..count).map(|_| step()).collect();
+        let mut steps: Vec<Step> = (0..count).map(|_| self.step()).collect();
         if let Some(len) = len {
-            steps.resize(len.min(70) as usize, [0; 5]);
+            steps.resize(len.min(70) as usize, [0; 6]);
         }
         Route { places, steps }
     }
@@ -283,8 +286,7 @@ fn expected(operation: u64, words: &mut Words) -> Option<Vec<u64>> {
     match operation {
         1 => {
             let tokens = words.next();
-            let step = [0; 5].map(|_: u64| words.next());
-            let fired = fire(tokens, &step);
+            let fired = fire(tokens, &words.step());
             Some(fired.map_or(vec![18, 0, 0], |marking| vec![0, 0, marking]))
         }
         2 | 12 => Some(expected_run(&words.job(operation))),
@@ -376,7 +378,9 @@ fn what_is_written_is_read_back() {
 /// The script that writes what read answered.
 fn rewrite(facts: &[u64], length: usize) -> String {
     let route = |numbers: &[u64]| format!("{} 64 {}", text(&numbers[..2]), text(&numbers[2..]));
-    let (old, new) = (route(&facts[2..324]), route(&facts[324..646]));
-    let done = counted(&facts[647..647 + facts[646] as usize]);
+    let (routes, done) = facts[2..].split_at(2 * (2 + BY_VALUE));
+    let (old, new) = routes.split_at(2 + BY_VALUE);
+    let (old, new) = (route(old), route(new));
+    let done = counted(&done[1..=done[0] as usize]);
     format!("8 {old} {new} {done} {length} 0")
 }

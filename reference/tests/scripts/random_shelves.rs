@@ -1,8 +1,8 @@
 //! Random scripts of shelves: which rows they meet, and their answers held to
 //! 02's words read directly, over shelves as the answers show them.
 
-use crate::common::{counted, padded, slice, text};
-use crate::direct::{self, Job, Refusal};
+use crate::common::{counted, padded, slice, text, BY_VALUE};
+use crate::direct::{self, Job, Refusal, Step};
 use crate::random::{arguments, draw, operations_of, outcome, Answered, Words, MOVED};
 use reference::random::script::MOST_BYTES;
 use reference::random::shelf::script;
@@ -50,7 +50,7 @@ impl Entry {
             number: 0,
             places: 0,
             len: 0,
-            records: vec![0; 320],
+            records: vec![0; BY_VALUE],
         }
     }
 
@@ -58,14 +58,14 @@ impl Entry {
     fn shown(numbers: &mut impl Iterator<Item = u64>) -> Entry {
         let mut next = || numbers.next().unwrap();
         let [number, places, len, length] = [next(), next(), next(), next()];
-        assert_eq!(length, 320);
+        assert_eq!(length, BY_VALUE as u64);
         let mut records = Vec::new();
-        while records.len() < 320 {
+        while records.len() < BY_VALUE {
             let (count, one) = (next(), next());
             assert!(count > 0 && records.last() != Some(&one));
             records.resize(records.len() + count as usize, one);
         }
-        assert_eq!(records.len(), 320);
+        assert_eq!(records.len(), BY_VALUE);
         Entry {
             number,
             places,
@@ -77,13 +77,13 @@ impl Entry {
     /// The next number and route by value that a script gives.
     fn given(words: &mut Words) -> Entry {
         let [number, places, len] = [words.next(), words.next(), words.next()];
-        let count = 5 * words.next();
+        let count = 6 * words.next();
         let records: Vec<u64> = (0..count).map(|_| words.next()).collect();
         Entry {
             number,
             places,
             len,
-            records: padded(&records, 320),
+            records: padded(&records, BY_VALUE),
         }
     }
 
@@ -96,11 +96,11 @@ impl Entry {
     fn refused_as_old(&self) -> Option<Refusal> {
         let new = direct::Route {
             places: 2,
-            steps: vec![[1, 1, 2, 0, 0]],
+            steps: vec![[1, 1, 2, 0, 0, 0]],
         };
-        let records = self.records.chunks(5);
-        let mut steps: Vec<[u64; 5]> = records.map(|five| five.try_into().unwrap()).collect();
-        steps.resize(self.len.min(70) as usize, [0; 5]);
+        let records = self.records.chunks(6);
+        let mut steps: Vec<Step> = records.map(|six| six.try_into().unwrap()).collect();
+        steps.resize(self.len.min(70) as usize, [0; 6]);
         let places = self.places;
         let old = direct::Route { places, steps };
         let done = vec![];
@@ -265,7 +265,7 @@ fn shelves_are_bad_in_every_way() {
         let len = shelf.stored().len();
         let past = shelf.entries[len..].iter().any(|e| *e != Entry::blank());
         let wrong = |entry: &Entry| entry.refused_as_old().is_some();
-        let long = |entry: &Entry| entry.records.iter().step_by(5).any(|&name| name > 65_535);
+        let long = |entry: &Entry| entry.records.iter().step_by(6).any(|&name| name > 65_535);
         let kinds = [
             (faults.is_empty(), "good"),
             (faults.is_empty() && len == 8, "full"),

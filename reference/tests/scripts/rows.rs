@@ -2,7 +2,8 @@
 //! the rows of reading into lent lists, each worked by hand.
 
 use crate::common::{answers, counted, facts_a, numbers_of, padded, records, refused};
-use crate::common::{Facts, Numbers};
+use crate::common::{Facts, Numbers, BY_VALUE};
+use crate::direct::Step;
 
 /// Every operation on these arguments, by value (0) or lent (10), is refused so.
 #[track_caller]
@@ -99,7 +100,7 @@ fn for_each_line_the_rows_in_turn() {
 #[test]
 fn eight_entries_and_nine() {
     let mut facts = facts_a();
-    facts.old = records(9, &[[10, 1, 0x1fe, 0xff, 0xff00_0000]]);
+    facts.old = records(9, &[[10, 1, 0x1fe, 0xff, 0xff00_0000, 0]]);
     facts.new = facts.old.clone();
     facts.done = vec![10];
     answers(2, &facts.by_value(), &[0, 0, 0x1fe]);
@@ -110,10 +111,10 @@ fn eight_entries_and_nine() {
 
 /// A route with so many right records, each from place 0 to place 1.
 fn many(count: u64) -> Facts {
-    let list: Vec<[u64; 5]> = (1..=count).map(|name| [name, 1, 2, 0, 0]).collect();
+    let list: Vec<Step> = (1..=count).map(|name| [name, 1, 2, 0, 0, 0]).collect();
     Facts {
         old: records(2, &list),
-        new: records(2, &[[1, 1, 2, 0, 0]]),
+        new: records(2, &[[1, 1, 2, 0, 0, 0]]),
         done: vec![1],
     }
 }
@@ -127,7 +128,7 @@ fn a_65th_record() {
     }
     // An earlier line's fault goes first, a later one doesn't count.
     let mut facts = many(65);
-    facts.old.list[64] = [0; 5];
+    facts.old.list[64] = [0; 6];
     facts.new.places = 0;
     all_refused(10, &facts.lent(), [4, 66]);
     facts.old.list[63][1] = 0;
@@ -156,7 +157,7 @@ fn a_route_by_value_with_any_len() {
     }
     // Records past `len` don't count.
     let mut facts = many(5);
-    facts.old.list[3] = [0; 5];
+    facts.old.list[3] = [0; 6];
     let text = |len| format!("{} {} 1 1", facts.old.with_len(len), facts.new.by_value());
     answers(2, &text(3), &[0, 0, 2]);
     all_refused(0, &text(4), [2, 5]);
@@ -232,7 +233,7 @@ fn run_and_slice_end_after_row_9() {
 
 /// 10, then 20 over and over: each builds on the one before.
 fn again(count: usize) -> Facts {
-    let route = records(2, &[[10, 1, 2, 0, 0], [20, 2, 2, 32, 32]]);
+    let route = records(2, &[[10, 1, 2, 0, 0, 0], [20, 2, 2, 32, 32, 0]]);
     Facts {
         old: route.clone(),
         new: route,
@@ -275,7 +276,7 @@ fn row_10_where_straight_replay_fails() {
     // 10 fills another place, so 20 can't fire.
     for (count, refusal) in [(17, [10, 7]), (16, [13, 7])] {
         let mut facts = again(count);
-        facts.new = records(3, &[[10, 1, 4, 0, 0], [20, 2, 2, 32, 32]]);
+        facts.new = records(3, &[[10, 1, 4, 0, 0, 0], [20, 2, 2, 32, 32, 0]]);
         facts.new.list[1][1] = 4;
         let work = [
             vec![8_192],
@@ -297,7 +298,8 @@ fn reading_into_lists_that_are_too_short() {
         ([3, 3, 1], 2),
         ([0, 100, 100], 3),
     ] {
-        let records = |count: u64| [vec![count], vec![7; 5 * count as usize]].concat();
+        let records =
+            |count: u64| [vec![count], [7, 7, 7, 7, 7, 1].repeat(count as usize)].concat();
         let runs = |count: u64| match count {
             0 => vec![0],
             _ => vec![count, count, 7],
@@ -312,7 +314,7 @@ fn reading_into_lists_that_are_too_short() {
     let bytes = counted(&numbers_of(&wrong));
     let refused = [2, 11, 0, 0, 0, 0, 0, 0, 0, 0];
     answers(16, &format!("{bytes} 0 0 0"), &refused);
-    answers(6, &bytes, &padded(&[2, 11], 2 + 2 * 322 + 65));
+    answers(6, &bytes, &padded(&[2, 11], 2 + 2 * (2 + BY_VALUE) + 65));
     answers(7, &bytes, &[0]);
 }
 
@@ -321,11 +323,11 @@ fn the_longest_sheet_in_a_script() {
     let lists = "(in 56 57 58 59 60 61 62 63) (out 48 49 50 51 52 53 54 55) \
                  (read 24 25 26 27 28 29 30 31) (write 16 17 18 19 20 21 22 23)";
     let steps: String = (4_294_967_232_u64..=4_294_967_295)
-        .map(|name| format!("(step {name} {lists})\n"))
+        .map(|name| format!("(step {name} {lists} (cloth))\n"))
         .collect();
     let done = "(done 4294967295)\n".repeat(64);
     let sheet = format!("(old 64)\n{steps}(new 64)\n{steps}(job)\n{done}");
-    assert_eq!(sheet.len(), 19_096);
+    assert_eq!(sheet.len(), 20_120);
     let script = counted(&numbers_of(&sheet));
     assert!(script.len() < 65_000);
     let part = format!("(job)\n{done}");

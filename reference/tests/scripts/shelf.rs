@@ -2,7 +2,8 @@
 //! and judge's, and the order of the rows.
 
 use crate::common::{counted, facts_a, padded, records, slice, text};
-use crate::common::{Facts, Numbers, Records};
+use crate::common::{Facts, Numbers, Records, BY_VALUE};
+use crate::direct::Step;
 use reference::script::answer;
 
 /// The second numbers of 21: a shelf that is full, and one that is bad.
@@ -35,7 +36,7 @@ impl Edition {
     }
 
     fn shown(&self) -> Numbers {
-        let records = padded(&self.route.list.concat(), 320);
+        let records = padded(&self.route.list.concat(), BY_VALUE);
         let head = vec![self.number, self.route.places, self.len];
         [head, slice(&records)].concat()
     }
@@ -64,7 +65,7 @@ impl Shelf {
     }
 
     fn shown(&self) -> Numbers {
-        let blank = [0, 0, 0, 320, 320, 0].repeat(8 - self.editions.len());
+        let blank = [0, 0, 0, 384, 384, 0].repeat(8 - self.editions.len());
         let entries: Vec<Numbers> = self.editions.iter().map(Edition::shown).collect();
         [vec![self.len], entries.concat(), blank].concat()
     }
@@ -151,7 +152,7 @@ fn bad_shelves() -> Vec<Shelf> {
 
 #[test]
 fn a_script_begins_with_the_empty_shelf() {
-    let blank = "0 0 0 320 320 0";
+    let blank = "0 0 0 384 384 0";
     let shown = format!("0 {}", [blank; 8].join(" "));
     assert_eq!(answer("20 0 0"), format!("{shown}\n"));
     let put = answer(&format!("21 {}", right(5).given()));
@@ -163,9 +164,9 @@ fn a_script_begins_with_the_empty_shelf() {
 
 #[test]
 fn an_entry_is_shown_in_runs() {
-    let route = records(2, &[[10, 1, 2, 0, 0]]);
+    let route = records(2, &[[10, 1, 2, 0, 0, 0]]);
     let line = answer(&format!("21 {}", Edition::of(7, route).given()));
-    assert!(line.starts_with("0 0 1 7 2 1 320 1 10 1 1 1 2 317 0 0 0 0 320 320 0 "));
+    assert!(line.starts_with("0 0 1 7 2 1 384 1 10 1 1 1 2 381 0 0 0 0 384 384 0 "));
 }
 
 #[test]
@@ -208,11 +209,11 @@ fn numbers_that_put_takes() {
 #[test]
 fn put_sets_one_entry_and_leaves_the_others() {
     let mut shelf = full();
-    shelf.editions[4].route.list.push([0, 0, 0, 7, 7]);
+    shelf.editions[4].route.list.push([0, 0, 0, 7, 7, 0]);
     shelf.editions[6] = without_step(0);
     shelf.len = 3;
     // Its second record stands past `len`, and is stored too.
-    let route = records(2, &[[10, 1, 2, 0, 0], [0, 1 << 63, 0, 9, 9]]);
+    let route = records(2, &[[10, 1, 2, 0, 0, 0], [0, 1 << 63, 0, 9, 9, 0]]);
     let edition = Edition {
         number: 60_000,
         len: 1,
@@ -257,7 +258,7 @@ fn the_routes_own_rows() {
 
 #[test]
 fn a_65th_step() {
-    let list: Vec<[u64; 5]> = (1..=64).map(|name| [name, 1, 2, 0, 0]).collect();
+    let list: Vec<Step> = (1..=64).map(|name| [name, 1, 2, 0, 0, 0]).collect();
     let mut edition = Edition::of(9, records(2, &list));
     empty().takes(&edition);
     for len in [65, 66, 1 << 32, u64::MAX] {
@@ -357,8 +358,8 @@ fn judges_each_pair(shelf: &Shelf, done: &[u64]) {
 #[test]
 fn a_job_is_judged_as_its_two_routes_say() {
     let Facts { old, new, .. } = facts_a();
-    let without_10 = records(3, &[[20, 1, 2, 0, 2], [30, 2, 4, 3, 4]]);
-    let reads_1 = records(3, &[[20, 1, 2, 0, 2], [30, 2, 4, 2, 4]]);
+    let without_10 = records(3, &[[20, 1, 2, 0, 2, 0], [30, 2, 4, 3, 4, 0]]);
+    let reads_1 = records(3, &[[20, 1, 2, 0, 2, 0], [30, 2, 4, 2, 4, 0]]);
     let mut other_writes = new.clone();
     other_writes.list[1][4] = 9;
     let routes = [old, new, without_10, reads_1, other_writes];
@@ -411,7 +412,7 @@ fn bad_routes_that_are_stored() {
 #[test]
 fn the_shelf_stays_in_hand() {
     let shelf = Shelf::numbered(&[3, 5]);
-    let between = "22 3 5 1 10 8192 9 22 5 3 0 8192 9 1 1 10 1 2 0 1 7 0 21 4 1 0 0";
+    let between = "22 3 5 1 10 8192 9 22 5 3 0 8192 9 1 1 10 1 2 0 1 0 7 0 21 4 1 0 0";
     let lines = shelf.answers(&format!("{between} 21 {}", right(6).given()));
     let lines: Vec<&str> = lines.lines().collect();
     let refused = [vec![20, 0], shelf.shown()].concat();

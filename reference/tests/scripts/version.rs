@@ -1,7 +1,7 @@
 //! Operation 23, reading by 01's version: its answers by hand, and what random
 //! scripts meet of it.
 
-use crate::common::{counted, numbers_of, refused};
+use crate::common::{counted, numbers_of, refused, BY_VALUE};
 use crate::random::{arguments, operations};
 use reference::script::answer;
 use std::collections::BTreeMap;
@@ -10,7 +10,7 @@ const PRESENT: u64 = 6;
 const BY_01: u64 = 23;
 
 /// The numbers of an answer after the first two: two routes, and the done list.
-const FACTS: usize = 2 * 322 + 65;
+const FACTS: usize = 2 * (2 + BY_VALUE) + 65;
 
 const SHEET: &str = include_str!("../../../examples/letters/A.sheet");
 

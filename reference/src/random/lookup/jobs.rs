@@ -61,6 +61,7 @@ fn free_route(dice: &mut Dice) -> Route {
         outs: vec![1],
         reads: vec![],
         writes: vec![],
+        cloth: false,
     };
     let mut steps: Vec<Step> = taken.iter().map(step).collect();
     steps[dice.below(count)].ins = vec![0];
