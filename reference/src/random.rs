@@ -4,6 +4,7 @@
 //! records, sheets and orders; operations on shelves of such routes; and look-ups.
 
 pub mod block;
+pub mod cloth;
 pub mod damage;
 pub mod dice;
 pub mod jobs;

@@ -1,9 +1,10 @@
-//! Damage to a sheet: bytes changed, cut and inserted, numbers changed, lines
-//! moved, doubled and left out.
+//! Damage to a sheet: bytes changed, cut and inserted, numbers and marks changed,
+//! lines moved, doubled and left out.
 
 use super::dice::Dice;
 use super::names;
 use super::records::any;
+use crate::sheet::MARK;
 use std::ops::Range;
 
 /// Words that numbers stand after.
@@ -31,13 +32,39 @@ const LONG: [&str; 12] = [
     "0123456789",
 ];
 
+/// What may stand in the place of a mark: none, one, two, one with a letter missing,
+/// too many or another, without its space or with two, with an entry, not closed.
+const NEAR_A_MARK: [&str; 20] = [
+    "",
+    MARK,
+    MARK,
+    " (cloth) (cloth)",
+    " (cloth)(cloth)",
+    " (loth)",
+    " (clth)",
+    " (clo)",
+    " (clot)",
+    " (cloths)",
+    " (Cloth)",
+    " (CLOTH)",
+    " (close)",
+    "(cloth)",
+    "  (cloth)",
+    " (cloth )",
+    " (cloth 1)",
+    " (cloth",
+    " cloth",
+    " ",
+];
+
 /// The sheet with one to three kinds of damage.
 pub fn damage(sheet: &[u8], dice: &mut Dice) -> Vec<u8> {
     let mut bytes = sheet.to_vec();
     for _ in 0..[1, 1, 1, 2, 2, 3][dice.below(6)] {
-        bytes = match dice.below(7) {
+        bytes = match dice.below(8) {
             0 => damage_bytes(bytes, dice),
             1..=4 => change_number(bytes, dice),
+            5 => damage_mark(bytes, dice),
             _ => damage_lines(bytes, dice),
         };
     }
@@ -46,7 +73,7 @@ pub fn damage(sheet: &[u8], dice: &mut Dice) -> Vec<u8> {
 
 /// A byte that sheets hold, or any byte.
 fn some_byte(dice: &mut Dice) -> u8 {
-    let common = b"()\n 0123456789oldnewstepinoutreadwritejobdone";
+    let common = b"()\n 0123456789oldnewstepinoutreadwriteclothjobdone";
     if dice.chance(80) {
         common[dice.below(common.len())]
     } else {
@@ -125,12 +152,58 @@ fn other_number(digits: &[u8], dice: &mut Dice) -> String {
     }
 }
 
+/// A step's mark is changed, or put in another place.
+fn damage_mark(bytes: Vec<u8>, dice: &mut Dice) -> Vec<u8> {
+    let mut lines = lines_of(&bytes);
+    let is_step = |at: &usize| lines[*at].starts_with(b"(step");
+    let steps: Vec<usize> = (0..lines.len()).filter(is_step).collect();
+    if steps.is_empty() {
+        return bytes;
+    }
+    let is_marked = |at: &usize| mark_in(&lines[*at]).is_some();
+    let marked: Vec<usize> = steps.iter().copied().filter(is_marked).collect();
+    let some = !marked.is_empty() && dice.chance(70);
+    let at = any(if some { &marked } else { &steps }, dice);
+    let mut line = lines[at].clone();
+    if let Some(mark) = mark_in(&line) {
+        line.drain(mark..mark + MARK.len());
+    }
+    let (place, text) = if dice.chance(70) {
+        (line.len().saturating_sub(2), any(&NEAR_A_MARK, dice))
+    } else {
+        (another_place(&line, dice), MARK)
+    };
+    line.splice(place..place, text.bytes());
+    lines[at] = line;
+    lines.concat()
+}
+
+/// Where the mark stands in a line.
+fn mark_in(line: &[u8]) -> Option<usize> {
+    line.windows(MARK.len())
+        .position(|part| part == MARK.as_bytes())
+}
+
+/// Before a form or an entry, at the line's beginning or behind its bracket; half of
+/// them before the last form, the write list.
+fn another_place(line: &[u8], dice: &mut Dice) -> usize {
+    let spaces = (0..line.len()).filter(|&at| line[at] == b' ');
+    let places: Vec<usize> = spaces.chain([0, line.len() - 1]).collect();
+    let last = line.windows(2).rposition(|two| two == b" (");
+    match last {
+        Some(last) if dice.chance(50) => last,
+        _ => any(&places, dice),
+    }
+}
+
+fn lines_of(bytes: &[u8]) -> Vec<Vec<u8>> {
+    let lines = bytes.split_inclusive(|&byte| byte == b'\n');
+    lines.map(<[u8]>::to_vec).collect()
+}
+
 /// One line moved, doubled, doubled many times or left out.
 fn damage_lines(bytes: Vec<u8>, dice: &mut Dice) -> Vec<u8> {
-    let mut lines: Vec<Vec<u8>> = bytes
-        .split_inclusive(|&byte| byte == b'\n')
-        .map(<[u8]>::to_vec)
-        .collect();
+    let mut lines = lines_of(&bytes);
     if lines.is_empty() {
         return bytes;
     }

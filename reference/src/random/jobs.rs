@@ -1,9 +1,9 @@
 //! Jobs for scripts: small nets that loop and branch, jobs with kept at and
-//! over 16, done lists up to 64, routes at their limits, other names, and twists
-//! that rows 6 to 12 refuse or that leave nothing to keep.
+//! over 16, done lists up to 64, routes at their limits, marks, other names, and
+//! twists that rows 6 to 12 refuse or that leave nothing to keep.
 
 use super::dice::Dice;
-use super::{names, run_at_random, spoil};
+use super::{cloth, names, run_at_random, spoil};
 use crate::fit;
 use crate::job::Job;
 use crate::net;
@@ -14,13 +14,11 @@ pub fn job(dice: &mut Dice) -> Sheet {
     let mut job = match dice.below(20) {
         0..=2 => super::sheet(dice),
         3..=6 => searched(dice),
-        7..=8 => tangled(dice),
-        9 => unchanged(super::sheet(dice)),
-        10..=12 => tiny(dice),
-        13..=14 => chain(dice),
-        15..=16 => building(dice),
-        17..=18 => beside(dice),
-        _ => crowded(dice),
+        7 => unchanged(super::sheet(dice)),
+        _ => {
+            let job = of_a_kind(dice);
+            cloth::marked(job, dice)
+        }
     };
     if dice.chance(40) {
         names::rename(&mut job, dice);
@@ -29,6 +27,18 @@ pub fn job(dice: &mut Dice) -> Sheet {
         twist(&mut job, dice);
     }
     job
+}
+
+/// A job with no mark yet.
+fn of_a_kind(dice: &mut Dice) -> Sheet {
+    match dice.below(12) {
+        0..=1 => tangled(dice),
+        2..=4 => tiny(dice),
+        5..=6 => chain(dice),
+        7..=8 => building(dice),
+        9..=10 => beside(dice),
+        _ => crowded(dice),
+    }
 }
 
 /// A job that gets as far as the search, with two or more kept, most often.
@@ -346,7 +356,7 @@ fn crowded(dice: &mut Dice) -> Sheet {
 /// A change that most often leads to one of the rows 6 to 12.
 fn twist(job: &mut Sheet, dice: &mut Dice) {
     let at = dice.below(job.new.steps.len());
-    match dice.below(14) {
+    match dice.below(17) {
         0 => job.old.places = 64.min(job.old.places + 1),
         1 => job.new.places = 64.min(job.new.places + 1),
         2 => close(&mut job.old),
@@ -358,12 +368,17 @@ fn twist(job: &mut Sheet, dice: &mut Dice) {
         }
         11 => job.new.steps[at].reads = perhaps(32, dice),
         12 => without_data(job, at),
+        13..=14 => cloth::change(&mut job.new, dice),
+        15 => {
+            without_data(job, at);
+            cloth::clear(job);
+        }
         _ => job.new.steps[at].writes = perhaps(32, dice),
     }
 }
 
-/// No step reads or writes, so nothing is kept; one of the new route has a
-/// name of its own.
+/// No step reads or writes, so only cuts are kept; one of the new route has a name
+/// of its own.
 fn without_data(job: &mut Sheet, at: usize) {
     job.new.steps[at].name = 40_000;
     for step in job.old.steps.iter_mut().chain(&mut job.new.steps) {

@@ -1,16 +1,27 @@
-//! A plan of a route: its tree of blocks, and what each step reads and writes.
+//! A plan of a route: its tree of blocks, what each step reads and writes, and which
+//! are marked.
 
 use super::block::{Block, Kind};
 use super::dice::Dice;
-use super::names;
+use super::{cloth, names};
 use crate::sheet::{Route, Step};
 use std::collections::BTreeMap;
 
-/// The variables that a step reads and writes.
+/// The variables that a step reads and writes, and its mark.
 #[derive(Clone, Debug, PartialEq, Eq, Default)]
 pub struct Data {
     pub reads: Vec<u64>,
     pub writes: Vec<u64>,
+    pub cloth: bool,
+}
+
+impl Data {
+    /// A cut may write nothing.
+    fn perhaps_silent(&mut self, dice: &mut Dice) {
+        if self.cloth && cloth::silent(dice) {
+            self.writes.clear();
+        }
+    }
 }
 
 #[derive(Clone, Debug)]
@@ -19,6 +30,8 @@ pub struct Plan {
     pub data: BTreeMap<u64, Data>,
     /// The variables that steps draw from.
     pub pool: Vec<u64>,
+    /// Of a hundred steps so many are marked.
+    share: usize,
 }
 
 impl Plan {
@@ -44,8 +57,10 @@ impl Plan {
                 0 => vec![own[dice.below(self.data.len())]],
                 _ => vec![],
             };
-            let writes = vec![*variable];
-            self.data.insert(name, Data { reads, writes });
+            let data = self.data.entry(name).or_default();
+            data.reads = reads;
+            data.writes = vec![*variable];
+            data.perhaps_silent(dice);
         }
         self.pool = own;
     }
@@ -63,6 +78,7 @@ impl Plan {
             let variable = plan.pool[dice.below(plan.pool.len().min(2))];
             data.reads = vec![variable];
             data.writes = vec![variable];
+            data.perhaps_silent(dice);
         }
         let kind = [Kind::Loop, Kind::Again][dice.below(2)];
         plan.begin(Block::of(kind, parts), dice);
@@ -77,6 +93,7 @@ impl Plan {
             tree: Block::of(Kind::Sequence, Vec::new()),
             data: BTreeMap::new(),
             pool,
+            share: cloth::share(dice),
         }
     }
 
@@ -95,14 +112,16 @@ impl Plan {
         self.tree = tree;
     }
 
-    /// A step with a name of its own and random data.
+    /// A step with a name of its own, random data and at times a mark.
     pub fn fresh_step(&mut self, dice: &mut Dice) -> u64 {
         let taken: Vec<u64> = self.data.keys().copied().collect();
         let name = names::fresh(&taken, dice);
-        let data = Data {
+        let mut data = Data {
             reads: self.some_variables(&[50, 35, 10, 5], dice),
             writes: self.some_variables(&[12, 70, 13, 5], dice),
+            cloth: dice.chance(self.share),
         };
+        data.perhaps_silent(dice);
         self.data.insert(name, data);
         name
     }
@@ -143,7 +162,7 @@ impl Plan {
             outs: renumber(outs),
             reads: self.data[name].reads.clone(),
             writes: self.data[name].writes.clone(),
-            cloth: false,
+            cloth: self.data[name].cloth,
         };
         let steps = arrows.iter().map(step).collect();
         Route { places, steps }

@@ -163,7 +163,7 @@ pub(super) fn spoil_record(route: &mut Records, dice: &mut Dice) {
     let at = dice.below(route.list.len());
     let other = any(&route.list, dice);
     let record = &mut route.list[at];
-    match dice.below(12) {
+    match dice.below(13) {
         0..=1 => {
             let name = some_name(other.name.into(), dice);
             record.name = name.try_into().expect("a name of 32 bits");
@@ -174,6 +174,7 @@ pub(super) fn spoil_record(route: &mut Records, dice: &mut Dice) {
         8 => record.reads = some_variables(record.reads, dice),
         9 => record.writes = some_variables(record.writes, dice),
         10 => *record = Record::default(),
+        11 => record.cloth = !record.cloth,
         _ => {
             record.name = other.name;
             record.outs = 0;

@@ -1,9 +1,9 @@
-//! Small changes to a plan: steps reordered, dropped and added, data changed,
-//! branches made sequential and back.
+//! Small changes to a plan: steps reordered, dropped and added, data and marks
+//! changed, branches made sequential and back.
 
 use super::block::{Block, Kind};
 use super::dice::Dice;
-use super::plan::Plan;
+use super::plan::{Data, Plan};
 use crate::sheet::Route;
 
 /// Reorders steps that have nothing to do with each other.
@@ -29,14 +29,16 @@ fn tamed(plan: &mut Plan, change: fn(&mut Plan, &mut Dice), dice: &mut Dice) {
 }
 
 fn change(plan: &mut Plan, dice: &mut Dice) {
-    match dice.below(20) {
+    match dice.below(23) {
         0..=1 => swap(plan, &|_, _| true, dice),
         2..=7 => swap_unrelated(plan, dice),
         8..=9 => make(plan, Kind::Sequence, Kind::Parallel, dice),
         10..=12 => make(plan, Kind::Parallel, Kind::Sequence, dice),
         13..=15 => drop_step(plan, dice),
         16..=17 => add_step(plan, dice),
-        _ => change_data(plan, dice),
+        18..=19 => change_data(plan, dice),
+        20..=21 => swap_cuts(plan, dice),
+        _ => change_mark(plan, dice),
     }
 }
 
@@ -80,24 +82,39 @@ fn swap(plan: &mut Plan, admits: &dyn Fn(&Block, &Block) -> bool, dice: &mut Dic
     });
 }
 
-/// Two neighbours change places of which none writes what the other reads or writes.
-fn swap_unrelated(plan: &mut Plan, dice: &mut Dice) {
-    let data = plan.data.clone();
-    let touches = |one: u64, other: u64| {
-        let (one, other) = (&data[&one], &data[&other]);
+/// Whether one of the two writes what the other reads or writes.
+fn share_data(one: &Data, other: &Data) -> bool {
+    let touches = |one: &Data, other: &Data| {
         let mut writes = one.writes.iter();
         writes.any(|v| other.reads.contains(v) || other.writes.contains(v))
     };
-    let unrelated = |one: &Block, other: &Block| {
-        let related = |a: &u64| {
-            other
-                .names()
-                .iter()
-                .any(|&b| touches(*a, b) || touches(b, *a))
-        };
-        !one.names().iter().any(related)
-    };
+    touches(one, other) || touches(other, one)
+}
+
+/// Whether the test holds of a step of the one block and a step of the other.
+fn any_pair(plan: &Plan, blocks: [&Block; 2], test: fn(&Data, &Data) -> bool) -> bool {
+    let [one, other] = blocks.map(Block::names);
+    let data = |name: &u64| &plan.data[name];
+    one.iter()
+        .any(|a| other.iter().any(|b| test(data(a), data(b))))
+}
+
+/// Two neighbours change places that share no data and aren't both cut.
+fn swap_unrelated(plan: &mut Plan, dice: &mut Dice) {
+    let before = plan.clone();
+    let related = |a: &Data, b: &Data| share_data(a, b) || a.cloth && b.cloth;
+    let unrelated = |one: &Block, other: &Block| !any_pair(&before, [one, other], related);
     swap(plan, &unrelated, dice);
+}
+
+/// Two neighbours change places that are both cut and share no data.
+fn swap_cuts(plan: &mut Plan, dice: &mut Dice) {
+    let before = plan.clone();
+    let cuts = |one: &Block, other: &Block| {
+        let pair = [one, other];
+        any_pair(&before, pair, |a, b| a.cloth && b.cloth) && !any_pair(&before, pair, share_data)
+    };
+    swap(plan, &cuts, dice);
 }
 
 /// A block of the one kind becomes one of the other.
@@ -147,6 +164,14 @@ fn change_data(plan: &mut Plan, dice: &mut Dice) {
         data.writes = plan.some_variables(&[10, 50, 30, 10], dice);
     }
     plan.data.insert(name, data);
+}
+
+/// A step is marked that wasn't, or isn't any more.
+fn change_mark(plan: &mut Plan, dice: &mut Dice) {
+    let names: Vec<u64> = plan.data.keys().copied().collect();
+    let name = names[dice.below(names.len())];
+    let data = plan.data.entry(name).or_default();
+    data.cloth = !data.cloth;
 }
 
 /// One step gets or changes a place, wherever that leads.

@@ -2,7 +2,7 @@
 
 use super::dice::Dice;
 use super::records::Facts;
-use super::{damage, jobs, names, orders};
+use super::{cloth, damage, jobs, names, orders};
 use crate::judge::WORK;
 use crate::print::listing_of;
 use crate::record::Record;
@@ -193,6 +193,9 @@ fn of_sheet(number: u64, dice: &mut Dice) -> Vec<String> {
     let mut job = jobs::job(dice);
     if matches!(number, 6 | 23) && dice.chance(50) {
         names::shorten(&mut job, dice);
+        if dice.chance(70) {
+            cloth::clear(&mut job);
+        }
     }
     let mut text = sheet::text(&job).into_bytes();
     match dice.below(100) {

@@ -1,0 +1,44 @@
+//! Marks: about a third of all steps are cloth. Some jobs have none, few or all of
+//! their steps marked; many cuts write nothing.
+
+use super::dice::Dice;
+use super::records::any;
+use crate::sheet::{Route, Sheet};
+use std::collections::BTreeMap;
+
+/// Of a hundred steps of a plan or a job so many are marked.
+pub fn share(dice: &mut Dice) -> usize {
+    any(&[0, 0, 15, 25, 35, 60, 100], dice)
+}
+
+/// Whether a cut writes nothing.
+pub fn silent(dice: &mut Dice) -> bool {
+    dice.chance(40)
+}
+
+/// The job with some steps marked, each in both routes; some of these write nothing.
+pub fn marked(mut job: Sheet, dice: &mut Dice) -> Sheet {
+    let share = share(dice);
+    let mut marks: BTreeMap<u64, [bool; 2]> = BTreeMap::new();
+    for step in job.old.steps.iter_mut().chain(&mut job.new.steps) {
+        let draw = || [dice.chance(share), silent(dice)];
+        let [cloth, silent] = *marks.entry(step.name).or_insert_with(draw);
+        step.cloth = cloth;
+        if cloth && silent {
+            step.writes.clear();
+        }
+    }
+    job
+}
+
+/// No step is marked.
+pub fn clear(job: &mut Sheet) {
+    let steps = job.old.steps.iter_mut().chain(&mut job.new.steps);
+    steps.for_each(|step| step.cloth = false);
+}
+
+/// One step is marked that wasn't, or isn't any more.
+pub fn change(route: &mut Route, dice: &mut Dice) {
+    let at = dice.below(route.steps.len());
+    route.steps[at].cloth ^= true;
+}
