@@ -20,12 +20,14 @@ pub struct Kept {
     pub start: u64,
 }
 
-/// What each occurrence reads and writes, where its name stands in the new route,
-/// and how many names were compared to find them on the old route and the new.
+/// What each occurrence reads and writes, which of them cut cloth, where their names
+/// stand in the new route, and how many names were compared to find them on the old
+/// route and the new.
 pub struct Uses {
     pub len: usize,
     pub reads: [u32; MOST],
     pub writes: [u32; MOST],
+    cloth: u64,
     places: [u8; MOST],
     compared: [usize; 2],
 }
@@ -39,9 +41,16 @@ impl Uses {
             len: 0,
             reads: [0; MOST],
             writes: [0; MOST],
+            cloth: 0,
             places: [0; MOST],
             compared: [0; 2],
         }
+    }
+
+    /// Whether an occurrence cuts cloth, by its step in the old route.
+    #[inline]
+    pub fn cuts(&self, index: usize) -> bool {
+        self.cloth >> index & 1 == 1
     }
 
     /// The new route's step of an occurrence.
@@ -96,6 +105,7 @@ fn run(sheet: &Sheet, start: u64, uses: &mut Uses) -> Result<(), Refusal> {
         marking ^= step.toggle();
         uses.reads[index] = step.reads;
         uses.writes[index] = step.writes;
+        uses.cloth |= u64::from(step.cloth) << index;
     }
     uses.len = sheet.done_len;
     uses.compared[0] = lookup.compared;
@@ -117,7 +127,7 @@ fn straight(sheet: &Sheet, start: u64, uses: &Uses) -> Option<u64> {
     let mut marking = start;
     for index in 0..uses.len {
         let step = uses.step(sheet, index)?;
-        if !step.can_fire(marking) || !same_data(step, uses, index) {
+        if !step.can_fire(marking) || !same_work(step, uses, index) {
             return None;
         }
         marking ^= step.toggle();
@@ -125,17 +135,20 @@ fn straight(sheet: &Sheet, start: u64, uses: &Uses) -> Option<u64> {
     Some(marking)
 }
 
-fn same_data(step: &Step, uses: &Uses, index: usize) -> bool {
-    step.reads == uses.reads[index] && step.writes == uses.writes[index]
+/// The same reads and writes, and the same mark.
+fn same_work(step: &Step, uses: &Uses, index: usize) -> bool {
+    step.reads == uses.reads[index]
+        && step.writes == uses.writes[index]
+        && step.cloth == uses.cuts(index)
 }
 
-/// One sweep from the last occurrence to the first: one is kept when it writes
-/// a variable whose value is still wanted; then what it reads is wanted.
+/// One sweep from the last occurrence to the first: one is kept when it cuts cloth
+/// or writes a variable whose value is still wanted; then what it reads is wanted.
 pub fn kept(uses: &Uses, variables: u32) -> u64 {
     let mut wanted = variables;
     let mut kept = 0;
     for index in (0..uses.len).rev() {
-        if uses.writes[index] & wanted != 0 {
+        if uses.writes[index] & wanted != 0 || uses.cuts(index) {
             wanted = wanted & !uses.writes[index] | uses.reads[index];
             kept |= 1 << index;
         }
@@ -154,7 +167,7 @@ fn check_kept(sheet: &Sheet, kept: u64, uses: &Uses) -> Result<(), Refusal> {
         left &= left - 1;
         match uses.step(sheet, index) {
             None => return Err((11, sheet.done_line(index))),
-            Some(step) if !same_data(step, uses, index) => {
+            Some(step) if !same_work(step, uses, index) => {
                 return Err((12, sheet.done_line(index)))
             }
             Some(_) => {}

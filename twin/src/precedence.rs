@@ -1,5 +1,5 @@
 //! Which of some occurrences come after which. Instead of pair by pair, the
-//! occurrences met so far are held by variable.
+//! occurrences met so far are held by variable, and those that cut cloth as a mask.
 
 use crate::job::Uses;
 use crate::route::MOST;
@@ -23,23 +23,28 @@ impl Precedence {
             rows: [0; MOST],
             writers: [0; 32],
         };
-        let mut users = [0; 32];
+        let (mut users, mut cut) = ([0; 32], 0);
         let mut left = occurrences;
         while left != 0 {
             let index = left.trailing_zeros() as usize;
             left &= left - 1;
-            let (reads, writes) = (uses.reads[index], uses.writes[index]);
+            let own = 1 << precedence.len;
+            let mut row = precedence.by_variable(&mut users, own, uses, index);
+            if uses.cuts(index) {
+                row |= cut;
+                cut |= own;
+            }
             precedence.at[precedence.len] = index as u8;
-            precedence.add(&mut users, reads, writes);
+            precedence.rows[precedence.len] = row;
+            precedence.len += 1;
         }
         precedence
     }
 
-    /// Adds one more, which comes after those that write what it uses and
-    /// those that use what it writes.
+    /// Those that write what one more uses, and those that use what it writes.
     #[inline(always)]
-    fn add(&mut self, users: &mut [u64; 32], reads: u32, writes: u32) {
-        let own = 1 << self.len;
+    fn by_variable(&mut self, users: &mut [u64; 32], own: u64, uses: &Uses, index: usize) -> u64 {
+        let (reads, writes) = (uses.reads[index], uses.writes[index]);
         let mut row = 0;
         for variable in members(reads) {
             row |= self.writers[variable];
@@ -52,8 +57,7 @@ impl Precedence {
         for variable in members(reads) {
             users[variable] |= own;
         }
-        self.rows[self.len] = row;
-        self.len += 1;
+        row
     }
 
     /// The last of them that writes the variable.

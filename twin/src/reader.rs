@@ -105,9 +105,21 @@ impl Reader<'_> {
         let reads = cursor.list()?;
         cursor.take(b") (write")?;
         let writes = cursor.list()?;
-        cursor.take(b"))\n")?;
+        let cloth = self.step_end()?;
         let lists = [ins, outs, reads, writes];
-        Ok(Line { name, lists })
+        Ok(Line { name, lists, cloth })
+    }
+
+    /// The end of a step line; whether it has the mark.
+    #[inline(always)]
+    fn step_end(&mut self) -> Result<bool, Broken> {
+        let marked = self.cursor.sees(b") ");
+        if marked {
+            self.cursor.take(b") (cloth))\n")?;
+        } else {
+            self.cursor.take(b"))\n")?;
+        }
+        Ok(marked)
     }
 
     /// Rows 4, 2, 3 and 5 of a step line; else the route gets the step.

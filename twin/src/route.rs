@@ -12,6 +12,8 @@ pub struct Step {
     pub reads: u32,
     pub writes: u32,
     pub name: u32,
+    /// The mark of a step that cuts cloth.
+    pub cloth: bool,
 }
 
 impl Step {

@@ -9,10 +9,11 @@ pub const NAMES: RangeInclusive<u64> = 1..=4_294_967_295;
 const VARIABLES: u64 = 32;
 const MOST_ENTRIES: u32 = 8;
 
-/// A step line: its name, and its lists in the order in, out, read, write.
+/// A step line: its name, its lists in the order in, out, read, write, and its mark.
 pub struct Line {
     pub name: u64,
     pub lists: [List; 4],
+    pub cloth: bool,
 }
 
 impl Line {
@@ -33,6 +34,7 @@ impl Line {
             reads: reads.mask as u32,
             writes: writes.mask as u32,
             name: self.name as u32,
+            cloth: self.cloth,
         })
     }
 }
