@@ -1,6 +1,7 @@
 //! The twin gives what the second program gives.
 
 mod letters;
+mod marks;
 mod orders;
 mod random;
 
@@ -9,6 +10,17 @@ use reference::lookup::comparisons;
 use reference::print::{listing_of, print};
 use reference::sheet::read;
 use twin::print as twin_print;
+
+/// The seed of a sheet; printed when the test fails on it.
+struct Seed(u64);
+
+impl Drop for Seed {
+    fn drop(&mut self) {
+        if std::thread::panicking() {
+            eprintln!("seed {}", self.0);
+        }
+    }
+}
 
 /// Both print the sheet into slices of any contents: the same answer, and the
 /// same contents afterwards.

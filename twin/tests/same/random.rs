@@ -1,22 +1,11 @@
 //! Random sheets, some of them damaged, and long ones.
 
-use crate::{same, same_in_all_slices};
+use crate::{same, same_in_all_slices, Seed};
 use reference::judge::WORK;
 use reference::random::damage::damage;
 use reference::random::{bytes, dice::mix, dice::Dice};
 
 const SHEETS: u64 = 20_000;
-
-/// The seed of a sheet; printed when the test fails on it.
-struct Seed(u64);
-
-impl Drop for Seed {
-    fn drop(&mut self) {
-        if std::thread::panicking() {
-            eprintln!("seed {}", self.0);
-        }
-    }
-}
 
 #[test]
 fn on_random_sheets() {
