@@ -29,7 +29,7 @@ impl Names {
 }
 
 /// The first step goes from place 0 to place 1; the others may be done there
-/// again and again.
+/// again and again. Every fifth cuts cloth.
 fn route(names: Names, dice: &mut Dice) -> Route {
     let count = [62, 63, 64, 64, 64, 65, 66, 67][dice.below(8)];
     let step = |number: u64| Step {
@@ -38,6 +38,7 @@ fn route(names: Names, dice: &mut Dice) -> Route {
         outs: vec![1],
         reads: vec![],
         writes: vec![number % 32],
+        cloth: number % 5 == 4,
     };
     let mut steps: Vec<Step> = (0..count).map(step).collect();
     for _ in 0..[0, 0, 0, 1, 1, 2][dice.below(6)] {

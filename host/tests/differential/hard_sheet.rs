@@ -1,5 +1,5 @@
-//! Sheets whose search is hard: up to 16 kept, nearly free of each other, and
-//! shared places that let only some orders through.
+//! Sheets whose search is hard: up to 16 kept, nearly free of each other, few that
+//! cut cloth, and shared places that let only some orders through.
 
 use reference::random::dice::Dice;
 use reference::sheet::{Route, Sheet, Step};
@@ -17,6 +17,7 @@ pub fn sheet(dice: &mut Dice) -> Sheet {
             _ => vec![],
         },
         writes: vec![number],
+        cloth: dice.chance(8),
     };
     let old = Route {
         places: 2 * count,

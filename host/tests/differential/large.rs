@@ -47,6 +47,7 @@ fn net_beside(facts: &Sheet, dice: &mut Dice) -> Route {
             outs,
             reads: some_variables(10, dice),
             writes: some_variables(4, dice),
+            cloth: dice.chance(2),
         });
     }
     net

@@ -35,13 +35,41 @@ fn numbers_at_their_limits() {
     }
 }
 
+/// Texts that stand where a step's bracket closes.
+const ENDS: [&str; 9] = [
+    " (cloth))",
+    " (cloth) (cloth))",
+    " (cloth)",
+    " (cloth ))",
+    " (cloth 1))",
+    "  (cloth))",
+    "(cloth))",
+    ") (cloth)",
+    " (write))",
+];
+
+/// Each form's end in example A becomes each of these, so that marks stand in every
+/// place; the present version alone takes one, at a step's end.
+#[test]
+fn marks_in_every_place() {
+    let ends = SHEET.match_indices(')').map(|(at, _)| at);
+    for end in ends {
+        let (before, after) = (&SHEET[..end], &SHEET[end + 1..]);
+        let sheets = ENDS.map(|mark| [before, mark, after].concat().into_bytes());
+        let both = |sheet: Vec<u8>| read(&sheet) + &read_by_01(&sheet);
+        let answers = compare_script("marks", &sheets.map(both).concat());
+        assert_eq!(answers.len(), 2 * ENDS.len());
+    }
+}
+
 /// The longest sheet of each version. A script has no room for two of them.
 #[test]
 fn the_longest_sheets() {
     let lists = "(in 56 57 58 59 60 61 62 63) (out 48 49 50 51 52 53 54 55) \
                  (read 24 25 26 27 28 29 30 31) (write 16 17 18 19 20 21 22 23)";
-    for (last, length) in [(65_535_u32, 18_136), (u32::MAX, 19_096)] {
-        let step = |name| format!("(step {name} {lists})\n");
+    let versions = [(65_535_u32, "", 18_136), (u32::MAX, " (cloth)", 20_120)];
+    for (last, mark, length) in versions {
+        let step = |name| format!("(step {name} {lists}{mark})\n");
         let steps: String = (last - 63..=last).map(step).collect();
         let done = format!("(done {last})\n").repeat(64);
         let sheet = format!("(old 64)\n{steps}(new 64)\n{steps}(job)\n{done}");

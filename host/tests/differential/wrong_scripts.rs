@@ -8,6 +8,7 @@ use reference::random::records::Facts;
 use reference::random::script::PAST_A_LIMIT;
 use reference::record::Record;
 use reference::script::answer;
+use reference::script::arguments::MOST_SLICE;
 use reference::script::numbers::MOST_BYTES;
 use reference::script::writing::{bytes, fill, operation};
 use reference::sheet;
@@ -15,6 +16,9 @@ use std::fs;
 use std::path::Path;
 
 const SHEET: &str = include_str!("../../../examples/letters/A.sheet");
+
+/// The longest slice that is lent.
+const LONGEST: usize = MOST_SLICE as usize;
 
 /// Example A as records.
 fn facts_a() -> Facts {
@@ -25,7 +29,7 @@ fn facts_a() -> Facts {
 /// slices of 8,191 and 8,192 bytes and out slices up to one byte too long.
 fn every_operation(facts: &Facts) -> String {
     let mut script = String::new();
-    let needed = sheet::text(&facts.sheet()).len().min(20_000);
+    let needed = sheet::text(&facts.sheet()).len().min(LONGEST);
     for (more, records) in [(0, facts.text(false)), (10, facts.text(true))] {
         let mut add = |number: u64, last: &[String]| {
             script += &operation(number + more, &[&[records.clone()], last].concat());
@@ -42,7 +46,7 @@ fn every_operation(facts: &Facts) -> String {
             add(5, &[fill(length, 9)]);
         }
         for length in [0, needed.saturating_sub(1), needed, needed + 1] {
-            add(8, &[fill(length.min(20_000), 9)]);
+            add(8, &[fill(length.min(LONGEST), 9)]);
         }
     }
     script
@@ -170,6 +174,31 @@ fn masks() {
     }
 }
 
+/// Example A with these names marked in the old route, in the new one or in both;
+/// without writes they are kept by their mark alone.
+fn with_marks(names: &[u32], [old, new]: [bool; 2], writes: bool) -> Facts {
+    let mut facts = facts_a();
+    for (route, mark) in [(&mut facts.old, old), (&mut facts.new, new)] {
+        let records = route.list.iter_mut();
+        for record in records.filter(|record| names.contains(&record.name)) {
+            record.cloth = mark;
+            record.writes *= u32::from(writes);
+        }
+    }
+    facts
+}
+
+#[test]
+fn marks() {
+    for names in [&[10][..], &[20], &[30], &[10, 20], &[20, 30], &[10, 20, 30]] {
+        for writes in [true, false] {
+            let routes = [[true, false], [false, true], [true, true]];
+            let all = routes.map(|marked| with_marks(names, marked, writes));
+            compare_each("marks", &all);
+        }
+    }
+}
+
 #[test]
 fn a_record_with_every_number_at_its_largest() {
     let largest = Record {
@@ -178,6 +207,7 @@ fn a_record_with_every_number_at_its_largest() {
         outs: u64::MAX,
         reads: u32::MAX,
         writes: u32::MAX,
+        cloth: true,
     };
     let mut facts = with_records(vec![largest; 64], u64::MAX);
     facts.old.places = u32::MAX;
@@ -188,7 +218,9 @@ fn a_record_with_every_number_at_its_largest() {
 /// Lists one record or name too short, of the right length, and longer.
 #[test]
 fn reading_into_lent_lists() {
-    for sheet in [SHEET, "", "(old 4)\n", &SHEET.replace("(done 30)\n", "")] {
+    let shorter = SHEET.replace("(done 30)\n", "");
+    let marked = SHEET.replace("(write 0))", "(write 0) (cloth))");
+    for sheet in [SHEET, "", "(old 4)\n", &shorter, &marked] {
         let mut script = String::new();
         for old in [0, 2, 3, 4, 100] {
             for new in [0, 2, 3, 100] {
@@ -212,7 +244,7 @@ fn printing_into_lent_slices() {
     let sheet = SHEET.as_bytes();
     let needed = listing_of(sheet).len();
     let mut script = String::new();
-    for work in [0, WORK - 1, WORK, WORK + 1, 20_000] {
+    for work in [0, WORK - 1, WORK, WORK + 1, LONGEST] {
         for out in [0, needed - 1, needed, needed + 1] {
             script += &operation(9, &[bytes(sheet), fill(work, 9), fill(out, 9)]);
         }
@@ -224,18 +256,18 @@ fn printing_into_lent_slices() {
 /// operations, or the last number, is cut off.
 #[test]
 fn a_script_past_its_limit() {
-    let fire = "1 1 10 1 2 0 1000001\n";
-    for before in 0..fire.len() {
-        let script = " ".repeat(before) + &fire.repeat(MOST_BYTES / fire.len() + 2);
+    let find = "24 2 10 1000 0 1000001\n";
+    for before in 0..find.len() {
+        let script = " ".repeat(before) + &find.repeat(MOST_BYTES / find.len() + 2);
         let answers = compare_script("limit", &script);
-        assert!(answers.len() <= MOST_BYTES / fire.len() + 1);
+        assert!(answers.len() <= MOST_BYTES / find.len() + 1);
     }
 }
 
 /// An argument past its limit ends the script.
 #[test]
 fn arguments_past_their_limits() {
-    let fire = "1 1 10 1 2 0 1\n";
+    let fire = "1 1 10 1 2 0 1 0\n";
     for begin in PAST_A_LIMIT.iter().chain(&lookup::PAST_A_LIMIT) {
         let script = format!("{fire}{begin}{}\n{fire}", " 0".repeat(600));
         assert_eq!(compare_script("past-limits", &script).len(), 1);

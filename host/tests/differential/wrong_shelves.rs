@@ -7,9 +7,9 @@ use reference::record::{Record, RouteByValue};
 use reference::script::writing::{fill, hand_in, judge_editions, put};
 use reference::shelf::{Edition, Shelf, MOST_EDITIONS};
 
-const FIRE: &str = "1 1 10 1 2 0 1\n";
+const FIRE: &str = "1 1 10 1 2 0 1 0\n";
 
-/// A step from one place to the next that writes a variable of its own.
+/// A step from one place to the next that writes a variable of its own; 20 cuts cloth.
 fn record(name: u32, place: u32) -> Record {
     Record {
         name,
@@ -17,6 +17,7 @@ fn record(name: u32, place: u32) -> Record {
         outs: 2 << place,
         reads: 0,
         writes: 1 << (name % 32),
+        cloth: name == 20,
     }
 }
 
@@ -36,7 +37,8 @@ fn right() -> RouteByValue {
     route
 }
 
-/// Routes that put refuses by each of the rows, and right ones at a limit.
+/// Routes that put refuses by each of the rows, and right ones at a limit or with
+/// another mark.
 fn routes() -> Vec<RouteByValue> {
     let mut all = vec![right(), chain(&[]), chain(&[10, 10]), chain(&[10, 0])];
     all.extend([65_536, 65_546, u32::MAX].map(|name| chain(&[10, name])));
@@ -45,6 +47,11 @@ fn routes() -> Vec<RouteByValue> {
     for mask in [0, 0x1ff, 1 << 63, 1, 8 | 1] {
         let mut route = right();
         route.records[2].outs = mask;
+        all.push(route);
+    }
+    for at in [0, 1] {
+        let mut route = right();
+        route.records[at].cloth ^= true;
         all.push(route);
     }
     all
@@ -229,6 +236,7 @@ fn a_shelf_with_every_number_at_its_largest() {
         outs: u64::MAX,
         reads: u32::MAX,
         writes: u32::MAX,
+        cloth: true,
     };
     let mut edition = Edition {
         number: u32::MAX,
@@ -253,8 +261,8 @@ fn a_shelf_with_every_number_at_its_largest() {
 fn counts_of_what_is_given() {
     for count in 0..=MOST_EDITIONS {
         let blanks = vec!["0 0 0 0"; count].join(" ");
-        let more = " 0 0 0 0 0".repeat(count);
-        let route = format!("2 1 {} 10 1 2 0 1{more}", count + 1);
+        let more = " 0 0 0 0 0 0".repeat(count);
+        let route = format!("2 1 {} 10 1 2 0 1 1{more}", count + 1);
         let script = format!("20 {count} {count} {blanks} 21 1 {route} 20 0 0 21 1 {route}");
         assert_eq!(compare_script("counts", &script).len(), 4);
     }
@@ -284,8 +292,8 @@ fn the_shelf_in_hand() {
 #[test]
 fn scripts_that_are_not_whole() {
     let whole = [
-        "20 3 2 5 2 1 1 10 1 2 0 1 6 3 2 2 10 1 2 0 1 20 2 4 1 2",
-        "21 7 3 2 2 20 1 2 1 2 10 2 4 0 1",
+        "20 3 2 5 2 1 1 10 1 2 0 1 0 6 3 2 2 10 1 2 0 1 0 20 2 4 1 2 1",
+        "21 7 3 2 2 20 1 2 1 2 1 10 2 4 0 1 0",
         "22 5 6 1 10 8192 9",
     ];
     for operation in whole {
