@@ -55,6 +55,7 @@ pub fn cases() -> Vec<Case> {
     };
     vec![
         case("usual job, moved by search", sheet(OLD, NEW, &DONE), true),
+        case("usual job, cutting steps marked", marked(), false),
         case("usual job, ten-digit names", long_names(), false),
         case("refused by row 12, last done", changed(), false),
         case("done list follows the route", full(rising), true),
@@ -78,6 +79,16 @@ fn long_names() -> String {
     let longer = |text: &str, word: &str| text.replace(word, &format!("{word}4000000"));
     let [old, new] = [OLD, NEW].map(|route| longer(route, "(step "));
     longer(&sheet(&old, &new, &DONE), "(done ")
+}
+
+/// The usual job with a mark on panels and patches (170, 180). They are cut in the
+/// order that the new route has: the other way round it would not move.
+fn marked() -> String {
+    let mark = |route: &str, end: &str| route.replace(end, &end.replace("))", ") (cloth))"));
+    let [old, new] = [OLD, NEW].map(|route| mark(&mark(route, "(write 7))"), "(write 8))"));
+    let mut done = DONE;
+    done[7..].rotate_right(1);
+    sheet(&old, &new, &done)
 }
 
 /// The usual job, but the new route's 180 reads one variable more.
@@ -144,12 +155,13 @@ fn worst() -> String {
     sheet(&old, &new, &done)
 }
 
-/// The longest sheet that reads, 19,096 bytes. Its places below 10 are in no
-/// step, so row 6 refuses it.
+/// The longest sheet that reads, 20,120 bytes, with a mark on every step. Its places
+/// below 10 are in no step, so row 6 refuses it.
 fn longest() -> String {
     let list: String = (0..8).map(|i| entry(20 + i)).collect();
     let steps: String = (0..64)
         .map(|i| step(4_000_000_000 + i, &list, &list, &list, &list))
         .collect();
+    let steps = steps.replace("))\n", ") (cloth))\n");
     both(64, &steps, &[u32::MAX; 64])
 }
