@@ -6,14 +6,15 @@ use reference::random::records::Facts;
 use reference::script::writing::{self, bytes, fill, operation};
 use reference::sheet::{self, Route, Sheet, Step};
 
-const SLICE: u64 = 3;
-const TRY: u64 = 4;
+pub const SLICE: u64 = 3;
+pub const TRY: u64 = 4;
 pub const JUDGE: u64 = 5;
+pub const WRITE: u64 = 8;
 const PRINT: u64 = 9;
-const READ_INTO: u64 = 16;
+pub const READ_INTO: u64 = 16;
 pub const LENT: u64 = 10;
 
-/// A step between two sets of places.
+/// A step between two sets of places, without a mark.
 pub fn step(name: u64, places: [&[u64]; 2], variables: [&[u64]; 2]) -> Step {
     let [ins, outs] = places.map(<[u64]>::to_vec);
     let [reads, writes] = variables.map(<[u64]>::to_vec);
@@ -23,6 +24,15 @@ pub fn step(name: u64, places: [&[u64]; 2], variables: [&[u64]; 2]) -> Step {
         outs,
         reads,
         writes,
+        cloth: false,
+    }
+}
+
+/// The step with the mark.
+pub fn cloth(step: Step) -> Step {
+    Step {
+        cloth: true,
+        ..step
     }
 }
 

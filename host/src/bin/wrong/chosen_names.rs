@@ -1,13 +1,12 @@
 //! Long names and long numbers: one of these operations tells each edit of their
 //! limits, or one that cuts a name down, from the right program.
 
-use crate::chosen::{job, judge, on_records, print, read, route, step, JUDGE, LENT};
+use crate::chosen::{cloth, job, judge, on_records, print, read, route, step, JUDGE, LENT, WRITE};
 use reference::judge::WORK;
 use reference::script::writing::{bytes, fill, operation, read_by_01};
 use reference::sheet::{self, Route, Sheet, Step};
 
 const RUN: u64 = 2;
-const WRITE: u64 = 8;
 const TRY_SHEET: u64 = 10;
 
 /// Every operation of this file, as one script.
@@ -77,17 +76,17 @@ fn row(names: &[u64]) -> Route {
     route(names.len() as u64 + 1, &steps)
 }
 
-/// The longest sheet's records, written into as many bytes as 01's longest has, and
-/// into one too few.
+/// The longest sheet's records, every one of them marked: written into as many bytes
+/// as 01's longest has, as the longest without marks has, and into one too few.
 fn longest() -> String {
     let [high, low] = [56, 24].map(|first| (first..first + 8).collect::<Vec<u64>>());
     let names: Vec<u64> = (4_000_000_000..).take(64).collect();
     let steps = names.iter();
-    let steps = steps.map(|&name| step(name, [&high, &high], [&low, &low]));
+    let steps = steps.map(|&name| cloth(step(name, [&high, &high], [&low, &low])));
     let route = route(64, &steps.collect::<Vec<Step>>());
     let job = job(&route, &route, &names);
     let write = |room| on_records(WRITE, &job, &[fill(room, 9)]);
-    [18_136, 19_095].map(write).concat()
+    [18_136, 19_096, 20_119].map(write).concat()
 }
 
 /// The job of a row whose last two steps change places; their names and the

@@ -32,6 +32,7 @@ fn record(name: u32, [ins, outs]: [u64; 2], writes: u32) -> Record {
         outs,
         reads: 0,
         writes,
+        cloth: false,
     }
 }
 

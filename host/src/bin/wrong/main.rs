@@ -6,7 +6,9 @@
 //! Arguments: names of crates whose edits are run; none means all.
 
 mod chosen;
+mod chosen_cloth;
 mod chosen_lookups;
+mod chosen_marks;
 mod chosen_names;
 mod chosen_shelves;
 mod edit;

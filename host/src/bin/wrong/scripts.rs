@@ -1,7 +1,7 @@
 //! Scripts and the second program's answers to them.
 
 use crate::edit::root;
-use crate::{chosen, chosen_lookups, chosen_names, chosen_shelves};
+use crate::{chosen, chosen_cloth, chosen_lookups, chosen_marks, chosen_names, chosen_shelves};
 use reference::random::dice::{mix, Dice};
 use reference::random::{lookup, script, shelf};
 use reference::script::numbers::MOST_BYTES;
@@ -46,12 +46,13 @@ impl Script {
     }
 }
 
-/// Two by hand, drive's own script among them; then random ones.
+/// Three by hand, drive's own script among them; then random ones.
 pub fn all() -> Vec<Script> {
     let own = fs::read_to_string(root().join("crates/drive/stdin")).expect("no script of drive's");
     let by_hand = [
         own + &chosen::script() + &chosen_shelves::script(),
         chosen_lookups::script() + &chosen_names::script(),
+        chosen_cloth::script() + &chosen_marks::script(),
     ];
     assert!(by_hand.iter().all(|text| text.len() <= MOST_BYTES));
     let random = (0..SCRIPTS).map(|number| long(script, number));
@@ -62,7 +63,7 @@ pub fn all() -> Vec<Script> {
 }
 
 /// An operation, to see whether the script before it ends with a whole one.
-const FIRE: &str = "1 1 10 1 2 0 1\n";
+const FIRE: &str = "1 1 10 1 2 0 1 0\n";
 
 /// Random scripts one after another, none of which ends in the middle of an operation.
 fn long(script: fn(&mut Dice) -> String, number: u64) -> String {
