@@ -1,5 +1,5 @@
--- No sheet that reads is longer than its version allows: the longest step line has 130 bytes besides its name, a head
--- 9, the job line 6, a done line 8 besides its name. Assumes nothing.
+-- No sheet that reads is longer than its version allows: the longest step line has 130 bytes besides its name and its
+-- mark, a head 9, the job line 6, a done line 8 besides its name. Assumes nothing.
 use mathlib.Core.Path.{_≡_, refl, sym, ap, _∙_, subst}
 use mathlib.Core.Bool.{Bool, true, false, cond}
 use mathlib.Core.List.{List, [], _∷_}
@@ -18,8 +18,8 @@ use Rattle.version.proofs.Tens.{tenth}
 use Rattle.version.proofs.Limits.{present-limits, name-short}
 use Rattle.job.specs.Lines.{lineRows}
 use Rattle.layout.specs.Words.{spelling}
-use Rattle.layout.specs.Text.{Form, Lines, digits, number, entries, listed, stepLine, wordLine, jobLine, stepLines}
-use Rattle.layout.specs.Text.{doneLines, jobText, text, Short, Shorts}
+use Rattle.layout.specs.Text.{Form, Lines, digits, number, entries, listed, marked, stepLine, wordLine, jobLine}
+use Rattle.layout.specs.Text.{stepLines, doneLines, jobText, text, Short, Shorts}
 use Rattle.layout.specs.declared.Word.the-variants.{New, Job, In, Out, Read, Write}
 use Rattle.layout.proofs.Sound.{sound}
 use Rattle.facts.specs.Forms.{allBelow}
@@ -27,8 +27,10 @@ use Rattle.facts.specs.Facts.{readBy}
 use Rattle.facts.specs.SheetRows.{sheetRows}
 use Rattle.job.specs.Job as J
 use Rattle.facts.specs.LinesOf.{linesOf, asRecords}
-use Rattle.writer.specs.Written.{written, longest}
-use Rattle.facts.proofs.PassingLines.{Passes, FineList, Fine, AllFine, AllLines, lines-fine, lines-short}
+use Rattle.facts.specs.Marks.{Marks, MarksTo}
+use Rattle.writer.specs.Written.{written, markLength, longest}
+use Rattle.facts.proofs.PassingLines.{Passes, FineList, Fine, AllFine, AllLines, lines-fine, lines-short, short-marks}
+use Rattle.facts.proofs.PassingLines.{all-marks}
 use Rattle.facts.proofs.Ties.{tie}
 use Rattle.facts.proofs.Records.{reads-as}
 use Rattle.facts.proofs.Widths.{lines-same, rows-as-records, rows-wide}
@@ -71,32 +73,45 @@ long-entries (m ∷ l) n s h e =
 long-list : (l : List ℕ) (n : ℕ) (s : List ℕ) → n ≤ 64 → FineList n l → length (entries l s) ≤ 24 + length s
 long-list l n s h fine = omega (arith, long-entries l n s h (fine .low), fine .few)
 
-long-step : (v : Version) → Limits v → (places : ℕ) (f : Form) (s : List ℕ) → places ≤ 64 → Fine v places f
-    → length (stepLine f s) ≤ 130 + v .digits + length s
+-- the mark
+long-marked : (v : Version) (m : Bool) → (m ≡ true → v .cloth ≡ true) → (s : List ℕ)
+    → length (marked m s) ≤ markLength v + length s
+unfolding marked spelling
+long-marked v false h s = omega arith
+long-marked v true h s = let eight : markLength v ≡ 8 = ap (λ (x : Bool). cond x 8 0) (h refl) in omega (arith, eight)
+
+-- the most bytes of a step's line
+abbrev lineLength : Version → ℕ
+lineLength v = 130 + v .digits + markLength v
+
+long-step : (v : Version) → Limits v → (places : ℕ) (f : Form) (s : List ℕ) → places ≤ 64
+    → (f .cloth ≡ true → v .cloth ≡ true) → Fine v places f → length (stepLine f s) ≤ lineLength v + length s
 unfolding stepLine listed spelling
-long-step v limits places f s h fine =
-    let fourth : List ℕ = listed Write (f .writes) (41 ∷ 10 ∷ s) in
+long-step v limits places f s h mark fine =
+    let ending : List ℕ = marked (f .cloth) (41 ∷ 10 ∷ s) in
+    let fourth : List ℕ = listed Write (f .writes) ending in
     let third : List ℕ = listed Read (f .reads) fourth in
     let second : List ℕ = listed Out (f .outs) third in
     omega (
       arith,
       long-number v limits (f .name) (listed In (f .ins) second) (name-short v limits (f .name) (fine .name)),
-      long-list (f .writes) 32 (41 ∷ 41 ∷ 10 ∷ s) (omega arith) (fine .writes),
+      long-marked v (f .cloth) mark (41 ∷ 10 ∷ s),
+      long-list (f .writes) 32 (41 ∷ ending) (omega arith) (fine .writes),
       long-list (f .reads) 32 (41 ∷ fourth) (omega arith) (fine .reads),
       long-list (f .outs) places (41 ∷ third) h (fine .outs),
       long-list (f .ins) places (41 ∷ second) h (fine .ins),
     )
 
-long-steps : (v : Version) → Limits v → (l : List Form) (places : ℕ) (s : List ℕ) → places ≤ 64 → AllFine v places l
-    → length (stepLines l s) ≤ length l * (130 + v .digits) + length s
+long-steps : (v : Version) → Limits v → (l : List Form) (places : ℕ) (s : List ℕ) → places ≤ 64 → Marks (v .cloth) l
+    → AllFine v places l → length (stepLines l s) ≤ length l * lineLength v + length s
 unfolding stepLines
-long-steps v limits [] places s h fine = omega arith
-long-steps v limits (f ∷ l) places s h fine =
+long-steps v limits [] places s h marks fine = omega arith
+long-steps v limits (f ∷ l) places s h marks fine =
     omega (
       arith,
-      long-step v limits places f (stepLines l s) h (fine .0),
-      long-steps v limits l places s h (fine .1),
-      suc-mul (length l) (130 + v .digits),
+      long-step v limits places f (stepLines l s) h (marks .0) (fine .0),
+      long-steps v limits l places s h (marks .1) (fine .1),
+      suc-mul (length l) (lineLength v),
     )
 
 long-dones : (v : Version) → Limits v → (l s : List ℕ) → Shorts v l
@@ -111,9 +126,9 @@ long-dones v limits (n ∷ l) s h =
       suc-mul (length l) (8 + v .digits),
     )
 
-long-text : (v : Version) → Limits v → (x : Lines) → AllLines v x → length (text x) ≤ longest v
+long-text : (v : Version) → Limits v → (x : Lines) → MarksTo (v .cloth) x → AllLines v x → length (text x) ≤ longest v
 unfolding text jobText jobLine wordLine spelling
-long-text v limits x h =
+long-text v limits x marks h =
     let dones : List ℕ = doneLines (x .done) [] in
     let job : List ℕ = 40 ∷ 106 ∷ 111 ∷ 98 ∷ 41 ∷ 10 ∷ dones in
     let news : List ℕ = stepLines (x .new) job in
@@ -122,12 +137,12 @@ long-text v limits x h =
     omega (
       arith,
       two-digits (x .oldPlaces) (41 ∷ 10 ∷ olds) (omega (arith, h .oldPlaces)),
-      long-steps v limits (x .old) (x .oldPlaces) new (h .oldPlaces) (h .old),
+      long-steps v limits (x .old) (x .oldPlaces) new (h .oldPlaces) (marks .old) (h .old),
       two-digits (x .newPlaces) (41 ∷ 10 ∷ news) (omega (arith, h .newPlaces)),
-      long-steps v limits (x .new) (x .newPlaces) job (h .newPlaces) (h .new),
-      long-dones v limits (x .done) [] (lines-short v limits x h .done),
-      mul-le-mul-right (130 + v .digits) (h .oldFew),
-      mul-le-mul-right (130 + v .digits) (h .newFew),
+      long-steps v limits (x .new) (x .newPlaces) job (h .newPlaces) (marks .new) (h .new),
+      long-dones v limits (x .done) [] (lines-short v limits x marks h .done),
+      mul-le-mul-right (lineLength v) (h .oldFew),
+      mul-le-mul-right (lineLength v) (h .newFew),
       mul-le-mul-right (8 + v .digits) (h .doneFew),
     )
 
@@ -135,8 +150,9 @@ long-text v limits x h =
 pub bounded : {v : Version} → Limits v → (s : List ℕ) → readBy v s .number ≡ 0 → length s ≤ longest v
 bounded {v} limits s z =
     let r = reads-as v s z in
-    subst (λ (l : List ℕ). length l ≤ longest v) (sym (sound v limits s (r .lines) (r .parsed) .same))
-    (long-text v limits (r .lines) (lines-fine v (r .lines) (r .passes)))
+    let made = sound v limits s (r .lines) (r .parsed) in
+    subst (λ (l : List ℕ). length l ≤ longest v) (sym (made .same))
+    (long-text v limits (r .lines) (short-marks v (r .lines) (made .short)) (lines-fine v (r .lines) (r .passes)))
 
 -- nor is a text that is written
 pub written-length : (j : J.Job) → Passes (lineRows j) → length (written j) ≤ longest present
@@ -146,4 +162,5 @@ written-length j h =
     let passes : Passes (sheetRows present (linesOf (asRecords j))) =
     ap (λ (rows : List Outcome). eqb (first rows .number) 0) (tie (asRecords j) old new ∙ rows-as-records j) ∙ h in
     subst (λ (x : Lines). length (text x) ≤ longest present) (lines-same j)
-    (long-text present present-limits (linesOf (asRecords j)) (lines-fine present (linesOf (asRecords j)) passes))
+    (long-text present present-limits (linesOf (asRecords j)) (all-marks (linesOf (asRecords j)))
+    (lines-fine present (linesOf (asRecords j)) passes))

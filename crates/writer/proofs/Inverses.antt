@@ -21,7 +21,8 @@ use Rattle.facts.specs.Facts.{readBy, readOf, jobRead}
 use Rattle.facts.specs.SheetRows.{sheetRows, filled, factsRecord, sheetOf}
 use Rattle.facts.proofs.RowsFold.{filled-steps}
 use Rattle.facts.specs.LinesOf.{linesOf, AllWide, asRecords}
-use Rattle.facts.proofs.PassingLines.{Passes, AllLines, lines-fine}
+use Rattle.facts.specs.Marks.{MarksTo}
+use Rattle.facts.proofs.PassingLines.{Passes, AllLines, lines-fine, all-marks}
 use Rattle.facts.proofs.Ties.{tie}
 use Rattle.facts.proofs.Records.{ReadAs, records-forms, reads-as, read-back, text-reads}
 use Rattle.facts.proofs.Widths.{lines-same, rows-as-records, rows-wide}
@@ -67,12 +68,12 @@ read-sheetOf v s z = r .facts ∙ ap sheetOf (sym (ap jobRead (r .facts) ∙ sam
           done = take-append-seam (x .done) (replicate (64 - length (x .done)) 0) i;
         }
 
--- what is written of records whose lines a version allows, it reads back
+-- what is written of records whose lines and marks a version allows, it reads back
 pub lines-then-read : {v : Version} → Limits v → (j : Job) → AllWide (j .old) → AllWide (j .new)
-    → Passes (sheetRows v (linesOf j)) → readBy v (written j) ≡ sheetOf j
+    → MarksTo (v .cloth) (linesOf j) → Passes (sheetRows v (linesOf j)) → readBy v (written j) ≡ sheetOf j
 unfolding written linesOf factsRecord
-lines-then-read {v} limits j old new passes =
-    text-reads limits (linesOf j) passes
+lines-then-read {v} limits j old new marks passes =
+    text-reads limits (linesOf j) marks passes
     ∙ (λ i. record {
       number = 0;
       second = 0;
@@ -89,5 +90,5 @@ unfolding written
 write-then-read j h =
     let (old, new) = rows-wide j h in
     ap (λ (x : Lines). readOf (text x)) (sym (lines-same j))
-    ∙ lines-then-read present-limits (asRecords j) old new
+    ∙ lines-then-read present-limits (asRecords j) old new (all-marks (linesOf (asRecords j)))
     (ap (λ (rows : List Outcome). eqb (first rows .number) 0) (tie (asRecords j) old new ∙ rows-as-records j) ∙ h)
