@@ -1,5 +1,5 @@
--- What every fit list has: its steps are in the new route with the same reads and writes, and they fire from the new
--- start. A straight list is the whole list, of which that is asked; of a list of the kept it is asked itself.
+-- What every fit list has: its steps are in the new route with the same reads, writes and mark, and they fire from the
+-- new start. A straight list is the whole list, of which that is asked; of a list of the kept it is asked itself.
 use mathlib.Core.Path.{_≡_, refl, sym, ap, _∙_}
 use mathlib.Core.Logic.{inl, inr}
 use mathlib.Core.Bool.{true, false, true≢false}

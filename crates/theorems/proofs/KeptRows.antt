@@ -1,5 +1,5 @@
--- Rows 10 to 12 pass exactly when the limit holds and every kept occurrence is in the new route with the same reads and
--- writes: the rows ask this of the kept in turn, and these are all the kept.
+-- Rows 10 to 12 pass exactly when the limit holds and every kept occurrence is in the new route with the same reads,
+-- writes and mark: the rows ask this of the kept in turn, and these are all the kept.
 use mathlib.Core.Path.{_≡_, refl, sym, ap, _∙_}
 use mathlib.Core.Logic.{inl, inr}
 use mathlib.Core.Bool.{Bool, true, false, _||_, true≢false}

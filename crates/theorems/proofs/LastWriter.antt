@@ -12,13 +12,13 @@ use Rattle.mask.specs.Mask.{has}
 use Rattle.mask.proofs.Laws.{has-zero}
 use Rattle.route.specs.Steps.{blank}
 use Rattle.route.specs.declared.Step.{Step}
-use Rattle.slice.specs.Slice.{writesAt, LastWriter}
+use Rattle.slice.specs.Slice.{Item, variable, makes, writesAt, LastWriter}
 use Rattle.answering.specs.Answer.{lastWriter}
 
 -- ---- the last writer
 
-none-from : (v i : ℕ) (l : List Step) → lastWriter v i l ≡ 0 → (k : ℕ) → writesAt l k v ≡ false
-unfolding lastWriter writesAt
+none-from : (v i : ℕ) (l : List Step) → lastWriter v i l ≡ 0 → (k : ℕ) → writesAt l k (variable v) ≡ false
+unfolding lastWriter writesAt makes
 none-from v i [] e k = has-zero v
 none-from v i (s ∷ l) e k = go (eqb later 0) (has (s .writes) v) refl refl e k (none-from v (suc i) l)
   where
@@ -34,37 +34,38 @@ none-from v i (s ∷ l) e k = go (eqb later 0) (has (s .writes) v) refl refl e k
     go false w p h e k ih = absurd (eqb-false later 0 p e)
 
 some-from : (v i : ℕ) (l : List Step) (j : ℕ) → lastWriter v i l ≡ suc j
-    → (d : ℕ) × (j ≡ i + d) × LastWriter l (length l) v d
-unfolding lastWriter writesAt
+    → (d : ℕ) × (j ≡ i + d) × LastWriter l (length l) (variable v) d
+unfolding lastWriter writesAt makes
 some-from v i [] j e = absurd (omega arith)
 some-from v i (s ∷ l) j e = go (eqb later 0) (has (s .writes) v) refl refl e (some-from v (suc i) l j)
   where
     later : ℕ
     later = lastWriter v (suc i) l
 
-    onwards : (d : ℕ) → LastWriter l (length l) v d → LastWriter (s ∷ l) (suc (length l)) v (suc d)
+    onwards : (d : ℕ) → LastWriter l (length l) (variable v) d
+        → LastWriter (s ∷ l) (suc (length l)) (variable v) (suc d)
     onwards d w = record { earlier = omega (arith, w .earlier); writer = w .writer; last = rest }
       where
-        rest : (k : ℕ) → suc d < k → k < suc (length l) → writesAt (s ∷ l) k v ≡ false
+        rest : (k : ℕ) → suc d < k → k < suc (length l) → writesAt (s ∷ l) k (variable v) ≡ false
         rest zero a b = absurd (omega arith)
         rest (suc k) a b = w .last k (omega arith) (omega arith)
 
-    here : has (s .writes) v ≡ true → later ≡ 0 → LastWriter (s ∷ l) (suc (length l)) v 0
+    here : has (s .writes) v ≡ true → later ≡ 0 → LastWriter (s ∷ l) (suc (length l)) (variable v) 0
     here h z = record { earlier = omega arith; writer = h; last = rest }
       where
-        rest : (k : ℕ) → 0 < k → k < suc (length l) → writesAt (s ∷ l) k v ≡ false
+        rest : (k : ℕ) → 0 < k → k < suc (length l) → writesAt (s ∷ l) k (variable v) ≡ false
         rest zero a b = absurd (omega arith)
         rest (suc k) a b = none-from v (suc i) l z k
 
     go : (q w : Bool) → eqb later 0 ≡ q → has (s .writes) v ≡ w → cond q (cond w (suc i) 0) later ≡ suc j
-        → (later ≡ suc j → (d : ℕ) × (j ≡ suc i + d) × LastWriter l (length l) v d)
-        → (d : ℕ) × (j ≡ i + d) × LastWriter (s ∷ l) (suc (length l)) v d
+        → (later ≡ suc j → (d : ℕ) × (j ≡ suc i + d) × LastWriter l (length l) (variable v) d)
+        → (d : ℕ) × (j ≡ i + d) × LastWriter (s ∷ l) (suc (length l)) (variable v) d
     go true true p h e ih = (0, omega arith, here h (eqb-true later 0 p))
     go true false p h e ih = absurd (omega arith)
     go false w p h e ih = let (d, a, r) = ih e in (suc d, omega arith, onwards d r)
 
-one-last : (l : List Step) (n v i j : ℕ) → LastWriter l n v i → LastWriter l n v j → i ≡ j
-one-last l n v i j a b = go (decLt i j) (decLt j i)
+one-last : (l : List Step) (n : ℕ) (x : Item) (i j : ℕ) → LastWriter l n x i → LastWriter l n x j → i ≡ j
+one-last l n x i j a b = go (decLt i j) (decLt j i)
   where
     go : Dec (i < j) → Dec (j < i) → i ≡ j
     go (yes h) d = absurd (true≢false (sym (b .writer) ∙ a .last j h (b .earlier)))
@@ -73,21 +74,21 @@ one-last l n v i j a b = go (decLt i j) (decLt j i)
 
 module _ (l : List Step) (v : ℕ) where
   -- a number that is shown is that of the last writer
-  pub lastWriter-elim : (j : ℕ) → lastWriter v 0 l ≡ suc j → LastWriter l (length l) v j
+  pub lastWriter-elim : (j : ℕ) → lastWriter v 0 l ≡ suc j → LastWriter l (length l) (variable v) j
   lastWriter-elim j e = let (d, a, w) = some-from v 0 l j e in let same : d ≡ j = omega arith in rw same at w
 
-  pub lastWriter-none-elim : lastWriter v 0 l ≡ 0 → (i : ℕ) → writesAt l i v ≡ false
+  pub lastWriter-none-elim : lastWriter v 0 l ≡ 0 → (i : ℕ) → writesAt l i (variable v) ≡ false
   lastWriter-none-elim = none-from v 0 l
 
   -- the last writer is shown
-  pub lastWriter-intro : (j : ℕ) → LastWriter l (length l) v j → lastWriter v 0 l ≡ suc j
+  pub lastWriter-intro : (j : ℕ) → LastWriter l (length l) (variable v) j → lastWriter v 0 l ≡ suc j
   lastWriter-intro j w = go (lastWriter v 0 l) refl
     where
       go : (n : ℕ) → lastWriter v 0 l ≡ n → n ≡ suc j
       go zero e = absurd (let z : _≡_ {A = ℕ} 0 1 = cc (lastWriter-none-elim e j, w .writer) in omega arith)
-      go (suc i) e = ap suc (one-last l (length l) v i j (lastWriter-elim i e) w)
+      go (suc i) e = ap suc (one-last l (length l) (variable v) i j (lastWriter-elim i e) w)
 
-  pub lastWriter-none-intro : ((i : ℕ) → i < length l → writesAt l i v ≡ false) → lastWriter v 0 l ≡ 0
+  pub lastWriter-none-intro : ((i : ℕ) → i < length l → writesAt l i (variable v) ≡ false) → lastWriter v 0 l ≡ 0
   lastWriter-none-intro h = go (lastWriter v 0 l) refl
     where
       go : (n : ℕ) → lastWriter v 0 l ≡ n → n ≡ 0

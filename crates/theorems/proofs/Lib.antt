@@ -3,9 +3,10 @@
 pub mod Perform
 pub mod Drop
 pub mod Entries
-pub mod Commute
+pub mod Tied
 pub mod Insertion
 pub mod Reorder
+pub mod Commute
 pub mod MembersOrder
 pub mod KeptValues
 pub mod Replayed

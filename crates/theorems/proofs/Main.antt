@@ -1,9 +1,9 @@
 -- The whole promise on one page, in 01's order: the sheet, its bytes both ways, the longer names of 02, its look-up,
--- slice and precedence, fit orders, what judge gives and its listing shows, the shelf of 02, and demand 3. Each is
--- proved in the file that its name is cited from. Code meets it through the contracts, which are equalities with the
--- definitions that these theorems speak of.
+-- slice and precedence with its cloth, fit orders, what judge gives and its listing shows, the shelf of 02, and demand
+-- 3. Each is proved in the file that its name is cited from. Code meets it through the contracts, which are equalities
+-- with the definitions that these theorems speak of.
 use mathlib.Core.Path.{_≡_}
-use mathlib.Core.Logic.{_↔_}
+use mathlib.Core.Logic.{_↔_, _⊎_}
 use mathlib.Core.Bool.{true, false}
 use mathlib.Core.List.{List, [], _∷_, _++_, map}
 use mathlib.Core.Option.{none, some}
@@ -26,12 +26,12 @@ use Rattle.lookup.proofs.Unique.{looked-found, found-lookup, missed-lookup}
 use Rattle.lookup.proofs.Totals.{looked-next, total-round, total-follows, total-least, total-most}
 use Rattle.running.specs.Run.{ran}
 use Rattle.finding.specs.Comparisons.{comparisons}
-use Rattle.slice.specs.Slice.{Kept, keptMask}
-use Rattle.precedence.specs.Precedence.{comesAfter, row}
+use Rattle.slice.specs.Slice.{Kept, cutsAt, keptMask}
+use Rattle.precedence.specs.Precedence.{clash, comesAfter, row}
 use Rattle.precedence.specs.Order.{inTurn, EachOnce, inOrder}
 use Rattle.slice.proofs.Closure.{kept-iff}
 use Rattle.precedence.proofs.Rows.{row-exact}
-use Rattle.slice.proofs.Sweep.{silent-not-kept}
+use Rattle.slice.proofs.Sweep.{cut-kept, silent-not-kept}
 use Rattle.matching.specs.Straight.{fireAll, stepsOn}
 use Rattle.matching.specs.KeptRows.{keptRows}
 use Rattle.trying.specs.Try.{tried}
@@ -42,14 +42,15 @@ use Rattle.shelf.specs.Put.{stored}
 use Rattle.shelf.specs.Judge.{judgedBetween, workBetween}
 use Rattle.shelf.specs.declared.Edition.{Edition}
 use Rattle.shelf.specs.declared.Shelf.{Shelf}
-use Rattle.version.specs.Limits.{scope, present, nameFits, Limits}
+use Rattle.version.specs.Limits.{scope, present, nameFits, Limits, Wider}
 use Rattle.version.specs.declared.Version.{Version}
-use Rattle.version.proofs.Limits.{scope-limits, present-limits, fits-iff, word-fits}
+use Rattle.version.proofs.Limits.{scope-limits, present-limits, scope-present, fits-iff, word-fits}
 use Rattle.layout.specs.Text.{jobText}
 use Rattle.layout.specs.Begins.{IsSheet, FirstBroken}
 use Rattle.facts.specs.Facts.{factsOf, readBy, readOf, jobRead}
 use Rattle.facts.specs.JobPart.{jobPart}
 use Rattle.facts.specs.Names.{NamesTo}
+use Rattle.facts.specs.Marks.{MarksTo}
 use Rattle.facts.specs.SheetRows.{sheetRows, sheetOf}
 use Rattle.facts.specs.LinesOf.{linesOf, AllWide, asRecord, asRecords}
 use Rattle.facts.proofs.RowOne.{row-1-iff, row-1-offset, read-sheet, sheet-facts, sheet-lines}
@@ -68,14 +69,16 @@ use Rattle.ops.specs.SheetTry.{triedSheet}
 use Rattle.examples.specs.Table.{AllPrint, table}
 use Rattle.examples.specs.LongNames.{longNames}
 use Rattle.examples.proofs.Examples.{examples, long-names}
-use Rattle.theorems.specs.Values.{Work, allBlank, performAll}
-use Rattle.theorems.specs.Demand3.{Runs, stepsDone, positions, FitFor, ordered, Demand3}
+use Rattle.theorems.specs.Values.{Work, allBlank, performAll, cutAll}
+use Rattle.theorems.specs.Demand3.{Runs, stepsDone, positions, Accepted, FitFor, ordered, moved, wholeJob}
+use Rattle.theorems.specs.Demand3.{Demand3}
 use Rattle.theorems.specs.Given.{Given}
 use Rattle.theorems.specs.Sheets.{jobOn, SheetRuns, Movable, Moved, Refused}
 use Rattle.theorems.specs.Shows.{Shows}
 use Rattle.theorems.specs.RoundTrip.{bytesWritten, WritesBytes, countsRead, jobInto, ReadsInto}
 use Rattle.theorems.specs.Editions.{Eight, UnusedBlank, Later, Meets, AllMeet}
-use Rattle.theorems.proofs.KeptValues.{kept-values}
+use Rattle.theorems.proofs.KeptValues.{kept-values, kept-cuts}
+use Rattle.theorems.proofs.Tied.{after-iff, cut-after}
 use Rattle.theorems.proofs.Accepts.{try-fit, try-second, try-marking}
 use Rattle.theorems.proofs.Judge.{judge-moves, judge-second, judge-given, judge-marking, judge-refuses}
 use Rattle.theorems.proofs.Judge.{given-one}
@@ -90,6 +93,7 @@ use Rattle.theorems.proofs.Editions.{put-finds, put-keeps, edition-foun
 use Rattle.theorems.proofs.EditionsJudged.{shelf-judges, shelf-works, shelf-prints, shelf-nineteen}
 use Rattle.theorems.proofs.EditionsJudged.{shelf-fourteen, shelf-bad}
 use Rattle.theorems.proofs.EditionsStored.{stored-meets, meets-found, routes-pass}
+use Rattle.theorems.proofs.AcceptedReplay.{moved-cuts}
 use Rattle.theorems.proofs.Demand3.{demand3}
 
 -- ---- "1: layout broken": "offset of the first byte where no sheet begins so, or the length if it ends early". The
@@ -126,12 +130,12 @@ reading-keeps-the-lines = sheet-lines
 pub job-part-is-its-text : (s : List ℕ) → readOf s .number ≡ 0 → jobPart s ≡ jobText (jobOn s .done)
 job-part-is-its-text = job-part-text
 
--- ---- "No sheet that reads is longer than 18,136 bytes", and in 02 "a sheet that reads has at most 19,096 bytes"
+-- ---- "No sheet that reads is longer than 18,136 bytes", and in 02 "a sheet has at most 20,120 bytes"
 
-pub no-sheet-is-longer : (s : List ℕ) → readOf s .number ≡ 0 → length s ≤ 19096
+pub no-sheet-is-longer : (s : List ℕ) → readOf s .number ≡ 0 → length s ≤ 20120
 no-sheet-is-longer = bounded present-limits
 
-pub one-is-as-long : (s : List ℕ) × (length s ≡ 19096) × (readOf s .number ≡ 0)
+pub one-is-as-long : (s : List ℕ) × (length s ≡ 20120) × (readOf s .number ≡ 0)
 one-is-as-long = present-attained
 
 pub no-sheet-of-01-is-longer : (s : List ℕ) → readBy scope s .number ≡ 0 → length s ≤ 18136
@@ -140,7 +144,7 @@ no-sheet-of-01-is-longer = bounded scope-limits
 pub one-of-01-is-as-long : (s : List ℕ) × (length s ≡ 18136) × (readBy scope s .number ≡ 0)
 one-of-01-is-as-long = scope-attained
 
--- (in every version 192 times its digits, and 17,176)
+-- (in every version 192 times its digits, and 17,176, and 1,024 where steps may be marked)
 pub no-sheet-of-a-version-is-longer : {v : Version} → Limits v → (s : List ℕ) → readBy v s .number ≡ 0
     → length s ≤ longest v
 no-sheet-of-a-version-is-longer = bounded
@@ -199,14 +203,18 @@ pub only-0-is-outside : (n : ℕ) → n < 2 ^ 32 → (nameFits present n ≡ tru
 only-0-is-outside = word-fits
 
 -- what a version reads, a wider one reads as the same facts: every sheet that 01's version reads is read as before
-pub a-wider-version-reads-the-same : {v w : Version} → v .greatest ≤ w .greatest → Limits v → Limits w → (s : List ℕ)
+pub the-present-version-is-wider : Wider scope present
+the-present-version-is-wider = scope-present
+
+pub a-wider-version-reads-the-same : {v w : Version} → Wider v w → Limits v → Limits w → (s : List ℕ)
     → readBy v s .number ≡ 0 → readBy w s ≡ readBy v s
 a-wider-version-reads-the-same = wider-reads
 
--- and a version reads exactly what a wider one reads with each name within its own range
-pub a-version-reads-by-its-names : {v w : Version} → v .greatest ≤ w .greatest → Limits v → Limits w → (s : List ℕ)
+-- and a version reads exactly what a wider one reads with each name within its own range, and no mark where it has none
+pub a-version-reads-by-its-names : {v w : Version} → Wider v w → Limits v → Limits w → (s : List ℕ)
     → (readBy v s .number ≡ 0)
-    ↔ ((readBy w s .number ≡ 0) × NamesTo (v .greatest) (linesOf (jobRead (readBy w s))))
+    ↔ ((readBy w s .number ≡ 0) × NamesTo (v .greatest) (linesOf (jobRead (readBy w s)))
+    × MarksTo (v .cloth) (linesOf (jobRead (readBy w s))))
 a-version-reads-by-its-names = narrower-reads
 
 -- "`(done 65536)` is then a plain name", "Eleven digits break the layout": such sheets from bytes to bytes
@@ -279,17 +287,33 @@ pub a-job-that-follows-is-matched-by-one-each : (j : Job) → ran j .number ≡ 
 a-job-that-follows-is-matched-by-one-each = match-follows
 
 -- ---- "Kept: the last writer in the done list of each new-route variable, and all that these need, over and over."
+-- 02, "Cloth that is cut stays cut": "Every cloth occurrence of the old route is kept, with all it needs"
 
 pub kept-is-the-closure : (l : List Step) (vars i : ℕ) → (has (keptMask l vars) i ≡ true) ↔ Kept l vars i
 kept-is-the-closure = kept-iff
 
--- "An occurrence that writes nothing is never kept."
-pub silent-is-not-kept : (l : List Step) (vars i : ℕ) → getD l i blank .writes ≡ 0 → has (keptMask l vars) i ≡ false
+pub every-cut-is-kept : (l : List Step) (vars i : ℕ) → cutsAt l i ≡ true → has (keptMask l vars) i ≡ true
+every-cut-is-kept = cut-kept
+
+-- "An occurrence that writes nothing is never kept", which "holds for unmarked ones only"
+pub silent-is-not-kept : (l : List Step) (vars i : ℕ) → cutsAt l i ≡ false → getD l i blank .writes ≡ 0
+    → has (keptMask l vars) i ≡ false
 silent-is-not-kept = silent-not-kept
 
 -- "Precedence is one table with a row of occurrence bits for each occurrence."
 pub table-is-precedence : (l : List Step) (i j : ℕ) → has (row l i) j ≡ comesAfter l i j
 table-is-precedence = row-exact
+
+-- an earlier one is in a row exactly when they clash or both cut cloth: "of two cloth occurrences the later comes after
+-- the earlier"
+pub comes-after-exactly : (l : List Step) (i j : ℕ)
+    → (comesAfter l i j ≡ true)
+    ↔ (j < i) × ((clash (getD l i blank) (getD l j blank) ≡ true) ⊎ ((cutsAt l i ≡ true) × (cutsAt l j ≡ true)))
+comes-after-exactly = after-iff
+
+pub the-later-cut-comes-after : (l : List Step) (i j : ℕ) → j < i → cutsAt l i ≡ true → cutsAt l j ≡ true
+    → comesAfter l i j ≡ true
+the-later-cut-comes-after = cut-after
 
 -- the kept in any order that precedence allows leave in each wanted variable what all leave in their own order
 pub kept-carry-the-values : (T : Type 0) (f : Work T) (l : List Step) (vars : ℕ) (o : List ℕ)
@@ -297,6 +321,11 @@ pub kept-carry-the-values : (T : Type 0) (f : Work T) (l : List Step) (vars : �
     → performAll f (λ i. getD l i blank) o allBlank v
     ≡ performAll f (λ i. getD l i blank) (inTurn 0 (length l)) allBlank v
 kept-carry-the-values T = kept-values
+
+-- and cut cloth in the sequence in which all cut it
+pub kept-carry-the-cloth : (l : List Step) (vars : ℕ) (o : List ℕ) → EachOnce (keptMask l vars) o → inOrder l o ≡ true
+    → cutAll (λ i. getD l i blank) o ≡ cutAll (λ i. getD l i blank) (inTurn 0 (length l))
+kept-carry-the-cloth = kept-cuts
 
 -- ---- "Accepted: try answers it with 0, 0."
 
@@ -487,3 +516,13 @@ every-example = examples
 
 pub demand-3 : Demand3
 demand-3 = demand3
+
+-- in it, 02: "What must be equal at the end of a move now includes the sequence of cloth occurrences."
+pub accepted-orders-cut-as-the-whole-job : (j : Job) (o : List ℕ) → Runs j → Accepted j o → (T : Type 0) (f : Work T)
+    → moved f j o .cut ≡ wholeJob f j .cut
+accepted-orders-cut-as-the-whole-job j o ok a T f = demand3 .values j o ok a T f .cut
+
+-- these are all occurrences of the done list that cut cloth, in its own order
+pub accepted-orders-cut-in-turn : (j : Job) (o : List ℕ) → Runs j → Accepted j o → (T : Type 0) (f : Work T)
+    → moved f j o .cut ≡ cutAll (λ i. getD (stepsDone j) i blank) (inTurn 0 (length (j .done)))
+accepted-orders-cut-in-turn j o ok a T f = moved-cuts j ok o (a .0) f

@@ -15,12 +15,13 @@ use Rattle.theorems.specs.Values.{Store, Work, readings, perform}
 abbrev pub stepAt : List Step → ℕ → Step
 stepAt l i = getD l i blank
 
--- stores that agree on the members of m
-abbrev pub Agree : {T : Type 0} → ℕ → Store T → Store T → Type 0
-Agree m σ τ = (v : ℕ) → has m v ≡ true → σ v ≡ τ v
+-- stores that agree on the variables of a set
+abbrev pub Agree : {T : Type 0} → (ℕ → Bool) → Store T → Store T → Type 0
+Agree among σ τ = (v : ℕ) → among v ≡ true → σ v ≡ τ v
 
 module _ {T : Type 0} where
-  map-members : (k w m : ℕ) (σ τ : Store T) → Agree m σ τ → map σ (membersFrom w k m) ≡ map τ (membersFrom w k m)
+  map-members : (k w m : ℕ) (σ τ : Store T) → Agree (has m) σ τ
+      → map σ (membersFrom w k m) ≡ map τ (membersFrom w k m)
   unfolding membersFrom
   map-members zero w m σ τ a = refl
   map-members (suc k) w m σ τ a = go (has m w) refl (map-members k (suc w) m σ τ a)
@@ -37,7 +38,7 @@ module _ {T : Type 0} where
     unwritten σ v w = rw w
 
     -- the same readings, and the same in v unless it is written: the same in v afterwards
-    pub perform-agree : (σ τ : Store T) (v : ℕ) → Agree (s .reads) σ τ → (has (s .writes) v ≡ false → σ v ≡ τ v)
+    pub perform-agree : (σ τ : Store T) (v : ℕ) → Agree (has (s .reads)) σ τ → (has (s .writes) v ≡ false → σ v ≡ τ v)
         → perform f i s σ v ≡ perform f i s τ v
     unfolding perform readings members
     perform-agree σ τ v a same = go (has (s .writes) v) same

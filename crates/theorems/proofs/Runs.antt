@@ -1,5 +1,6 @@
 -- What a job has that no row to 9 refuses: a done list of at most 64 known names, which fires on the old route from its
--- start. So the whole job comes to its end, and leaves what performing the steps done leaves.
+-- start. So the whole job comes to its end, and leaves what performing the steps done leaves, with their cloth cut in
+-- turn.
 use mathlib.Core.Path.{_≡_, refl, sym, ap, _∙_}
 use mathlib.Core.Bool.{true}
 use mathlib.Core.List.{List, [], _∷_}
@@ -20,12 +21,12 @@ use Rattle.running.proofs.RunLine.{ran-fits}
 use Rattle.precedence.specs.Order.{inTurn, times}
 use Rattle.precedence.proofs.InTurn.{times-inTurn}
 use Rattle.matching.specs.Straight.{fireAll}
-use Rattle.theorems.specs.Values.{Work, allBlank, replay, performAll}
+use Rattle.theorems.specs.Values.{Work, allBlank, replay, performAll, cutAll}
 use Rattle.theorems.specs.Demand3.{Runs, stepsDone, nameAt, wholeJob}
 use Rattle.theorems.proofs.Fires.{replay-fires}
 use Rattle.theorems.proofs.Entries.{stepsOn-inTurn}
 use Rattle.theorems.proofs.Perform.{stepAt}
-use Rattle.theorems.proofs.Replayed.{SameData, replay-store}
+use Rattle.theorems.proofs.Replayed.{SameData, replay-performs}
 
 module _ (steps : List Step) where
   run-fires : (m line : ℕ) (done : List ℕ) → runFrom steps m line done .number ≡ 0
@@ -64,11 +65,12 @@ module _ (j : Job) (ok : Runs j) where
       allBlank (inTurn 0 (length (j .done))) (ap (fireAll (j .old) (oldStart j))
       (rw (← done-length j) (stepsOn-inTurn (stepsDone j))) ∙ done-fires)
 
-  -- and leaves what performing the steps done leaves
-  pub whole-store : {T : Type 0} (f : Work T)
-      → wholeJob f j .store ≡ performAll f (stepAt (stepsDone j)) (inTurn 0 (length (j .done))) allBlank
+  -- and leaves what performing the steps done leaves, with their cloth cut in turn
+  pub whole-performs : {T : Type 0} (f : Work T)
+      → (wholeJob f j .store ≡ performAll f (stepAt (stepsDone j)) (inTurn 0 (length (j .done))) allBlank)
+      × (wholeJob f j .cut ≡ cutAll (stepAt (stepsDone j)) (inTurn 0 (length (j .done))))
   unfolding replay
-  whole-store f = replay-store f (j .old) (nameAt j) (stepAt (stepsDone j)) (oldStart j) allBlank
+  whole-performs f = replay-performs f (j .old) (nameAt j) (stepAt (stepsDone j)) (oldStart j) allBlank
       (inTurn 0 (length (j .done))) own (whole-job f .0)
     where
       own : (i : ℕ) (s : Step) → 0 < times i (inTurn 0 (length (j .done))) → lookup (nameAt j i) (j .old) ≡ some s
@@ -77,5 +79,8 @@ module _ (j : Job) (ok : Runs j) where
           let same : getD (stepsDone j) i blank ≡ s =
           performed-at (j .old) (j .done) i (omega (arith, times-inTurn 0 (length (j .done)) i n))
           ∙ ap (λ (q : Option Step). Option·getD q blank) e
-          in
-          (ap (λ (x : Step). x .reads) (sym same), ap (λ (x : Step). x .writes) (sym same))
+          in (
+            ap (λ (x : Step). x .reads) (sym same),
+            ap (λ (x : Step). x .writes) (sym same),
+            ap (λ (x : Step). x .cloth) (sym same),
+          )

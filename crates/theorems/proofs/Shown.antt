@@ -16,7 +16,7 @@ use Rattle.mask.proofs.Members.{count-few}
 use Rattle.mask.proofs.Truth.{split, both}
 use Rattle.route.specs.declared.Step.{Step}
 use Rattle.job.specs.Job.{Job, newStart}
-use Rattle.slice.specs.Slice.{LastWriter, variables, writesAt}
+use Rattle.slice.specs.Slice.{LastWriter, variable, variables, writesAt}
 use Rattle.precedence.specs.Precedence.{row, comesAfter}
 use Rattle.precedence.specs.Order.{inTurn}
 use Rattle.slice.proofs.Closure.{kept-iff}
@@ -58,10 +58,11 @@ module _ (new l : List Step) where
   writer-at : (v : ℕ) → v < 32 → getD (map (writerOf new l) (inTurn 0 32)) v 0 ≡ writerOf new l v
   writer-at v h = getD-map-inTurn (writerOf new l) 0 32 v h ∙ ap (writerOf new l) (omega arith)
 
-  writer-iff : (v n : ℕ) → (writerOf new l v ≡ suc n) ↔ (has (variables new) v ≡ true) × LastWriter l (length l) v n
+  writer-iff : (v n : ℕ)
+      → (writerOf new l v ≡ suc n) ↔ (has (variables new) v ≡ true) × LastWriter l (length l) (variable v) n
   unfolding writerOf
   writer-iff v n = (
-    split (λ (t : Bool). cond t (lastWriter v 0 l) 0 ≡ suc n → (t ≡ true) × LastWriter l (length l) v n)
+    split (λ (t : Bool). cond t (lastWriter v 0 l) 0 ≡ suc n → (t ≡ true) × LastWriter l (length l) (variable v) n)
         (has (variables new) v)
         (λ h e. (refl, lastWriter-elim l v n e))
         (λ h e. absurd (omega arith)),
@@ -70,7 +71,7 @@ module _ (new l : List Step) where
 
   -- no occurrence writes v
   abbrev Unwritten : ℕ → Type 0
-  Unwritten v = (i : ℕ) → i < length l → writesAt l i v ≡ false
+  Unwritten v = (i : ℕ) → i < length l → writesAt l i (variable v) ≡ false
 
   blank-iff : (v : ℕ) → (writerOf new l v ≡ 0) ↔ (has (variables new) v ≡ false) ⊎ Unwritten v
   unfolding writerOf

@@ -68,8 +68,8 @@ InTurn steps name m (i ∷ o) (m′ ∷ ms) = FiresTo m (lookup (name i) steps) 
 
 -- "replaying any accepted order on the new route from its start leaves in every variable of the new route the value, or
 -- the blank, that the whole job left on the old route". 02: "What must be equal at the end of a move now includes the
--- sequence of cloth occurrences." Both replays come to the end of their lists, and that of the order ends on the marking
--- that try gives
+-- sequence of cloth occurrences." Both replays come to the end of their lists, and that of the order ends on the
+-- marking that try gives
 pub record Carried {T : Type 0} (f : Work T) (j : Job) (o : List ℕ) : Type 0 where
   pub whole : moved f j o .whole ≡ true
   pub turns : InTurn (j .new) (nameAt j) (newStart j) (positions o) (moved f j o .passed)

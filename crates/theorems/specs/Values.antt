@@ -74,3 +74,8 @@ replay f from steps name o = replayFrom f steps name from allBlank o
 unfoldable pub performAll : {T : Type 0} → Work T → (ℕ → Step) → List ℕ → Store T → Store T
 performAll f at [] σ = σ
 performAll f at (i ∷ o) σ = performAll f at o (perform f i (at i) σ)
+
+-- the cloth alone: the occurrences of a list that cut it, in turn, each by its own step
+unfoldable pub cutAll : (ℕ → Step) → List ℕ → List ℕ
+cutAll at [] = []
+cutAll at (i ∷ o) = cutThen i (at i) (cutAll at o)
