@@ -3,22 +3,19 @@
 -- all of them in turn, or the kept in order.
 use mathlib.Core.Path.{_≡_, sym, ap, _∙_}
 use mathlib.Core.Logic.{inl, inr}
-use mathlib.Core.Bool.{Bool, true, false, _&&_}
+use mathlib.Core.Bool.{true}
 use mathlib.Core.List.{List}
 use mathlib.Core.Option.{some}
 use Prim.Native.Nat.{ℕ, _<_}
-use lib.Dec.{eqb}
 use lib.ListN.{length}
-use borrow.Author.Tests.{eqb-true, not-true}
 use Rattle.mask.specs.Mask.{has}
-use Rattle.mask.proofs.Truth.{both}
 use Rattle.route.specs.Steps.{lookup}
 use Rattle.route.specs.declared.Step.{Step}
 use Rattle.job.specs.Job.{Job, newStart}
 use Rattle.slice.specs.Slice.{variables}
 use Rattle.precedence.specs.Order.{inTurn, times}
-use Rattle.matching.specs.Straight.{sameMark, sameData, sameStep}
 use Rattle.matching.specs.Fit.{keptOf, FitAt}
+use Rattle.matching.proofs.SameStep.{same-step-elim}
 use Rattle.trying.specs.Try.{tried}
 use Rattle.theorems.specs.Values.{Store, Work, allBlank, replay, performAll, cutAll}
 use Rattle.theorems.specs.Demand3.{Runs, stepsDone, nameAt, positions, moved, InTurn, Carried}
@@ -29,19 +26,6 @@ use Rattle.theorems.proofs.Replayed.{SameData, replay-performs}
 use Rattle.theorems.proofs.Fires.{replay-fires, replay-turns}
 use Rattle.theorems.proofs.Runs.{done-named, done-length, whole-job, whole-performs}
 use Rattle.theorems.proofs.Accepts.{positions-suc, try-fit, try-marking}
-
-same-mark : (a b : Bool) → sameMark a b ≡ true → a ≡ b
-unfolding sameMark
-same-mark true b e = sym e
-same-mark false b e = sym (not-true b e)
-
-same-data : (new : List Step) (s t : Step) → sameStep new s ≡ true → lookup (s .name) new ≡ some t → SameData t s
-unfolding sameStep sameData
-same-data new s t h e =
-    let (r, x) = both (eqb (t .reads) (s .reads)) (eqb (t .writes) (s .writes) && sameMark (t .cloth) (s .cloth))
-    (rw e at h) in
-    let (w, c) = both (eqb (t .writes) (s .writes)) (sameMark (t .cloth) (s .cloth)) x in
-    (eqb-true (t .reads) (s .reads) r, eqb-true (t .writes) (s .writes) w, same-mark (t .cloth) (s .cloth) c)
 
 -- performing a fit list leaves what performing all leaves
 fit-values : (from : ℕ) (new l : List Step) {T : Type 0} (f : Work T) (p : List ℕ) → FitAt from new l p → (v : ℕ)
@@ -80,7 +64,7 @@ module _ (j : Job) (ok : Runs j) (o : List ℕ) (e : tried j o .number ≡ 0) {T
     where
       own : (i : ℕ) (s : Step) → 0 < times i (positions o) → lookup (nameAt j i) (j .new) ≡ some s
           → SameData s (stepAt (stepsDone j) i)
-      own i s n h = same-data (j .new) (stepAt (stepsDone j) i) s
+      own i s n h = same-step-elim (j .new) (stepAt (stepsDone j) i) s
           (fit-same (newStart j) (j .new) (stepsDone j) (positions o) fits i n) (rw (done-named j ok i) h)
 
   -- what the done list cuts, in its own order

@@ -1,8 +1,7 @@
--- Two occurrences that are not tied commute. They don't clash: neither writes what the other reads, so both read the
--- same either way, and no variable is written by both. And they don't both cut cloth, so that a swap leaves the
--- sequence of cuts.
+-- Two occurrences that do not clash commute: neither writes what the other reads, so both read the same either way, and
+-- no variable is written by both. And where not both cut cloth, a swap leaves the sequence of cuts.
 use mathlib.Core.Path.{_≡_, refl, sym, ap, _∙_, fun-ext}
-use mathlib.Core.Bool.{Bool, true, false, cond, _&&_, _||_, or-true}
+use mathlib.Core.Bool.{Bool, true, false, cond, _&&_, or-true, or-comm}
 use mathlib.Core.List.{List, _∷_}
 use Prim.Native.Nat.{ℕ}
 use lib.Bits.{bitOr}
@@ -10,11 +9,15 @@ use Rattle.mask.specs.Mask.{has, meets}
 use Rattle.mask.proofs.Truth.{or-fails}
 use Rattle.mask.proofs.Laws.{has-or, meets-none}
 use Rattle.route.specs.declared.Step.{Step}
-use Rattle.precedence.specs.Precedence.{clash, tied}
+use Rattle.precedence.specs.Precedence.{clash}
 use Rattle.theorems.specs.Values.{Store, Work, perform, performAll, cutThen, cutAll}
 use Rattle.theorems.proofs.Perform.{stepAt, unwritten, perform-agree}
-use Rattle.theorems.proofs.Tied.{clash-comm}
 use Rattle.theorems.proofs.Reorder.{Swappable}
+
+clash-comm : (s t : Step) → clash s t ≡ clash t s
+unfolding clash
+clash-comm s t = or-comm (meets (s .writes) (bitOr (t .reads) (t .writes)))
+    (meets (t .writes) (bitOr (s .reads) (s .writes)))
 
 -- s writes nothing that t reads or writes
 record Spares (s t : Step) : Type 0 where
@@ -59,32 +62,29 @@ module _ {T : Type 0} (f : Work T) where
 -- the store that a list leaves
 pub values-swap : {T : Type 0} (f : Work T) (l : List Step)
     → Swappable l (λ o k. (σ : Store T) → performAll f (stepAt l) o σ ≡ performAll f (stepAt l) k σ)
-unfolding performAll tied
+unfolding performAll
 values-swap f l =
     record {
       same = λ o σ. refl;
       then = λ a b σ. a σ ∙ b σ;
       front = λ x a σ. a (perform f x (stepAt l x) σ);
-      swap = λ x y o t σ. ap (performAll f (stepAt l) o) (sym (commute f x y (stepAt l x) (stepAt l y) σ
-          (or-fails (clash (stepAt l x) (stepAt l y)) (stepAt l x .cloth && stepAt l y .cloth) t)));
+      swap = λ x y o h m σ. ap (performAll f (stepAt l) o) (sym (commute f x y (stepAt l x) (stepAt l y) σ h));
     }
 
 -- the sequence of those that cut cloth
 pub cut-swap : (l : List Step) → Swappable l (λ o k. cutAll (stepAt l) o ≡ cutAll (stepAt l) k)
-unfolding cutAll cutThen tied
+unfolding cutAll cutThen
 cut-swap l =
     record {
       same = λ o. refl;
       then = λ a b. a ∙ b;
       front = λ x a. ap (cutThen x (stepAt l x)) a;
-      swap = λ x y o t. table x y (clash (stepAt l x) (stepAt l y)) (stepAt l x .cloth) (stepAt l y .cloth)
-          (cutAll (stepAt l) o) t;
+      swap = λ x y o h m. table x y (stepAt l x .cloth) (stepAt l y .cloth) (cutAll (stepAt l) o) m;
     }
   where
-    table : (x y : ℕ) (c a b : Bool) (o : List ℕ) → (c || (a && b)) ≡ false
+    table : (x y : ℕ) (a b : Bool) (o : List ℕ) → (a && b) ≡ false
         → cond a (x ∷ cond b (y ∷ o) o) (cond b (y ∷ o) o) ≡ cond b (y ∷ cond a (x ∷ o) o) (cond a (x ∷ o) o)
-    table x y true a b o e = cc
-    table x y false true true o e = cc
-    table x y false true false o e = refl
-    table x y false false true o e = refl
-    table x y false false false o e = refl
+    table x y true true o e = cc
+    table x y true false o e = refl
+    table x y false true o e = refl
+    table x y false false o e = refl

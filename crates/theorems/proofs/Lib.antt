@@ -3,7 +3,7 @@
 pub mod Perform
 pub mod Drop
 pub mod Entries
-pub mod Tied
+pub mod ComesAfter
 pub mod Insertion
 pub mod Reorder
 pub mod Commute

@@ -78,7 +78,7 @@ use Rattle.theorems.specs.Shows.{Shows}
 use Rattle.theorems.specs.RoundTrip.{bytesWritten, WritesBytes, countsRead, jobInto, ReadsInto}
 use Rattle.theorems.specs.Editions.{Eight, UnusedBlank, Later, Meets, AllMeet}
 use Rattle.theorems.proofs.KeptValues.{kept-values, kept-cuts}
-use Rattle.theorems.proofs.Tied.{after-iff, cut-after}
+use Rattle.theorems.proofs.ComesAfter.{comesAfter-iff, cut-after}
 use Rattle.theorems.proofs.Accepts.{try-fit, try-second, try-marking}
 use Rattle.theorems.proofs.Judge.{judge-moves, judge-second, judge-given, judge-marking, judge-refuses}
 use Rattle.theorems.proofs.Judge.{given-one}
@@ -309,7 +309,7 @@ table-is-precedence = row-exact
 pub comes-after-exactly : (l : List Step) (i j : ℕ)
     → (comesAfter l i j ≡ true)
     ↔ (j < i) × ((clash (getD l i blank) (getD l j blank) ≡ true) ⊎ ((cutsAt l i ≡ true) × (cutsAt l j ≡ true)))
-comes-after-exactly = after-iff
+comes-after-exactly = comesAfter-iff
 
 pub the-later-cut-comes-after : (l : List Step) (i j : ℕ) → j < i → cutsAt l i ≡ true → cutsAt l j ≡ true
     → comesAfter l i j ≡ true

@@ -6,11 +6,12 @@ use mathlib.Core.List.{List, [], _∷_}
 use Prim.Native.Nat.{ℕ, zero, suc, _+_, _≤_, _<_}
 use native.Mathlib.Omega.{arith}
 use native.Mathlib.Decide.{ℕ-discrete, decLt}
-use borrow.Author.Tests.{eq-eqb, ne-eqb, le-ltb}
+use borrow.Author.Tests.{eq-eqb, ne-eqb}
 use Rattle.mask.specs.Mask.{has, membersFrom, members}
 use Rattle.route.specs.declared.Step.{Step}
 use Rattle.precedence.specs.Precedence.{comesAfter}
 use Rattle.precedence.specs.Order.{times, EachOnce, noneOf, inOrder}
+use Rattle.precedence.proofs.Rows.{not-after}
 use Rattle.theorems.proofs.Entries.{noneOf-intro}
 
 -- ---- each once
@@ -55,10 +56,6 @@ members-eachOnce n kept h i = once-from n 0 kept i (omega arith) (λ k. omega (a
 
 -- ---- in order
 
-pub comesAfter-le : (l : List Step) (i j : ℕ) → i ≤ j → comesAfter l i j ≡ false
-unfolding comesAfter
-comesAfter-le l i j h = rw (le-ltb j i h)
-
 order-from : (l : List Step) (k v m : ℕ) → inOrder l (membersFrom v k m) ≡ true
 unfolding inOrder membersFrom
 order-from l zero v m = refl
@@ -68,7 +65,7 @@ order-from l (suc k) v m = go (has m v) (order-from l k (suc v) m)
     rest = membersFrom (suc v) k m
 
     first : noneOf (comesAfter l v) rest ≡ true
-    first = noneOf-intro (comesAfter l v) rest (λ i n. comesAfter-le l v i (go i n (decLt i (suc v))))
+    first = noneOf-intro (comesAfter l v) rest (λ i n. not-after l v i (go i n (decLt i (suc v))))
       where
         go : (i : ℕ) → 0 < times i rest → Dec (i < suc v) → v ≤ i
         go i n (yes h) = absurd (omega (arith, none-below k (suc v) m i h))

@@ -25,7 +25,7 @@ use Rattle.candidates.specs.Placing.{before, placeNext}
 use Rattle.search.proofs.Finds.{Allowed, done, then}
 use Rattle.precedence.proofs.Times.{times-head, times-cons-elim}
 use Rattle.theorems.proofs.Entries.{noneOf-elim, noneOf-intro, inOrder-cons}
-use Rattle.theorems.proofs.MembersOrder.{comesAfter-le}
+use Rattle.precedence.proofs.Rows.{not-after}
 use Rattle.mask.proofs.Count.{one, one-some, one-same, has-more, one-more}
 use Rattle.mask.proofs.Members.{Rises}
 use Rattle.precedence.proofs.EachOnce.{fresh, fresh-out}
@@ -127,7 +127,7 @@ module _ (new l : List Step) (ks : List ℕ) (up : Rises ks) where
       (ltb-true v (length ks) a) c (decLt 0 (times v (k ∷ q))))
     where
       none : (v : ℕ) → 0 < times v (k ∷ q) → comesAfter l (at k) (at v) ≡ false
-      none = times-cons-elim (λ v. comesAfter l (at k) (at v) ≡ false) k q (comesAfter-le l (at k) (at k) (omega arith))
+      none = times-cons-elim (λ v. comesAfter l (at k) (at v) ≡ false) k q (not-after l (at k) (at k) (omega arith))
           (λ v n. noneOf-elim (comesAfter l (at k)) (map at q) h (at v) (rw (times-at ks up q b v (b v n)) n))
 
       go : (v : ℕ) → v < length ks → comesAfter l (at k) (at v) ≡ true → Dec (0 < times v (k ∷ q)) → has placed v ≡ true

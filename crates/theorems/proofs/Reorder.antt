@@ -1,6 +1,6 @@
--- Two lists in order that hold the same occurrences differ by swaps of neighbours that are not tied. The first of the
--- one stands in the other behind occurrences that it is tied to none of, since one of the two orders would be broken.
--- So it comes to the front there too, and the rest goes on the same way.
+-- Two lists in order that hold the same occurrences differ by swaps of neighbours that are free of each other. The
+-- first of the one stands in the other behind occurrences that it is free of, since one of the two orders would be
+-- broken. So it comes to the front there too, and the rest goes on the same way.
 use mathlib.Core.Path.{_≡_, sym, ap₂, _∙_}
 use mathlib.Core.Logic.{⊎-elim}
 use mathlib.Core.Bool.{Bool, true, false, not, _&&_}
@@ -9,21 +9,22 @@ use Prim.Native.Nat.{ℕ}
 use native.Mathlib.Omega.{arith}
 use borrow.Author.Tests.{not-true}
 use Rattle.route.specs.declared.Step.{Step}
-use Rattle.precedence.specs.Precedence.{tied, comesAfter}
+use Rattle.precedence.specs.Precedence.{clash, comesAfter}
 use Rattle.precedence.specs.Order.{times, EachOnce, noneOf, inOrder}
 use Rattle.mask.proofs.Truth.{both}
 use Rattle.theorems.proofs.Perform.{stepAt}
 use Rattle.precedence.proofs.Times.{times-head}
+use Rattle.precedence.proofs.Rows.{apart}
 use Rattle.theorems.proofs.Entries.{noneOf-elim, noneOf-mono, inOrder-cons}
 use Rattle.theorems.proofs.Insertion.{Insertion, here, there, insertion-times, insertion-in, take-out}
-use Rattle.theorems.proofs.Tied.{apart}
 
--- lists are alike in a way that a swap of neighbours that are not tied does not change
+-- lists are alike in a way that a swap of neighbours does not change that neither clash nor both cut cloth
 pub record Swappable (l : List Step) (R : List ℕ → List ℕ → Type 0) : Type 0 where
   pub same : (o : List ℕ) → R o o
   pub then : {o k q : List ℕ} → R o k → R k q → R o q
   pub front : (x : ℕ) {o k : List ℕ} → R o k → R (x ∷ o) (x ∷ k)
-  pub swap : (x y : ℕ) (o : List ℕ) → tied (stepAt l x) (stepAt l y) ≡ false → R (x ∷ y ∷ o) (y ∷ x ∷ o)
+  pub swap : (x y : ℕ) (o : List ℕ) → clash (stepAt l x) (stepAt l y) ≡ false
+      → (stepAt l x .cloth && stepAt l y .cloth) ≡ false → R (x ∷ y ∷ o) (y ∷ x ∷ o)
 
 -- what is left of a list in order is in order
 put-order : (l : List Step) {x : ℕ} {r k : List ℕ} → Insertion x r k → inOrder l k ≡ true → inOrder l r ≡ true
@@ -37,7 +38,8 @@ put-order l (there {y = y} {r = r} {k = k} p) h =
 module _ (l : List Step) {R : List ℕ → List ℕ → Type 0} (alike : Swappable l R) where
   -- of two occurrences neither comes after the other
   swap : (x y : ℕ) (o : List ℕ) → comesAfter l x y ≡ false → comesAfter l y x ≡ false → R (x ∷ y ∷ o) (y ∷ x ∷ o)
-  swap x y o p q = ⊎-elim (λ e. rw e (alike .same (y ∷ y ∷ o))) (alike .swap x y o) (apart l x y p q)
+  swap x y o p q = ⊎-elim (λ e. rw e (alike .same (y ∷ y ∷ o))) (λ h. alike .swap x y o (h .0) (h .1))
+      (apart l x y p q)
 
   -- the one put in comes to the front
   to-front : {x : ℕ} {r k : List ℕ} → Insertion x r k → noneOf (comesAfter l x) r ≡ true → inOrder l k ≡ true

@@ -18,13 +18,13 @@ use Rattle.precedence.proofs.Times.{times-head}
 
 -- the two steps read and write the same, and both are marked or neither
 abbrev pub SameData : Step → Step → Type 0
-SameData s t = (s .reads ≡ t .reads) × (s .writes ≡ t .writes) × (s .cloth ≡ t .cloth)
+SameData s t = (s .reads ≡ t .reads) × ((s .writes ≡ t .writes) × (s .cloth ≡ t .cloth))
 
 perform-same : {T : Type 0} (f : Work T) (i : ℕ) (s t : Step) (σ : Store T) → SameData s t
     → perform f i s σ ≡ perform f i t σ
 unfolding perform
 perform-same {T} f i s t σ e = ap₂ {C = Store T} (λ (r w v : ℕ). cond (has w v) (some (f i v (readings r σ))) (σ v))
-    (e .0) (e .1)
+    (e .0) (e .1 .0)
 
 module _ {T : Type 0} (f : Work T) (steps : List Step) (name : ℕ → ℕ) (at : ℕ → Step) where
   -- the first entry of a whole replay has a step that fires, and the replay goes on from it
@@ -51,5 +51,5 @@ module _ {T : Type 0} (f : Work T) (steps : List Step) (name : ℕ → ℕ) (at 
       let rest = replay-performs (fire m s) (perform f i s σ) o (λ j t n. d j t (omega arith))
       (sym (ap (λ (w : End T). w .whole) on) ∙ h) in (
         ap (λ (w : End T). w .store) on ∙ rest .0 ∙ ap (performAll f at o) (perform-same f i s (at i) σ own),
-        ap (λ (w : End T). w .cut) on ∙ ap₂ (λ (t : Bool) (k : List ℕ). cond t (i ∷ k) k) (own .2) (rest .1),
+        ap (λ (w : End T). w .cut) on ∙ ap₂ (λ (t : Bool) (k : List ℕ). cond t (i ∷ k) k) (own .1 .1) (rest .1),
       )

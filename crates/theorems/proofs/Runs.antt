@@ -81,6 +81,5 @@ module _ (j : Job) (ok : Runs j) where
           ∙ ap (λ (q : Option Step). Option·getD q blank) e
           in (
             ap (λ (x : Step). x .reads) (sym same),
-            ap (λ (x : Step). x .writes) (sym same),
-            ap (λ (x : Step). x .cloth) (sym same),
+            (ap (λ (x : Step). x .writes) (sym same), ap (λ (x : Step). x .cloth) (sym same)),
           )
