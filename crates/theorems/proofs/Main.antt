@@ -144,7 +144,7 @@ no-sheet-of-01-is-longer = bounded scope-limits
 pub one-of-01-is-as-long : (s : List ℕ) × (length s ≡ 18136) × (readBy scope s .number ≡ 0)
 one-of-01-is-as-long = scope-attained
 
--- (in every version 192 times its digits, and 17,176, and 1,024 where steps may be marked)
+-- (in every version 192 times its digits, and 17,176, and 1,024 where it has the mark)
 pub no-sheet-of-a-version-is-longer : {v : Version} → Limits v → (s : List ℕ) → readBy v s .number ≡ 0
     → length s ≤ longest v
 no-sheet-of-a-version-is-longer = bounded
@@ -181,14 +181,14 @@ pub lists-are-written : (s : List ℕ) (old new : List Step) (done : List ℕ) �
 lists-are-written = read-then-write-lent
 
 -- and in every version: what it reads is written byte for byte, and what is written of records whose lines pass its
--- rows it reads as these records
+-- rows, with no mark where it has none, it reads as these records
 pub each-version-is-written : {v : Version} → Limits v → (s : List ℕ) → readBy v s .number ≡ 0
     → written (jobRead (readBy v s)) ≡ s
 each-version-is-written = W.read-then-write
 
 pub each-version-is-read : {v : Version} → Limits v → (j : Job) → AllWide (j .old) → AllWide (j .new)
-    → first (sheetRows v (linesOf j)) .number ≡ 0 → readBy v (written j) ≡ sheetOf j
-each-version-is-read limits j old new pass = W.lines-then-read limits j old new (eq-eqb _ 0 pass)
+    → MarksTo (v .cloth) (linesOf j) → first (sheetRows v (linesOf j)) .number ≡ 0 → readBy v (written j) ≡ sheetOf j
+each-version-is-read limits j old new marks pass = W.lines-then-read limits j old new marks (eq-eqb _ 0 pass)
 
 -- ---- 02, "Longer step names": "A name may be 1 to 4,294,967,295 and every number up to ten digits long."
 
