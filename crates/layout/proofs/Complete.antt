@@ -1,7 +1,7 @@
 -- What is written is read: the text of lines leads from point to point, and gathers those lines.
 -- Assumes nothing.
 use mathlib.Core.Path.{_≡_, refl, ap, _∙_}
-use mathlib.Core.Bool.{Bool, true, false, cond}
+use mathlib.Core.Bool.{Bool, true, false}
 use mathlib.Core.List.{List, [], _∷_, reverseAux, reverse-reverse}
 use Prim.Native.Nat.{ℕ}
 use Rattle.version.specs.Limits.{Limits}
@@ -15,7 +15,7 @@ use Rattle.layout.specs.Parse.{Line, Parsed, noLine, noLines, withNum, s
 use Rattle.layout.specs.inner.Entries.{withEntries}
 use Rattle.layout.specs.Parse.{putLine, keep, atEnd, run, parse}
 use Rattle.layout.specs.declared.Word.{Word}
-use Rattle.layout.specs.declared.Word.the-variants.{Old, New, Done, Step, In, Out, Read, Write, Cloth}
+use Rattle.layout.specs.declared.Word.the-variants.{Old, New, Done, Step, In, Out, Read, Write}
 use Rattle.layout.specs.declared.Part.{Part}
 use Rattle.layout.specs.declared.Part.the-variants.{OldRoute, NewRoute, JobPart}
 use Rattle.layout.specs.declared.Point.the-variants.{Start, Open, Past, Digit, Digits, Closed}

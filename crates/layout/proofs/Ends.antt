@@ -124,7 +124,7 @@ closed-good v Step p b = λ l. absurd (never l)
 closed-good v In p b = expected Good b 32 (Gap Out p) refl
 closed-good v Out p b = expected Good b 32 (Gap Read p) refl
 closed-good v Read p b = expected Good b 32 (Gap Write p) refl
-closed-good v Write p b = either-where Good b 32 (v .cloth) (Gap Cloth p) (expect b 41 (Lf Write p)) (λ has. refl)
+closed-good v Write p b = either-where Good b 32 _ (Gap Cloth p) (expect b 41 (Lf Write p)) (λ has. refl)
     (expected Good b 41 (Lf Write p) refl)
 closed-good v Cloth p b = expected Good b 41 (Lf Cloth p) refl
 

@@ -341,7 +341,7 @@ module _ (v : Version) (limits : Limits v) (c : Line) (t : Lines) (line : ShortL
       (record { same = λ s. refl; shape = h; line = line; lines = lines })
   at-closed Read p b h = expected (λ x q. Onward v (Closed Read p) x c t q c t) b 32 (Gap Write p)
       (record { same = λ s. refl; shape = h; line = line; lines = lines })
-  at-closed Write p b h = either-where (λ x q. Onward v (Closed Write p) x c t q c t) b 32 (v .cloth) (Gap Cloth p)
+  at-closed Write p b h = either-where (λ x q. Onward v (Closed Write p) x c t q c t) b 32 _ (Gap Cloth p)
       (expect b 41 (Lf Write p))
       (λ has. record {
         same = λ s. refl;

@@ -63,17 +63,17 @@ fn line_end(v: Version, s: &[u8], from: usize, ok: bool) -> Ending
     if marked(v, s, from) {
         let cloth = texts::CLOTH;
         let m = text(s, from, ok, &cloth);
-        let e = text(s, m.at, m.ok, &end);
+        let t = text(s, m.at, m.ok, &end);
         return Ending {
-            at: e.at,
-            ok: e.ok,
+            at: t.at,
+            ok: t.ok,
             cloth: true,
         };
     }
-    let e = text(s, from, ok, &end);
+    let t = text(s, from, ok, &end);
     Ending {
-        at: e.at,
-        ok: e.ok,
+        at: t.at,
+        ok: t.ok,
         cloth: false,
     }
 }
