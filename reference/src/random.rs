@@ -58,6 +58,7 @@ fn plan_and_length(dice: &mut Dice) -> (Plan, usize) {
     match dice.below(100) {
         0..=9 => (Plan::looping(dice), dice.from_to(12, 64)),
         10..=29 => (Plan::random(9, 14, dice), 14),
+        30..=39 => (Plan::cutting(dice), 16),
         _ => (Plan::random(1, 7, dice), 9),
     }
 }

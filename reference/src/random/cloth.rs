@@ -8,7 +8,7 @@ use std::collections::BTreeMap;
 
 /// Of a hundred steps of a plan or a job so many are marked.
 pub fn share(dice: &mut Dice) -> usize {
-    any(&[0, 0, 15, 25, 35, 60, 100], dice)
+    any(&[0, 0, 0, 20, 30, 40, 60, 100], dice)
 }
 
 /// Whether a cut writes nothing.

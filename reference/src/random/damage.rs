@@ -34,13 +34,14 @@ const LONG: [&str; 12] = [
 
 /// What may stand in the place of a mark: none, one, two, one with a letter missing,
 /// too many or another, without its space or with two, with an entry, not closed.
-const NEAR_A_MARK: [&str; 20] = [
+const NEAR_A_MARK: [&str; 21] = [
     "",
     MARK,
     MARK,
     " (cloth) (cloth)",
     " (cloth)(cloth)",
     " (loth)",
+    " (coth)",
     " (clth)",
     " (clo)",
     " (clot)",

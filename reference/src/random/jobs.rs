@@ -3,7 +3,8 @@
 //! twists that rows 6 to 12 refuse or that leave nothing to keep.
 
 use super::dice::Dice;
-use super::{cloth, names, run_at_random, spoil};
+use super::plan::Plan;
+use super::{cloth, names, redraw, run_at_random, spoil};
 use crate::fit;
 use crate::job::Job;
 use crate::net;
@@ -15,6 +16,7 @@ pub fn job(dice: &mut Dice) -> Sheet {
         0..=2 => super::sheet(dice),
         3..=6 => searched(dice),
         7 => unchanged(super::sheet(dice)),
+        8..=9 => cutting(dice),
         _ => {
             let job = of_a_kind(dice);
             cloth::marked(job, dice)
@@ -61,6 +63,21 @@ fn searched(dice: &mut Dice) -> Sheet {
 fn unchanged(job: Sheet) -> Sheet {
     let new = job.old.clone();
     Sheet { new, ..job }
+}
+
+/// Panels that are cut. On the new route steps that have nothing to do with each
+/// other change places, and one that writes nothing may be gone.
+fn cutting(dice: &mut Dice) -> Sheet {
+    let mut plan = Plan::cutting(dice);
+    let old = plan.draw(dice);
+    let length = if dice.chance(70) { 17 } else { dice.below(12) };
+    let done = run_at_random(&old, length, dice);
+    redraw::reorder(&mut plan, dice);
+    if dice.chance(60) {
+        redraw::drop_silent(&mut plan, dice);
+    }
+    let new = plan.draw(dice);
+    Sheet { old, new, done }
 }
 
 /// One to three entries below the bound.
@@ -356,7 +373,7 @@ fn crowded(dice: &mut Dice) -> Sheet {
 /// A change that most often leads to one of the rows 6 to 12.
 fn twist(job: &mut Sheet, dice: &mut Dice) {
     let at = dice.below(job.new.steps.len());
-    match dice.below(17) {
+    match dice.below(18) {
         0 => job.old.places = 64.min(job.old.places + 1),
         1 => job.new.places = 64.min(job.new.places + 1),
         2 => close(&mut job.old),
@@ -368,8 +385,8 @@ fn twist(job: &mut Sheet, dice: &mut Dice) {
         }
         11 => job.new.steps[at].reads = perhaps(32, dice),
         12 => without_data(job, at),
-        13..=14 => cloth::change(&mut job.new, dice),
-        15 => {
+        13..=15 => cloth::change(&mut job.new, dice),
+        16 => {
             without_data(job, at);
             cloth::clear(job);
         }

@@ -65,7 +65,7 @@ impl Plan {
         self.pool = own;
     }
 
-    /// A plan whose main part loops and builds on what it wrote before.
+    /// A plan whose main part loops and builds on what it wrote before, or only cuts.
     pub fn looping(dice: &mut Dice) -> Plan {
         let mut plan = Plan::empty(dice);
         let counts = [dice.from_to(1, 3), dice.from_to(1, 2)];
@@ -74,15 +74,59 @@ impl Plan {
             let names: Vec<u64> = (0..count).map(|_| plan.fresh_step(dice)).collect();
             parts.push(Block::random(&names, dice));
         }
+        let only_cuts = dice.chance(25);
         for data in plan.data.values_mut() {
             let variable = plan.pool[dice.below(plan.pool.len().min(2))];
             data.reads = vec![variable];
             data.writes = vec![variable];
             data.perhaps_silent(dice);
+            if only_cuts {
+                data.cloth = true;
+                data.writes.clear();
+            }
         }
         let kind = [Kind::Loop, Kind::Again][dice.below(2)];
         plan.begin(Block::of(kind, parts), dice);
         plan
+    }
+
+    /// A plan of panels that are cut, one after the other or side by side.
+    pub fn cutting(dice: &mut Dice) -> Plan {
+        let mut plan = Plan::empty(dice);
+        let count = dice.from_to(1, 3);
+        let parts = (0..count).map(|_| plan.panel(dice)).collect();
+        let kind = [Kind::Sequence, Kind::Parallel][dice.below(2)];
+        plan.begin(Block::of(kind, parts), dice);
+        plan
+    }
+
+    /// A panel: one variable is written, another from it, and the panel is cut by
+    /// that; both are written again, and one is looked at. Some of this is left out.
+    fn panel(&mut self, dice: &mut Dice) -> Block {
+        dice.shuffle(&mut self.pool);
+        let (one, other) = (self.pool[0], self.pool[1]);
+        let both = vec![one.min(other), one.max(other)];
+        let panel = [
+            (vec![], vec![one], false),
+            (vec![one], vec![other], false),
+            (vec![other], vec![], true),
+            (vec![], both, false),
+            (vec![one], vec![], false),
+        ];
+        let mut steps = Vec::new();
+        for (reads, writes, cloth) in panel {
+            if cloth || dice.chance(75) {
+                let name = self.fresh_step(dice);
+                let data = Data {
+                    reads,
+                    writes,
+                    cloth,
+                };
+                self.data.insert(name, data);
+                steps.push(Block::step(name));
+            }
+        }
+        Block::of(Kind::Sequence, steps)
     }
 
     fn empty(dice: &mut Dice) -> Plan {
@@ -118,7 +162,7 @@ impl Plan {
         let name = names::fresh(&taken, dice);
         let mut data = Data {
             reads: self.some_variables(&[50, 35, 10, 5], dice),
-            writes: self.some_variables(&[12, 70, 13, 5], dice),
+            writes: self.some_variables(&[15, 67, 13, 5], dice),
             cloth: dice.chance(self.share),
         };
         data.perhaps_silent(dice);

@@ -29,15 +29,16 @@ fn tamed(plan: &mut Plan, change: fn(&mut Plan, &mut Dice), dice: &mut Dice) {
 }
 
 fn change(plan: &mut Plan, dice: &mut Dice) {
-    match dice.below(23) {
+    match dice.below(26) {
         0..=1 => swap(plan, &|_, _| true, dice),
         2..=7 => swap_unrelated(plan, dice),
         8..=9 => make(plan, Kind::Sequence, Kind::Parallel, dice),
         10..=12 => make(plan, Kind::Parallel, Kind::Sequence, dice),
-        13..=15 => drop_step(plan, dice),
+        13..=15 => drop_step(plan, &|_| true, dice),
         16..=17 => add_step(plan, dice),
         18..=19 => change_data(plan, dice),
         20..=21 => swap_cuts(plan, dice),
+        22..=23 => drop_silent(plan, dice),
         _ => change_mark(plan, dice),
     }
 }
@@ -123,20 +124,31 @@ fn make(plan: &mut Plan, from: Kind, to: Kind, dice: &mut Dice) {
     change_one(&mut plan.tree, dice, &admits, &mut |block| block.kind = to);
 }
 
-/// A step that is a part of a sequence, branch or choice goes.
-fn drop_step(plan: &mut Plan, dice: &mut Dice) {
+/// A step that is a part of a sequence, branch or choice goes, if the test admits it.
+fn drop_step(plan: &mut Plan, admits: &dyn Fn(u64) -> bool, dice: &mut Dice) {
     let mut other = Dice::new(dice.roll());
-    let is_step = |block: &Block| matches!(block.kind, Kind::Step(_));
-    let admits = |block: &Block| {
+    let goes = |block: &Block| matches!(block.kind, Kind::Step(name) if admits(name));
+    let has_one = |block: &Block| {
         let loops = matches!(block.kind, Kind::Loop | Kind::Again);
-        !loops && block.parts.len() > 1 && block.parts.iter().any(is_step)
+        !loops && block.parts.len() > 1 && block.parts.iter().any(goes)
     };
-    change_one(&mut plan.tree, dice, &admits, &mut |block| {
+    change_one(&mut plan.tree, dice, &has_one, &mut |block| {
         let steps: Vec<usize> = (0..block.parts.len())
-            .filter(|&part| is_step(&block.parts[part]))
+            .filter(|&part| goes(&block.parts[part]))
             .collect();
         block.parts.remove(steps[other.below(steps.len())]);
     });
+}
+
+/// Whether a step isn't marked and writes nothing.
+fn is_silent(data: &Data) -> bool {
+    !data.cloth && data.writes.is_empty()
+}
+
+/// A step goes that isn't marked and writes nothing.
+pub fn drop_silent(plan: &mut Plan, dice: &mut Dice) {
+    let data = plan.data.clone();
+    drop_step(plan, &|name| is_silent(&data[&name]), dice);
 }
 
 /// A new step before, after or beside some block.
@@ -166,12 +178,14 @@ fn change_data(plan: &mut Plan, dice: &mut Dice) {
     plan.data.insert(name, data);
 }
 
-/// A step is marked that wasn't, or isn't any more.
+/// A step is marked that wasn't, or isn't any more; half of the time it is an
+/// unmarked one that writes nothing, if there is one.
 fn change_mark(plan: &mut Plan, dice: &mut Dice) {
-    let names: Vec<u64> = plan.data.keys().copied().collect();
-    let name = names[dice.below(names.len())];
-    let data = plan.data.entry(name).or_default();
-    data.cloth = !data.cloth;
+    let quiet = dice.chance(50) && plan.data.values().any(is_silent);
+    let mut those: Vec<&mut Data> = plan.data.values_mut().collect();
+    those.retain(|data| !quiet || is_silent(data));
+    let at = dice.below(those.len());
+    those[at].cloth ^= true;
 }
 
 /// One step gets or changes a place, wherever that leads.

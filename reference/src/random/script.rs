@@ -193,7 +193,7 @@ fn of_sheet(number: u64, dice: &mut Dice) -> Vec<String> {
     let mut job = jobs::job(dice);
     if matches!(number, 6 | 23) && dice.chance(50) {
         names::shorten(&mut job, dice);
-        if dice.chance(70) {
+        if dice.chance(80) {
             cloth::clear(&mut job);
         }
     }

@@ -1,6 +1,8 @@
 //! Random sheets, and lists of names: what 01 and 02 say must hold of each of them.
 
+mod cloth;
 mod kinds;
+mod kinds_of_cloth;
 mod layout;
 mod lookup;
 mod names;

@@ -2,7 +2,7 @@
 //! follows from the present one's and from where 01's limits are first passed.
 
 use crate::for_each_sheet;
-use reference::random::{damage::damage, names::shorten};
+use reference::random::{cloth::clear, damage::damage, names::shorten};
 use reference::refusal::{refuse, Refusal};
 use reference::sheet::{self, read, read_by, Sheet};
 use reference::version::Version;
@@ -65,6 +65,9 @@ fn what_01s_version_reads_the_present_one_reads_alike() {
         let mut facts = facts.clone();
         if dice.chance(70) {
             shorten(&mut facts, dice);
+        }
+        if dice.chance(70) {
+            clear(&mut facts);
         }
         let whole = sheet::text(&facts).into_bytes();
         for bytes in [damage(&whole, dice), whole] {

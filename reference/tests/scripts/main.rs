@@ -6,11 +6,14 @@ mod common;
 mod direct;
 #[path = "../random/kinds.rs"]
 mod kinds;
+#[path = "../random/kinds_of_cloth.rs"]
+mod kinds_of_cloth;
 mod kinds_of_lookups;
 mod letters;
 mod lookup;
 mod names;
 mod random;
+mod random_cloth;
 mod random_lookups;
 mod random_shelves;
 mod rows;
