@@ -3,7 +3,7 @@
 
 use super::dice::Dice;
 use super::records::any;
-use crate::sheet::{Route, Sheet};
+use crate::sheet::Sheet;
 use std::collections::BTreeMap;
 
 /// Of a hundred steps of a plan or a job so many are marked.
@@ -37,8 +37,12 @@ pub fn clear(job: &mut Sheet) {
     steps.for_each(|step| step.cloth = false);
 }
 
-/// One step is marked that wasn't, or isn't any more.
-pub fn change(route: &mut Route, dice: &mut Dice) {
-    let at = dice.below(route.steps.len());
-    route.steps[at].cloth ^= true;
+/// One mark is set or taken away. Each is given with whether its step writes nothing:
+/// half of the time it is the mark of such a step, if there is one.
+pub fn change(mut marks: Vec<(&mut bool, bool)>, dice: &mut Dice) {
+    if dice.chance(50) && marks.iter().any(|(_, silent)| *silent) {
+        marks.retain(|(_, silent)| *silent);
+    }
+    let at = dice.below(marks.len());
+    *marks[at].0 ^= true;
 }

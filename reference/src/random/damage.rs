@@ -62,10 +62,10 @@ const NEAR_A_MARK: [&str; 21] = [
 pub fn damage(sheet: &[u8], dice: &mut Dice) -> Vec<u8> {
     let mut bytes = sheet.to_vec();
     for _ in 0..[1, 1, 1, 2, 2, 3][dice.below(6)] {
-        bytes = match dice.below(8) {
+        bytes = match dice.below(9) {
             0 => damage_bytes(bytes, dice),
-            1..=4 => change_number(bytes, dice),
-            5 => damage_mark(bytes, dice),
+            1..=5 => change_number(bytes, dice),
+            6 => damage_mark(bytes, dice),
             _ => damage_lines(bytes, dice),
         };
     }

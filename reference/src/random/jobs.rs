@@ -66,12 +66,18 @@ fn unchanged(job: Sheet) -> Sheet {
 }
 
 /// Panels that are cut. On the new route steps that have nothing to do with each
-/// other change places, and one that writes nothing may be gone.
+/// other change places, and one that writes nothing may be gone; or only a mark is
+/// another.
 fn cutting(dice: &mut Dice) -> Sheet {
     let mut plan = Plan::cutting(dice);
     let old = plan.draw(dice);
     let length = if dice.chance(70) { 17 } else { dice.below(12) };
     let done = run_at_random(&old, length, dice);
+    if dice.chance(30) {
+        let mut new = old.clone();
+        change_mark(&mut new, dice);
+        return Sheet { old, new, done };
+    }
     redraw::reorder(&mut plan, dice);
     if dice.chance(60) {
         redraw::drop_silent(&mut plan, dice);
@@ -385,7 +391,7 @@ fn twist(job: &mut Sheet, dice: &mut Dice) {
         }
         11 => job.new.steps[at].reads = perhaps(32, dice),
         12 => without_data(job, at),
-        13..=15 => cloth::change(&mut job.new, dice),
+        13..=15 => change_mark(&mut job.new, dice),
         16 => {
             without_data(job, at);
             cloth::clear(job);
@@ -402,6 +408,13 @@ fn without_data(job: &mut Sheet, at: usize) {
         step.reads.clear();
         step.writes.clear();
     }
+}
+
+/// A step is marked that wasn't, or isn't any more.
+fn change_mark(route: &mut Route, dice: &mut Dice) {
+    let steps = route.steps.iter_mut();
+    let marks = steps.map(|step| (&mut step.cloth, step.writes.is_empty()));
+    cloth::change(marks.collect(), dice);
 }
 
 /// Each start place becomes an out-place of the last step.

@@ -2,6 +2,7 @@
 //! changed, branches made sequential and back.
 
 use super::block::{Block, Kind};
+use super::cloth;
 use super::dice::Dice;
 use super::plan::{Data, Plan};
 use crate::sheet::Route;
@@ -140,15 +141,11 @@ fn drop_step(plan: &mut Plan, admits: &dyn Fn(u64) -> bool, dice: &mut Dice) {
     });
 }
 
-/// Whether a step isn't marked and writes nothing.
-fn is_silent(data: &Data) -> bool {
-    !data.cloth && data.writes.is_empty()
-}
-
 /// A step goes that isn't marked and writes nothing.
 pub fn drop_silent(plan: &mut Plan, dice: &mut Dice) {
     let data = plan.data.clone();
-    drop_step(plan, &|name| is_silent(&data[&name]), dice);
+    let is_silent = |name| !data[&name].cloth && data[&name].writes.is_empty();
+    drop_step(plan, &is_silent, dice);
 }
 
 /// A new step before, after or beside some block.
@@ -178,14 +175,11 @@ fn change_data(plan: &mut Plan, dice: &mut Dice) {
     plan.data.insert(name, data);
 }
 
-/// A step is marked that wasn't, or isn't any more; half of the time it is an
-/// unmarked one that writes nothing, if there is one.
+/// A step is marked that wasn't, or isn't any more.
 fn change_mark(plan: &mut Plan, dice: &mut Dice) {
-    let quiet = dice.chance(50) && plan.data.values().any(is_silent);
-    let mut those: Vec<&mut Data> = plan.data.values_mut().collect();
-    those.retain(|data| !quiet || is_silent(data));
-    let at = dice.below(those.len());
-    those[at].cloth ^= true;
+    let steps = plan.data.values_mut();
+    let marks = steps.map(|data| (&mut data.cloth, data.writes.is_empty()));
+    cloth::change(marks.collect(), dice);
 }
 
 /// One step gets or changes a place, wherever that leads.

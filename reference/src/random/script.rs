@@ -193,9 +193,9 @@ fn of_sheet(number: u64, dice: &mut Dice) -> Vec<String> {
     let mut job = jobs::job(dice);
     if matches!(number, 6 | 23) && dice.chance(50) {
         names::shorten(&mut job, dice);
-        if dice.chance(80) {
-            cloth::clear(&mut job);
-        }
+    }
+    if number == 23 && dice.chance(75) {
+        cloth::clear(&mut job);
     }
     let mut text = sheet::text(&job).into_bytes();
     match dice.below(100) {

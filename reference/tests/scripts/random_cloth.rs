@@ -1,7 +1,6 @@
 //! What random scripts meet of marks (02, A.4): on records, by value and lent, on
 //! sheets, and in orders handed in.
 
-use crate::common::numbers_of;
 use crate::direct::{self, Job};
 use crate::kinds::Kinds;
 use crate::kinds_of_cloth::{add, only_marks_forbid};
@@ -92,31 +91,35 @@ fn orders_meet_marks() {
     assert_eq!(kinds.0.len(), 6);
 }
 
+/// Whether the sheet up to here ends with two or more bytes of a mark.
+fn ends_in_a_mark(begin: &[u8]) -> bool {
+    let mark = MARK.as_bytes();
+    (2..=mark.len()).any(|length| begin.ends_with(&mark[..length]))
+}
+
 /// Reading by both versions: sheets with a mark, and where a mark breaks the layout.
 #[test]
 fn versions_meet_marks() {
     let mut kinds = Kinds::default();
     for (line, operation, numbers) in operations() {
-        if matches!(operation, 6 | 16 | 23) {
-            let sheet = bytes(arguments(line).many());
-            let mark = numbers_of(MARK);
-            let offset = numbers[1] as usize;
-            let has_mark = sheet
-                .windows(MARK.len())
-                .any(|part| part == bytes(mark.clone()));
-            let begins = numbers[0] == 1 && sheet[offset..].starts_with(MARK.as_bytes());
-            let broken = (2..=MARK.len()).any(|length| {
-                sheet[..offset.min(sheet.len())].ends_with(&MARK.as_bytes()[..length])
-            });
-            let mut add = |met, kind: &str| kinds.add(met, &format!("{operation:2}: {kind}"));
-            add(numbers[0] == 0 && !has_mark, "reads, no mark");
-            if operation == 23 {
-                assert!(numbers[0] > 0 || !has_mark, "{line}");
-                add(begins, "1 at a mark");
-            } else {
-                add(numbers[0] == 0 && has_mark, "reads, marked");
-                add(numbers[0] == 1 && broken, "1 in a mark");
-            }
+        if !matches!(operation, 6 | 16 | 23) {
+            continue;
+        }
+        let sheet = bytes(arguments(line).many());
+        let mark = MARK.as_bytes();
+        let has_mark = sheet.windows(mark.len()).any(|part| part == mark);
+        let reads = numbers[0] == 0;
+        let broken = Some(numbers[1] as usize).filter(|_| numbers[0] == 1);
+        let mut add = |met, kind: &str| kinds.add(met, &format!("{operation:2}: {kind}"));
+        add(reads && !has_mark, "reads, no mark");
+        if operation == 23 {
+            assert!(!reads || !has_mark, "{line}");
+            let at_mark = broken.is_some_and(|at| sheet[at..].starts_with(mark));
+            add(at_mark, "1 at a mark");
+        } else {
+            add(reads && has_mark, "reads, marked");
+            let in_mark = broken.is_some_and(|at| ends_in_a_mark(&sheet[..at]));
+            add(in_mark, "1 in a mark");
         }
     }
     kinds.finish(5);
