@@ -12,9 +12,16 @@ type Work = (u64, &'static [u64], &'static [u64], bool);
 const CUT_10: Work = (10, &[], &[], true);
 const CUT_20: Work = (20, &[], &[], true);
 const CUT_40: Work = (40, &[], &[], true);
-/// They write nothing, and have no mark.
+/// An idle step writes nothing, and has no mark.
 const IDLE_10: Work = (10, &[], &[], false);
 const IDLE_30: Work = (30, &[], &[], false);
+const WRITE_10: Work = (10, &[], &[0], false);
+const WRITE_50: Work = (50, &[], &[0], false);
+/// More cuts: these read or write.
+const MARKED_10: Work = (10, &[], &[0], true);
+const READ_20: Work = (20, &[0], &[], true);
+const AGAIN_20: Work = (20, &[], &[0], true);
+const CHANGE_20: Work = (20, &[0], &[0, 1], true);
 
 /// Every operation of this file, as one script.
 pub fn script() -> String {
@@ -37,9 +44,8 @@ fn all_done(old: &Route, new: &Route) -> Sheet {
     job(old, new, &done)
 }
 
-/// Slice, judge and print, by value and lent; and try with some orders.
+/// Slice, judge, and try with some orders, by value and lent.
 fn every(job: &Sheet, orders: &[&[u8]]) -> String {
-    let work = || [fill(WORK, 7)];
     let tried = orders.iter().map(|order| {
         let order = [bytes(order)];
         on_records(TRY, job, &order) + &on_records(TRY + LENT, job, &order)
@@ -48,8 +54,7 @@ fn every(job: &Sheet, orders: &[&[u8]]) -> String {
         on_records(SLICE, job, &[]),
         on_records(SLICE + LENT, job, &[]),
         judge(job),
-        on_records(JUDGE + LENT, job, &work()),
-        print(job, 200),
+        on_records(JUDGE + LENT, job, &[fill(WORK, 7)]),
         tried.collect(),
     ];
     parts.concat()
@@ -70,6 +75,9 @@ fn ordered() -> String {
     round.steps[1].outs = vec![1];
     let swapped = chain(&[CUT_20, CUT_10]);
     [
+        print(&all_done(&old, &old), 200),
+        print(&all_done(&old, &dropped), 200),
+        print(&all_done(&old, &turned), 200),
         every(&all_done(&old, &old), &[&[1, 3, 4], &[1, 4, 3]]),
         every(&all_done(&old, &dropped), &[&[1, 3, 4], &[1, 2, 3, 4]]),
         every(&all_done(&old, &turned), &[&[1, 4, 3]]),
@@ -80,14 +88,9 @@ fn ordered() -> String {
     .concat()
 }
 
-/// What a cut reads was written before it, and once more after it; a cut writes what
-/// was written before it; a cut's writer is a cut, or the new route lacks a cut.
+/// A cut reads what was written before it and is written again after it; a cut writes
+/// that, or reads and writes it. Then the new route lacks the cut, or has it earlier.
 fn needed() -> String {
-    const WRITE_10: Work = (10, &[], &[0], false);
-    const WRITE_50: Work = (50, &[], &[0], false);
-    const READ_20: Work = (20, &[0], &[], true);
-    const AGAIN_20: Work = (20, &[], &[0], true);
-    const CHANGE_20: Work = (20, &[0], &[0, 1], true);
     let read = [WRITE_10, READ_20, WRITE_50];
     let read_then_idle = [&read[..], &[IDLE_30]].concat();
     let again = [WRITE_10, AGAIN_20];
@@ -111,8 +114,6 @@ fn needed() -> String {
 /// One route has the mark and the other hasn't, where the step writes and where not;
 /// alone, and with a step before it that the new route lacks.
 fn other_marks() -> String {
-    const WRITE_10: Work = (10, &[], &[0], false);
-    const MARKED_10: Work = (10, &[], &[0], true);
     let mut script = String::new();
     for (one, other) in [(IDLE_10, CUT_10), (WRITE_10, MARKED_10)] {
         for (old, new) in [(one, other), (other, one), (other, other)] {
@@ -127,14 +128,13 @@ fn other_marks() -> String {
 /// 16 cuts and 17, and one step more that the new route lacks.
 fn sixteen() -> String {
     let of = |count: u64| {
-        let cuts: Vec<Work> = (1..=count).map(|name| (name, NONE, NONE, true)).collect();
+        let cut = |name| -> Work { (name, &[], &[], true) };
+        let cuts: Vec<Work> = (1..=count).map(cut).collect();
         let old = [&cuts[..], &[IDLE_30]].concat();
         all_done(&chain(&old), &chain(&cuts))
     };
     judge(&of(16)) + &judge(&of(17))
 }
-
-const NONE: &[u64] = &[];
 
 /// Names beside the mark: one twice, marked once; 0 and the greatest name marked.
 fn names() -> String {

@@ -26,16 +26,18 @@ fn row(marks: [bool; 2]) -> Route {
     route(3, &steps)
 }
 
-/// Both done, on routes with and without marks.
-fn jobs() -> Vec<Sheet> {
-    let marks = [[false, false], [true, false], [false, true], [true, true]];
-    let mut jobs = Vec::new();
-    for old in marks {
-        for new in marks {
-            jobs.push(job(&row(old), &row(new), &[10, 20]));
-        }
-    }
-    jobs
+/// Jobs with a mark on one of the steps, and on all.
+fn jobs() -> [Sheet; 5] {
+    let (none, all) = ([false; 2], [true; 2]);
+    let (first, second) = ([true, false], [false, true]);
+    let marks = [
+        [first, none],
+        [second, none],
+        [none, first],
+        [none, second],
+        [all, all],
+    ];
+    marks.map(|[old, new]| job(&row(old), &row(new), &[10]))
 }
 
 /// Each job written, with room and with a byte too few, and read again.
@@ -58,9 +60,10 @@ fn written() -> String {
 
 /// A mark in each place of a line, and forms that nearly are one, by both versions.
 fn places() -> String {
-    let plain = sheet::text(&job(&row([false; 2]), &row([false; 2]), &[10]));
+    let one = route(2, &[step(10, [&[0], &[1]], [&[], &[]])]);
+    let plain = sheet::text(&job(&one, &one, &[10]));
     let ends = [
-        ("(old 3)", "(old 3 (cloth))"),
+        ("(old 2)", "(old 2 (cloth))"),
         ("(step 10", "(step 10 (cloth)"),
         ("(in 0)", "(in 0) (cloth)"),
         ("(out 1)", "(out 1) (cloth)"),
