@@ -1,16 +1,14 @@
 // Which of the steps done are kept: one sweep from the last to the first.
 use route::Step;
 ghost use mathlib.Core.Path.{_≡_};
-ghost use mathlib.Core.Bool.{_||_};
 ghost use Prim.Native.Nat.{_≤_};
 ghost use lib.ListN.{length};
-ghost use Rattle.mask.specs.Mask.{meets};
 ghost use Rattle.flat.specs.Flat.{stepsIn};
-ghost use Rattle.slice.specs.Slice.{keptMask};
+ghost use Rattle.slice.specs.Slice.{Sweep, keeps, keptMask};
 
-// An occurrence of `s` is kept where `live` is wanted after it.
+// The sweep keeps an occurrence of `s` where `live` is live after it.
 fn stays(s: Step, live: u32) -> bool
-    ensures { λ r. ⌜ r ≡ (s .cloth || meets (s .writes) live) ⌝ }
+    ensures { λ r. ⌜ ((w : Sweep) → w .live ≡ live → r ≡ keeps s w) ⌝ }
 {
     if s.cloth {
         return true;

@@ -1,13 +1,13 @@
 -- `slice::sweeping::keep`: the loop is the sweep, from the position it has come down to.
-use mathlib.Core.Path.{_≡_, sym, ap, ap₂, _∙_}
-use mathlib.Core.Bool.{Bool, true, false, cond, _||_}
+use mathlib.Core.Path.{_≡_, refl, sym, ap, ap₂, _∙_}
+use mathlib.Core.Bool.{Bool, true, false, cond}
 use mathlib.Core.List.{List}
 use Prim.Native.Nat.{ℕ, suc, _-_, _≤_, _<_}
 use native.Mathlib.Omega.{arith}
 use borrow.Author.Needs.{needs}
 use lib.Bits.{bitOr}
 use lib.ListN.{length, getD}
-use Rattle.mask.specs.Mask.{bit, without, meets}
+use Rattle.mask.specs.Mask.{bit, without}
 use Rattle.route.specs.Steps.{blank}
 use Rattle.flat.specs.Flat.{stepsIn}
 use Rattle.route.specs.declared.Step.{Step}
@@ -32,13 +32,13 @@ module _ (l : List Step) (vars i live kept : ℕ) where
       (s : Step)
       (is : s ≡ getD l (i - 1) blank)
       (t : Bool)
-      (test : t ≡ (s .cloth || meets (s .writes) live)) where
+      (test : (w : Sweep) → w .live ≡ live → t ≡ keeps s w) where
     one-back : sweepFrom l vars (i - 1) ≡ before s t
-    unfolding sweepStep keeps
+    unfolding sweepStep
     one-back =
         sweep-on l vars (i - 1)
         ∙ ap₂ (λ (x : Step) (w : Sweep). sweepStep (i - 1) x w) (sym is) (ap (sweepFrom l vars) next ∙ inv)
-        ∙ ap (before s) (sym test)
+        ∙ ap (before s) (sym (test (record { live = live; kept = kept }) refl))
       where
         next : suc (i - 1) ≡ i
         next = omega arith
