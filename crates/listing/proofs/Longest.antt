@@ -7,11 +7,12 @@ use mathlib.Core.List.{List, [], _∷_, _++_, map}
 use mathlib.Core.Option.{Option, none, some, Option·getD}
 use Prim.Native.Nat.{ℕ, zero, suc, _+_, _-_, _*_, _≤_, _<_}
 use native.Mathlib.Omega.{arith}
-use lib.Dec.{eqb, ltb, leb}
+use native.Mathlib.Decide.{decLt}
+use lib.Dec.{eqb, leb}
 use lib.Bits.{bitAnd}
 use lib.ListN.{length, getD, take, replicate, length-append, length-map, length-replicate}
 use lib.Seq.{take-append-le, take-all, take-take, length-take-le}
-use borrow.Author.Tests.{eqb-true, ltb-true}
+use borrow.Author.Tests.{eqb-true}
 use Rattle.mask.specs.Mask.{has, below, membersFrom, members, count}
 use Rattle.mask.proofs.Truth.{split, both}
 use Rattle.mask.proofs.Laws.{has-and, has-zero, has-ext}
@@ -28,7 +29,7 @@ use Rattle.precedence.specs.Precedence.{row, comesAfter}
 use Rattle.precedence.specs.Order.{inTurn}
 use Rattle.running.proofs.Performed.{length-performed}
 use Rattle.precedence.proofs.InTurn.{getD-map-inTurn}
-use Rattle.precedence.proofs.Rows.{row-exact}
+use Rattle.precedence.proofs.Rows.{row-exact, not-after}
 use Rattle.matching.specs.Straight.{fireAll, stepsOn, runsStraight}
 use Rattle.matching.specs.Fit.{keptOf}
 use Rattle.matching.specs.KeptRows.{keptRows}
@@ -107,13 +108,17 @@ row-most (suc i) m h =
 
 module _ (l : List Step) (kept : ℕ) where
   after-inside : (i x : ℕ) → has (afterOf l kept i) x ≡ true → x < i
-  unfolding afterOf comesAfter
+  unfolding afterOf
   after-inside i x e =
       split (λ (t : Bool). has (cond t (bitAnd (row l i) kept) 0) x ≡ true → x < i) (has kept i)
-      (λ p q. ltb-true x i (both (ltb x i) _ (sym (row-exact l i x)
-      ∙ both (has (row l i) x) (has kept x) (sym (has-and (row l i) kept x) ∙ q) .0) .0))
+      (λ p q. earlier (decLt x i) (sym (row-exact l i x)
+      ∙ both (has (row l i) x) (has kept x) (sym (has-and (row l i) kept x) ∙ q) .0))
       (λ p q. absurd (false≢true (sym (has-zero x) ∙ q)))
       e
+    where
+      earlier : Dec (x < i) → comesAfter l i x ≡ true → x < i
+      earlier (yes h) c = h
+      earlier (no h) c = absurd (false≢true (sym (not-after l i x (omega arith)) ∙ c))
 
   abbrev rows : List ℕ
   rows = map (afterOf l kept) (inTurn 0 64)
