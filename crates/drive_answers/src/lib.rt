@@ -46,8 +46,9 @@ pub fn judged(o: &mut [u8; 65536], n: usize, r: Judged, work: &[u8]) -> usize {
 
 fn record(o: &mut [u8; 65536], n: usize, s: Step) -> usize {
     let reads = s.reads as u64;
-    let mark = if s.cloth { 1 } else { 0 };
-    let l = [s.name as u64, s.ins, s.outs, reads, s.writes as u64, mark];
+    let writes = s.writes as u64;
+    let mark = drive_out::mark(s.cloth);
+    let l = [s.name as u64, s.ins, s.outs, reads, writes, mark];
     drive_out::numbers(o, n, &l)
 }
 

@@ -63,6 +63,11 @@ pub fn wide32(x: u32) -> u64 {
     x as u64
 }
 
+// 1 for a mark.
+pub fn mark(cloth: bool) -> u64 {
+    if cloth { 1 } else { 0 }
+}
+
 pub fn bytes(o: &mut [u8; 65536], n: usize, l: &[u8]) -> usize {
     let mut m = n;
     let mut i = 0;

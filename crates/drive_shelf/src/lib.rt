@@ -44,12 +44,13 @@ fn record(o: &mut [u8; 65536], r: Run, s: Step) -> Run {
     let ins = runs::add(o, name, s.ins);
     let outs = runs::add(o, ins, s.outs);
     let reads = runs::add(o, outs, s.reads as u64);
-    runs::add(o, reads, s.writes as u64)
+    let writes = runs::add(o, reads, s.writes as u64);
+    runs::add(o, writes, drive_out::mark(s.cloth))
 }
 
 // The numbers of a route's 64 records, in runs.
 fn records(o: &mut [u8; 65536], n: usize, r: Route) -> usize {
-    let mut run = runs::begin(o, n, 320);
+    let mut run = runs::begin(o, n, 384);
     let mut i = 0;
     while i < 64 {
         let s = r.steps[i];
