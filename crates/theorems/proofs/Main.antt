@@ -68,7 +68,8 @@ use Rattle.ops.specs.Print.{sheetAnswer, listingOf, printed, outPrinted}
 use Rattle.ops.specs.SheetTry.{triedSheet}
 use Rattle.examples.specs.Table.{AllPrint, table}
 use Rattle.examples.specs.LongNames.{longNames}
-use Rattle.examples.proofs.Examples.{examples, long-names}
+use Rattle.examples.specs.Cuts.{cuts}
+use Rattle.examples.proofs.Examples.{examples, long-names, cuts-print}
 use Rattle.theorems.specs.Values.{Work, allBlank, performAll, cutAll}
 use Rattle.theorems.specs.Demand3.{Runs, stepsDone, positions, Accepted, FitFor, ordered, moved, wholeJob}
 use Rattle.theorems.specs.Demand3.{Demand3}
@@ -326,6 +327,10 @@ kept-carry-the-values T = kept-values
 pub kept-carry-the-cloth : (l : List Step) (vars : ℕ) (o : List ℕ) → EachOnce (keptMask l vars) o → inOrder l o ≡ true
     → cutAll (λ i. getD l i blank) o ≡ cutAll (λ i. getD l i blank) (inTurn 0 (length l))
 kept-carry-the-cloth = kept-cuts
+
+-- cut panels, two cuts, marks that differ and marks at a wrong place: such sheets from bytes to bytes
+pub every-cut : AllPrint cuts
+every-cut = cuts-print
 
 -- ---- "Accepted: try answers it with 0, 0."
 
