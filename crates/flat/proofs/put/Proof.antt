@@ -1,10 +1,7 @@
 -- `flat::put`: four numbers stored are one step stored.
-use mathlib.Core.Path.{ap, _∙_}
 use native.Mathlib.Omega.{arith}
-use Rattle.flat.specs.Flat.{stepsIn}
-use Rattle.route.specs.declared.Step.{Step}
 use Prim.Native.Nat.{_+_, _*_, _<_}
-use lib.ListN.{length, set}
+use lib.ListN.{length}
 use borrow.Author.Needs.{needs}
 use Rattle.flat.proofs.FlatSteps.{flat-room, flat-put-step}
 use Rattle.flat.proofs.put.Statement.{statement}
