@@ -400,6 +400,25 @@ form-short v m has c h = record {
 
 module _ (v : Version) (limits : Limits v) (c : Line) (t : Lines) (line : ShortLine v (rest c))
     (lines : ShortLines v t) where
+  -- a step that is put away, marked or not
+  put-short : (m : Bool) → (m ≡ true → v .cloth ≡ true) → (p : Part) → ShortLines v (putStep p (formOf m c) t)
+  unfolding putStep
+  put-short m has OldRoute = record {
+    oldPlaces = lines .oldPlaces;
+    old = (form-short v m has c line, lines .old);
+    newPlaces = lines .newPlaces;
+    new = lines .new;
+    done = lines .done;
+  }
+  put-short m has NewRoute = record {
+    oldPlaces = lines .oldPlaces;
+    old = lines .old;
+    newPlaces = lines .newPlaces;
+    new = (form-short v m has c line, lines .new);
+    done = lines .done;
+  }
+  put-short m has JobPart = lines
+
   line-on : (w : Word) (p : Part) → closes v w p ≡ true
       → ((s : List ℕ) → above p (putLine w p c t) s ≡ lineEnd w p (rest c) t (10 ∷ s)) × ShortLines v (putLine w p c t)
   unfolding closes goes routed above putLine putStep lineEnd upto gap gapIn gapOut gapRead gapWrite gapCloth listOf
@@ -459,49 +478,25 @@ module _ (v : Version) (limits : Limits v) (c : Line) (t : Lines) (line : ShortL
   line-on Write OldRoute g = (
     λ s. ap (λ (y : List ℕ). wordLine Old (t .oldPlaces) (stepsBack (t .old) y))
         (step-back false c s),
-    record {
-      oldPlaces = lines .oldPlaces;
-      old = (form-short v false (λ e. absurd (false≢true e)) c line, lines .old);
-      newPlaces = lines .newPlaces;
-      new = lines .new;
-      done = lines .done;
-    },
+    put-short false (λ e. absurd (false≢true e)) OldRoute,
   )
   line-on Write NewRoute g = (
     λ s. ap (λ (y : List ℕ).
         wordLine Old (t .oldPlaces) (stepsBack (t .old) (wordLine New (t .newPlaces) (stepsBack (t .new) y))))
         (step-back false c s),
-    record {
-      oldPlaces = lines .oldPlaces;
-      old = lines .old;
-      newPlaces = lines .newPlaces;
-      new = (form-short v false (λ e. absurd (false≢true e)) c line, lines .new);
-      done = lines .done;
-    },
+    put-short false (λ e. absurd (false≢true e)) NewRoute,
   )
   line-on Write JobPart g = absurd (false≢true g)
   line-on Cloth OldRoute g = (
     λ s. ap (λ (y : List ℕ). wordLine Old (t .oldPlaces) (stepsBack (t .old) y))
         (step-back true c s),
-    record {
-      oldPlaces = lines .oldPlaces;
-      old = (form-short v true (λ e. g) c line, lines .old);
-      newPlaces = lines .newPlaces;
-      new = lines .new;
-      done = lines .done;
-    },
+    put-short true (λ e. g) OldRoute,
   )
   line-on Cloth NewRoute g = (
     λ s. ap (λ (y : List ℕ).
         wordLine Old (t .oldPlaces) (stepsBack (t .old) (wordLine New (t .newPlaces) (stepsBack (t .new) y))))
         (step-back true c s),
-    record {
-      oldPlaces = lines .oldPlaces;
-      old = lines .old;
-      newPlaces = lines .newPlaces;
-      new = (form-short v true (λ e. g) c line, lines .new);
-      done = lines .done;
-    },
+    put-short true (λ e. g) NewRoute,
   )
   line-on Cloth JobPart g = absurd (false≢true g)
 
