@@ -67,8 +67,9 @@ unfolding inTurn clash tied comesAfter row performed variables keeps sweepStep s
 the-slice = tt
 
 unfoldable the-judge : Unit {0}
-unfolding isSome sameMark sameData sameStep allOf fireAll stepsOn runsStraight keptRow keptLines keptRows orElse onwards tryEach
-    search before placeNext padded lastWriter afterOf writerOf answer firstOf firstFit judgeFound judgeRows judged
+unfolding isSome sameMark sameData sameStep allOf fireAll stepsOn runsStraight keptRow keptLines keptRows orElse onwards
+    tryEach search before placeNext padded lastWriter afterOf writerOf answer firstOf firstFit judgeFound judgeRows
+    judged
 the-judge = tt
 
 unfoldable the-listing : Unit {0}

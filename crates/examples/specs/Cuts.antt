@@ -84,8 +84,8 @@ cuts =
     panel
     ∷ unmarked
     -- "of two cloth occurrences the later comes after the earlier": in the other order no list is fit
-    ∷ twoCuts ("(step 20 (in 0) (out 1) (read) (write) (cloth))" ∷ "(step 10 (in 1) (out 2) (read) (write) (cloth))" ∷ [])
-    "(refused 13 7)"
+    ∷ twoCuts ("(step 20 (in 0) (out 1) (read) (write) (cloth))"
+    ∷ "(step 10 (in 1) (out 2) (read) (write) (cloth))" ∷ []) "(refused 13 7)"
     -- "Refusal 12, and fit lists, straight or of kept occurrences, compare this mark too"
     ∷ newCut 3 "(step 20 (in 2) (out 3) (read 0) (write))" "(refused 12 11)"
     ∷ record {

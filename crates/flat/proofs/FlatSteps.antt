@@ -136,7 +136,7 @@ first-mark : (n : ℕ) (t : Bool) → n < 4294967296 → leb 4294967296 (firstNu
 first-mark n true h = le-leb 4294967296 (n + 4294967296) (omega arith)
 first-mark n false h = lt-leb 4294967296 n (omega arith)
 
--- a step whose numbers have their width comes back as it was; its first number may be any that tells name and mark
+-- a step whose numbers have their width comes back as it was
 step-again : (s : Step) (x : ℕ) → x ≡ firstNumber (s .name) (s .cloth) → s .name < 4294967296
     → s .reads < 4294967296 → s .writes < 4294967296
     → stepFrom x (s .ins) (s .outs) (s .reads + s .writes * 4294967296) ≡ s

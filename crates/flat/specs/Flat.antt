@@ -1,6 +1,6 @@
 -- A list of steps as a list of numbers, four for each step: its name, in the lower 32 bits, with the cloth mark above
--- them; its in-places; its out-places; and its variables, those it reads in the lower 32 bits and those it writes in the
--- upper 32.
+-- them; its in-places; its out-places; and its variables, those it reads in the lower 32 bits and those it writes in
+-- the upper 32.
 use mathlib.Core.Path.{_≡_}
 use mathlib.Core.Bool.{Bool, cond}
 use mathlib.Core.List.{List, [], _∷_}

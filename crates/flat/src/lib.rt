@@ -41,7 +41,7 @@ pub fn name_at(steps: &[u64], i: usize) -> u32
 }
 
 // A step's first number: its name, and the mark above it.
-fn marked(name: u32, cloth: bool) -> u64
+fn first_number(name: u32, cloth: bool) -> u64
     ensures { λ r. ⌜ r ≡ firstNumber name cloth ⌝ }
 {
     if cloth {
@@ -56,7 +56,7 @@ pub fn put(steps: &mut [u64], i: usize, s: Step)
     ensures { λ _. ⌜ length (now (steps .exit)) ≡ length (now (steps .entry)) ⌝ }
 {
     let at = 4 * i;
-    steps[at] = marked(s.name, s.cloth);
+    steps[at] = first_number(s.name, s.cloth);
     steps[at + 1] = s.ins;
     steps[at + 2] = s.outs;
     steps[at + 3] = s.reads as u64 + s.writes as u64 * 4294967296;

@@ -85,7 +85,8 @@ module _ (v : Version) (limits : Limits v) where
     -- from the step's name to the line's end
     step-run : (s : List ℕ) → run v (Digit Step p) noLine t
         (number (f .name) (listed In (f .ins) (listed Out (f .outs)
-        (listed Read (f .reads) (listed Write (f .writes) (marked (f .cloth) (41 ∷ 10 ∷ s))))))) ≡ run v (Open p) noLine (putStep p f t) s
+        (listed Read (f .reads) (listed Write (f .writes) (marked (f .cloth) (41 ∷ 10 ∷ s)))))))
+        ≡ run v (Open p) noLine (putStep p f t) s
     unfolding listed run next pastWord ended more closed spelt spelling alive digit expect took stored keep putLine
     step-run s =
         number-run v limits Step p noLine t (f .name) 32 _ (short .name) refl

@@ -32,7 +32,8 @@ use Rattle.layout.specs.declared.Point.the-variants.{Closed, Lf, Stuck}
 use Rattle.layout.proofs.Numbers.{digits-enough}
 use Rattle.layout.proofs.Reversed.{entriesBack, stepsBack, donesBack, entries-back, shorts-back}
 use Rattle.layout.proofs.Prefix.{rest, above, gapIn, gapOut, gapRead, gapWrite, gapCloth, gap, listOf, upto}
-use Rattle.layout.proofs.Prefix.{lineEnd, sofar, routed, goes, closes, From, After, Wide, Shape, ShortLine, Onward}
+use Rattle.layout.proofs.Prefix.{lineEnd, sofar, routed, goes, closes, From, After, Wide, Shape, ShortLine}
+use Rattle.layout.proofs.Prefix.{Onward}
 use Rattle.mask.proofs.Truth.{both}
 
 -- ---- tests that hold

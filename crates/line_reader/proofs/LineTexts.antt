@@ -6,7 +6,7 @@ use mathlib.Core.List.{List, [], _∷_}
 use Prim.Native.Nat.{ℕ, zero, suc, _+_, _-_, _≤_, _<_}
 use native.Mathlib.Omega.{arith}
 use lib.Dec.{eqb}
-use lib.ListN.{length, getD}
+use lib.ListN.{length, getD, List·getD-eq-default}
 use borrow.Author.Tests.{ne-eqb}
 use Rattle.version.specs.declared.Version.{Version}
 use Rattle.layout.specs.Words.{spelling}
@@ -37,17 +37,15 @@ neither b c d p q far further = ap (λ (x : Bool). cond x p (cond (eqb b d) q St
     ∙ other b d q further
 
 -- no letter and no space past the end
-past : (l : List ℕ) (k : ℕ) → length l ≤ k → getD l k 0 ≡ 0
-past [] k r = refl
-past (x ∷ l) zero r = absurd (omega (arith, r))
-past (x ∷ l) (suc k) r = past l k (omega (arith, r))
-
 pub no-letter : (s : List ℕ) (i : ℕ) → length s - i < 2 → false ≡ eqb (getD s (i + 1) 0) 115
-no-letter s i h = sym (ne-eqb (getD s (i + 1) 0) 115 (λ e. omega (arith, e, past s (i + 1) (omega (arith, h)))))
+no-letter s i h =
+    let past : getD s (i + 1) 0 ≡ 0 = List·getD-eq-default s 0 (omega (arith, h)) in
+    sym (ne-eqb (getD s (i + 1) 0) 115 (λ e. omega (arith, e, past)))
 
 pub no-space : (s : List ℕ) (i : ℕ) (may : Bool) → length s ≤ i → false ≡ (eqb (getD s i 0) 32 && may)
 no-space s i may h =
-    ap (λ (x : Bool). x && may) (sym (ne-eqb (getD s i 0) 32 (λ e. omega (arith, e, past s i h))))
+    let past : getD s i 0 ≡ 0 = List·getD-eq-default s 0 h in
+    ap (λ (x : Bool). x && may) (sym (ne-eqb (getD s i 0) 32 (λ e. omega (arith, e, past))))
 
 -- one byte of a text: the layout has it there, no other, and doesn't end there; and what follows
 byte : {A B C D : Type 0} → A → B → C → D → A × (B × (C × D))

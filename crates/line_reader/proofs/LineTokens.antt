@@ -42,7 +42,8 @@ numbered-on v s from w a n e first number end =
 module _ (v : Version) (s : List ℕ) (from : ℕ) (ok : Bool) (x : Bool) (marks : x ≡ (eqb (getD s from 0) 32 && v .cloth))
   where
     pub marked-on : (m e : Cursor) → x ≡ true
-        → TextOn s from ok (32 ∷ 40 ∷ 99 ∷ 108 ∷ 111 ∷ 116 ∷ 104 ∷ 41 ∷ []) m → TextOn s (m .at) (m .ok) (41 ∷ 10 ∷ []) e
+        → TextOn s from ok (32 ∷ 40 ∷ 99 ∷ 108 ∷ 111 ∷ 116 ∷ 104 ∷ 41 ∷ []) m
+        → TextOn s (m .at) (m .ok) (41 ∷ 10 ∷ []) e
         → EndingOn v s from ok (record { at = e .at; ok = e .ok; cloth = true })
     unfolding putLine
     marked-on m e is mark end =

@@ -1,5 +1,5 @@
--- Rows 10 to 12: they pass exactly where the limit holds and the new route has each of the kept with the same reads and
--- writes, and the first of the kept of which that doesn't hold is the one refused.
+-- Rows 10 to 12: they pass exactly where the limit holds and the new route has each of the kept with the same reads,
+-- writes and mark, and the first of the kept of which that doesn't hold is the one refused.
 use mathlib.Core.Path.{_≡_, refl, sym, ap, _∙_}
 use mathlib.Core.Bool.{Bool, true, false, cond, _||_}
 use mathlib.Core.List.{List, [], _∷_}

@@ -17,6 +17,7 @@ use Rattle.search.specs.Search.{isSome}
 unfoldable pub sameMark : Bool → Bool → Bool
 sameMark a b = cond a b (not b)
 
+-- the same data, which are what is read and what is written, and the same mark
 unfoldable pub sameData : Step → Option Step → Bool
 sameData s none = false
 sameData s (some t) = eqb (t .reads) (s .reads) && (eqb (t .writes) (s .writes) && sameMark (t .cloth) (s .cloth))

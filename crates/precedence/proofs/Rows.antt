@@ -37,13 +37,16 @@ pub not-after : (l : List Step) (i j : ℕ) → i ≤ j → comesAfter l i j ≡
 unfolding comesAfter
 not-after l i j h = rw (le-ltb j i h)
 
-tied-comm : (s t : Step) → tied s t ≡ tied t s
-unfolding tied clash
-tied-comm s t = ap₂ (λ (x y : Bool). x || y)
-    (or-comm (meets (s .writes) (bitOr (t .reads) (t .writes))) (meets (t .writes) (bitOr (s .reads) (s .writes))))
-    (and-comm (s .cloth) (t .cloth))
+pub clash-comm : (s t : Step) → clash s t ≡ clash t s
+unfolding clash
+clash-comm s t = or-comm (meets (s .writes) (bitOr (t .reads) (t .writes)))
+    (meets (t .writes) (bitOr (s .reads) (s .writes)))
 
--- of two occurrences neither of which comes after the other, they don't clash and aren't both marked
+tied-comm : (s t : Step) → tied s t ≡ tied t s
+unfolding tied
+tied-comm s t = ap₂ (λ (x y : Bool). x || y) (clash-comm s t) (and-comm (s .cloth) (t .cloth))
+
+-- two occurrences neither of which comes after the other are one and the same, or neither clash nor are both marked
 pub apart : (l : List Step) (i j : ℕ) → comesAfter l i j ≡ false → comesAfter l j i ≡ false
     → (i ≡ j) ⊎ ((clash (getD l i blank) (getD l j blank) ≡ false)
     × ((getD l i blank .cloth && getD l j blank .cloth) ≡ false))

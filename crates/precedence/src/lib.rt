@@ -1,4 +1,4 @@
-// The precedence table, by variable: the earlier writers and the earlier readers of each.
+// The precedence table: by variable, the earlier writers and the earlier readers of each; and the earlier cuts.
 ghost use mathlib.Core.Path.{_≡_};
 ghost use mathlib.Core.Bool.{cond};
 ghost use Prim.Native.Nat.{ℕ, _≤_};
@@ -43,7 +43,7 @@ fn after_reads(writers: &[u64; 32], readers: &mut [u64; 32], vars: u32, own: u64
     wrote
 }
 
-// The mask, where the step is marked.
+// The mask where the step is marked, else the empty one.
 fn only(cloth: bool, m: u64) -> u64
     ensures { λ r. ⌜ r ≡ cond cloth m 0 ⌝ }
 {

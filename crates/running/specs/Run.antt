@@ -21,7 +21,7 @@ use Rattle.running.specs.declared.Begun.{Begun}
 abbrev pub stopped : ℕ → ℕ → Ran
 stopped n k = record { number = n; second = k; marking = record { tokens = 0 } }
 
--- the steps done: for each done name the route's step, whose reads and writes are the occurrence's
+-- the steps done: for each done name the route's step, whose reads, writes and mark are the occurrence's
 unfoldable pub performed : List Step → List ℕ → List Step
 performed steps done = map (λ (n : ℕ). Option·getD (lookup n steps) blank) done
 

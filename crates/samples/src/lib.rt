@@ -11,11 +11,6 @@ pub fn step(name: u32, ins: u64, outs: u64, reads: u32, writes: u32) -> Step {
     Step::of(name as u64, false, ins, outs, reads as u64, writes as u64)
 }
 
-// A step that cuts cloth.
-pub fn cut(name: u32, ins: u64, outs: u64, reads: u32, writes: u32) -> Step {
-    Step::of(name as u64, true, ins, outs, reads as u64, writes as u64)
-}
-
 pub fn one(places: u64, a: Step) -> Route {
     let mut r = Route::empty();
     r.places = places;

@@ -1,13 +1,14 @@
 // The loft's route as it was redrawn in one season. Each step leads from the place of the step before it to the next.
 use route::Route;
-use route::Step;
 
-// One step more. Variables are bits: 0 the cloth, 1 how far it shrinks, 2 the plotter offset, 3 the panels, 4 the
-// plies of the corners, 5 the seams, 6 the corners, 7 the weight.
-fn with(r: Route, s: Step) -> Route {
+// One step more, from the route's last place to the next. Variables are bits: 0 the cloth, 1 how far it shrinks, 2 the
+// plotter offset, 3 the panels, 4 the plies of the corners, 5 the seams, 6 the corners, 7 the weight.
+fn then(r: Route, name: u32, cloth: bool, reads: u32, writes: u32) -> Route {
     let mut longer = r;
     let n = r.len;
     if n < 63 {
+        let mut s = samples::step(name, mask::bit64(n), mask::bit64(n + 1), reads, writes);
+        s.cloth = cloth;
         longer.steps[n] = s;
         longer.len = n + 1;
         longer.places = n as u64 + 2;
@@ -15,60 +16,42 @@ fn with(r: Route, s: Step) -> Route {
     longer
 }
 
-// From the route's last place to the next.
-fn then(r: Route, name: u32, reads: u32, writes: u32) -> Route {
-    let n = counts::least(r.len, 62);
-    with(
-        r,
-        samples::step(name, mask::bit64(n), mask::bit64(n + 1), reads, writes),
-    )
-}
-
-// The same, and it cuts cloth.
-fn cut(r: Route, name: u32, reads: u32, writes: u32) -> Route {
-    let n = counts::least(r.len, 62);
-    with(
-        r,
-        samples::cut(name, mask::bit64(n), mask::bit64(n + 1), reads, writes),
-    )
-}
-
 fn choose_cloth(r: Route) -> Route {
-    then(r, 10, 0, 1)
+    then(r, 10, false, 0, 1)
 }
 
 fn test_shrinking(r: Route) -> Route {
-    then(r, 20, 1, 2)
+    then(r, 20, false, 1, 2)
 }
 
 fn weigh_cloth(r: Route) -> Route {
-    then(r, 30, 1, 128)
+    then(r, 30, false, 1, 128)
 }
 
 fn work_out_offset(r: Route) -> Route {
-    then(r, 40, 3, 4)
+    then(r, 40, false, 3, 4)
 }
 
 // From the weight too.
 fn work_out_offset_by_weight(r: Route) -> Route {
-    then(r, 40, 131, 4)
+    then(r, 40, false, 131, 4)
 }
 
 fn cut_panels(r: Route) -> Route {
-    cut(r, 50, 5, 8)
+    then(r, 50, true, 5, 8)
 }
 
 fn work_out_plies(r: Route) -> Route {
-    then(r, 55, 3, 16)
+    then(r, 55, false, 3, 16)
 }
 
 // It writes nothing.
 fn cut_patches(r: Route) -> Route {
-    cut(r, 60, 17, 0)
+    then(r, 60, true, 17, 0)
 }
 
 fn sew_and_set(r: Route) -> Route {
-    then(then(r, 70, 10, 32), 80, 56, 64)
+    then(then(r, 70, false, 10, 32), 80, false, 56, 64)
 }
 
 fn begin() -> Route {

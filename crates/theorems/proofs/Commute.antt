@@ -10,14 +10,10 @@ use Rattle.mask.proofs.Truth.{or-fails}
 use Rattle.mask.proofs.Laws.{has-or, meets-none}
 use Rattle.route.specs.declared.Step.{Step}
 use Rattle.precedence.specs.Precedence.{clash}
+use Rattle.precedence.proofs.Rows.{clash-comm}
 use Rattle.theorems.specs.Values.{Store, Work, perform, performAll, cutThen, cutAll}
 use Rattle.theorems.proofs.Perform.{stepAt, unwritten, perform-agree}
 use Rattle.theorems.proofs.Reorder.{Swappable}
-
-clash-comm : (s t : Step) → clash s t ≡ clash t s
-unfolding clash
-clash-comm s t = or-comm (meets (s .writes) (bitOr (t .reads) (t .writes)))
-    (meets (t .writes) (bitOr (s .reads) (s .writes)))
 
 -- s writes nothing that t reads or writes
 record Spares (s t : Step) : Type 0 where

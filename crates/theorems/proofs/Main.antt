@@ -1,5 +1,5 @@
 -- The whole promise on one page, in 01's order: the sheet, its bytes both ways, the longer names of 02, its look-up,
--- slice and precedence with its cloth, fit orders, what judge gives and its listing shows, the shelf of 02, and demand
+-- slice and precedence with 02's cloth, fit orders, what judge gives and its listing shows, the shelf of 02, and demand
 -- 3. Each is proved in the file that its name is cited from. Code meets it through the contracts, which are equalities
 -- with the definitions that these theorems speak of.
 use mathlib.Core.Path.{_≡_}

@@ -1,4 +1,5 @@
--- Replay of values, in 01's words. `T` is any type of values; a blank is none of them.
+-- Replay of values, in 01's words, with the cloth that is cut, in 02's. `T` is any type of values; a blank is none of
+-- them.
 use mathlib.Core.Bool.{Bool, true, false, cond}
 use mathlib.Core.List.{List, [], _∷_, map}
 use mathlib.Core.Option.{Option, none, some}

@@ -1,6 +1,6 @@
 -- The bound is met: in each version a sheet as long as its bound reads. Each route has 64 steps, each with a name of
--- all digits, four lists of eight entries of two digits, and the version's mark; 64 such names are done. Its length and its rows compute;
--- that it reads follows by laws. Assumes nothing.
+-- all digits, four lists of eight entries of two digits, and the version's mark; 64 such names are done. Its length and
+-- its rows compute; that it reads follows by laws. Assumes nothing.
 use mathlib.Core.Path.{_≡_, refl, ap}
 use mathlib.Core.Bool.{Bool}
 use mathlib.Core.List.{List, [], _∷_, map}
@@ -71,8 +71,8 @@ attained v limits n long passes = (
 -- the definitions that compute such a sheet's length and its rows
 unfoldable the-sheet : Unit {0}
 unfolding longLines longStep from text digits number entries listed marked stepLine wordLine jobLine stepLines
-    doneLines jobText spelling sheetRows routeFormRows formRows formRow formFits formLists listFits allBelow rising nameFits
-    placesFit among doneRow doneRows unless first
+    doneLines jobText spelling sheetRows routeFormRows formRows formRow formFits formLists listFits allBelow rising
+    nameFits placesFit among doneRow doneRows unless first
 the-sheet = tt
 
 pub scope-attained : Attained scope

@@ -98,48 +98,26 @@ fn bytes_that_belong_elsewhere() {
 #[test]
 fn other_places() {
     for (begin, wrong) in [
-        (
-            "(old 4)\n(step 10 (in 0) (out 1) (read) (",
-            "cloth) (write 0))",
-        ),
-        (
-            "(old 4)\n(step 10 (in 0) (out 1) (",
-            "cloth) (read) (write 0))",
-        ),
-        (
-            "(old 4)\n(step 10 (in 0) (",
-            "cloth) (out 1) (read) (write 0))",
-        ),
-        (
-            "(old 4)\n(step 10 (",
-            "cloth) (in 0) (out 1) (read) (write 0))",
-        ),
-        (
-            "(old 4)\n(step ",
-            "(cloth) 10 (in 0) (out 1) (read) (write 0))",
-        ),
-        (
-            "(old 4)\n(step 10 (in 0) (out 1) (read) (write ",
-            "(cloth)))",
-        ),
-        (
-            "(old 4)\n(step 10 (in 0) (out 1) (read) (write 0 ",
-            "(cloth)))",
-        ),
-        (
-            "(old 4)\n(step 10 (in 0 ",
-            "(cloth)) (out 1) (read) (write 0))",
-        ),
-        ("(old 4", " (cloth))"),
-        ("(old 4)", " (cloth)"),
-        ("(old 4)\n", " (cloth)\n"),
-        ("(old 4)\n(", "cloth)\n"),
-        ("(old 4)\n(new 4", " (cloth))"),
-        ("(old 4)\n(new 4)\n(job", " (cloth))"),
-        ("(old 4)\n(new 4)\n(job)\n(done 10", " (cloth))"),
-        ("(old 4)\n(new 4)\n(job)\n(", "cloth)\n"),
+        ("(step 10 (in 0) (out 1) (read) (", "cloth) (write 0))"),
+        ("(step 10 (in 0) (out 1) (", "cloth) (read) (write 0))"),
+        ("(step 10 (in 0) (", "cloth) (out 1) (read) (write 0))"),
+        ("(step 10 (", "cloth) (in 0) (out 1) (read) (write 0))"),
+        ("(step ", "(cloth) 10 (in 0) (out 1) (read) (write 0))"),
+        ("(step 10 (in 0) (out 1) (read) (write ", "(cloth)))"),
+        ("(step 10 (in 0) (out 1) (read) (write 0 ", "(cloth)))"),
+        ("(step 10 (in 0 ", "(cloth)) (out 1) (read) (write 0))"),
+        ("", " (cloth)\n"),
+        ("(", "cloth)\n"),
+        ("(new 4", " (cloth))"),
+        ("(new 4)\n(job", " (cloth))"),
+        ("(new 4)\n(job)\n(done 10", " (cloth))"),
+        ("(new 4)\n(job)\n(", "cloth)\n"),
     ] {
+        let begin = format!("(old 4)\n{begin}");
         refused(&format!("{begin}{wrong}\n"), 1, begin.len());
+    }
+    for begin in ["(old 4", "(old 4)"] {
+        refused(&format!("{begin} (cloth)\n"), 1, begin.len());
     }
 }
 

@@ -6,8 +6,7 @@ use crate::letters::{Letter, Moved};
 use reference::script::answer;
 
 /// 20 cuts and writes nothing; on the new route it stands after 30.
-fn panel() -> Letter {
-    let sheet = "\
+const SHEET: &str = "\
 (old 4)
 (step 10 (in 0) (out 1) (read) (write 0))
 (step 20 (in 1) (out 2) (read) (write) (cloth))
@@ -21,7 +20,8 @@ fn panel() -> Letter {
 (done 20)
 (done 30)
 ";
-    let listing = "\
+
+const LISTING: &str = "\
 (moved (kept 3) (dropped 0))
 (after 3 1)
 (order 1 3 2)
@@ -29,6 +29,8 @@ fn panel() -> Letter {
 (value 0 1)
 (value 1 3)
 ";
+
+fn panel() -> Letter {
     let old = [
         [10, 1, 2, 0, 1, 0],
         [20, 2, 4, 0, 0, 1],
@@ -40,7 +42,7 @@ fn panel() -> Letter {
         [20, 4, 8, 0, 0, 1],
     ];
     Letter {
-        files: [sheet, listing].map(String::from),
+        files: [SHEET, LISTING].map(String::from),
         facts: Facts {
             old: records(4, &old),
             new: records(4, &new),

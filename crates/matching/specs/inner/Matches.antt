@@ -27,7 +27,7 @@ pub record MatchesOf (new l : List Step) (matches : List ℕ) : Type 0 where
 unfoldable pub present : Step → Option Step
 present t = cond (eqb (t .name) 0) none (some t)
 
--- the occurrences that are in the new route with the same reads and writes
+-- the occurrences that are in the new route with the same reads, writes and mark
 unfoldable pub sameMask : List Step → List Step → ℕ
 sameMask new l = collect (λ (i : ℕ). sameStep new (getD l i blank)) (length l)
 
