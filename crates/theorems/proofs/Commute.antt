@@ -1,7 +1,7 @@
 -- Two occurrences that do not clash commute: neither writes what the other reads, so both read the same either way, and
 -- no variable is written by both. And where not both cut cloth, a swap leaves the sequence of cuts.
 use mathlib.Core.Path.{_≡_, refl, sym, ap, _∙_, fun-ext}
-use mathlib.Core.Bool.{Bool, true, false, cond, _&&_, or-true, or-comm}
+use mathlib.Core.Bool.{Bool, true, false, cond, _&&_, or-true}
 use mathlib.Core.List.{List, _∷_}
 use Prim.Native.Nat.{ℕ}
 use lib.Bits.{bitOr}
