@@ -1,5 +1,7 @@
 // Sets of small numbers as bit masks of 32 and 64 bits. What each function means is said in specs/Mask.antt,
 // and the laws in proofs/ hold for any width.
+#![tactic(auto)]
+
 ghost use Rattle.std.specs.Prelude.{◌≡◌, ◌<◌, ◌≤◌};
 ghost use Rattle.mask.specs.Mask.{has, bit, below, without, within, meets, count};
 
