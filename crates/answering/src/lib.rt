@@ -5,7 +5,7 @@ pub mod answers;
 
 // What the listing shows. Occurrence k is bit k - 1 of a mask and entry k - 1 of `after`; an order and a writer hold
 // occurrence numbers.
-#[derive(Drop)]
+#[derive(Clone, Copy)]
 pub struct Judged {
     pub number: u32,
     pub second: u64,
@@ -19,7 +19,7 @@ pub struct Judged {
 }
 
 // A list of occurrences: how many, their numbers, and the marking at its end.
-#[derive(Drop)]
+#[derive(Clone, Copy)]
 pub struct Placed {
     pub len: usize,
     pub order: [u8; 64],

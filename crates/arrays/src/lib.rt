@@ -20,7 +20,7 @@ use running::Ran;
 use slicing::Sliced;
 
 // What reading gives, and both arrays after it.
-#[derive(Drop)]
+#[derive(Clone, Copy)]
 pub struct Filled {
     pub counts: Counts,
     pub old: [Step; 100],

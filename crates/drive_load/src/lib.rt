@@ -6,7 +6,7 @@ use drive_script::{ends, numbers};
 use route::{Route, Step};
 
 // Both routes and the first `len` of the done names.
-#[derive(Drop)]
+#[derive(Clone, Copy)]
 pub struct Routes {
     pub old: Route,
     pub new: Route,
@@ -16,7 +16,7 @@ pub struct Routes {
 
 // Two lent lists, the first n records of `a` and the first m of `b`, their place counts, and the first `len` of the
 // done names.
-#[derive(Drop)]
+#[derive(Clone, Copy)]
 pub struct Lent {
     pub p: u64,
     pub a: [Step; 100],

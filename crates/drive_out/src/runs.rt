@@ -2,7 +2,7 @@
 use crate::{number, wide8, wide32};
 
 // The run in hand, and how many bytes are in use before it.
-#[derive(Drop)]
+#[derive(Clone, Copy)]
 pub struct Run {
     n: usize,
     count: u64,

@@ -37,7 +37,7 @@ fn record(nums: &[u64], at: usize) -> usize {
 }
 
 // What a list holds.
-#[derive(Drop)]
+#[derive(Clone, Copy)]
 enum Entry {
     Record,
     Name,

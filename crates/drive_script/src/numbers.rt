@@ -2,7 +2,7 @@
 ghost use Rattle.io.specs.Counts.{IsPrefixLen};
 
 // A number and where it ends, or a word that is none.
-#[derive(Drop)]
+#[derive(Clone, Copy)]
 struct Parsed {
     good: bool,
     value: u64,

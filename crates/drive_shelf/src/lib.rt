@@ -6,7 +6,7 @@ use route::{Route, Step};
 use shelf::{Edition, Shelf};
 
 // The shelf in hand afterwards, and how many bytes of the buffer are in use.
-#[derive(Drop)]
+#[derive(Clone, Copy)]
 pub struct Turn {
     pub n: usize,
     pub shelf: Shelf,

@@ -1,5 +1,7 @@
 // Emitters: each writes its text into a lent slice from `at` on and returns the place after it. The caller sees to it
 // that there is room for the text, so that no byte is tested for room.
+#![tactic(auto)]
+
 ghost use Rattle.std.specs.Prelude.{[], ◌∷◌, ◌+◌, ◌<◌, ◌≤◌, ◌/◌, ◌%◌};
 ghost use Rattle.mask.specs.Mask.{members};
 ghost use Rattle.emit.specs.Emit.{Room, Emits};

@@ -6,7 +6,7 @@ ghost use Rattle.facts.specs.Facts.{failed};
 use route::Route;
 
 // What reading gives: a refusal and its second number, or 0 and 0 and the facts.
-#[derive(Drop)]
+#[derive(Clone, Copy)]
 pub struct Sheet {
     pub number: u32,
     pub second: u64,

@@ -8,14 +8,14 @@ pub mod lists;
 pub mod routes;
 
 // A job whose lines pass, after row 9: what stands of it there, and how many of the new route's names were compared.
-#[derive(Drop)]
+#[derive(Clone, Copy)]
 pub struct Gathered {
     pub begun: Begun,
     pub matched: usize,
 }
 
 // How many names were compared: by the run on the old route, and by the match with the new one.
-#[derive(Drop)]
+#[derive(Clone, Copy)]
 pub struct Compared {
     pub number: u32,
     pub second: u64,

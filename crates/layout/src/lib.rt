@@ -2,7 +2,7 @@
 pub mod words;
 
 // 01's nine words and 02's tenth, cloth.
-#[derive(Drop)]
+#[derive(Clone, Copy)]
 pub enum Word {
     Old,
     New,
@@ -17,7 +17,7 @@ pub enum Word {
 }
 
 // Which part of the sheet a line belongs to; a head opens its part.
-#[derive(Drop)]
+#[derive(Clone, Copy)]
 pub enum Part {
     OldRoute,
     NewRoute,
@@ -25,7 +25,7 @@ pub enum Part {
 }
 
 // Where a reader stands between two bytes. The word is the last that was met, or is being read.
-#[derive(Drop)]
+#[derive(Clone, Copy)]
 pub enum Point {
     // before the first byte
     Start,

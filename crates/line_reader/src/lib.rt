@@ -5,7 +5,7 @@ pub mod reading;
 pub mod rows;
 
 // The end of a step's line: how far reading came, whether the layout holds to there, and whether the mark stood.
-#[derive(Drop)]
+#[derive(Clone, Copy)]
 pub struct Ending {
     pub at: usize,
     pub ok: bool,
@@ -14,7 +14,7 @@ pub struct Ending {
 
 // A step's line: how far reading came and whether the layout holds to there, the name, what is kept of its lists, and
 // whether it is marked.
-#[derive(Drop)]
+#[derive(Clone, Copy)]
 pub struct StepLine {
     pub at: usize,
     pub ok: bool,

@@ -6,14 +6,14 @@ ghost use Rattle.lookup.specs.Around.{looked};
 ghost use Rattle.flat.specs.Flat.{steps_in};
 
 // Where a name stands.
-#[derive(Drop)]
+#[derive(Clone, Copy)]
 pub enum Found {
     At(usize),
     Nothing,
 }
 
 // A look-up: where the name stands, how many names were compared, and where the next look-up begins.
-#[derive(Drop)]
+#[derive(Clone, Copy)]
 pub struct Looked {
     pub found: Found,
     pub compared: usize,

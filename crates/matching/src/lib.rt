@@ -6,7 +6,7 @@ pub mod same;
 pub mod straight;
 
 // Where firing a list in turn ends.
-#[derive(Drop)]
+#[derive(Clone, Copy)]
 pub enum End {
     At(Marking),
     Stuck,

@@ -8,14 +8,14 @@ use refusal::Outcome;
 use route::Marking;
 
 // The places that some step takes from, and those that some step puts to.
-#[derive(Drop)]
+#[derive(Clone, Copy)]
 pub struct Ends {
     pub ins: u64,
     pub outs: u64,
 }
 
 // What rows 6 and 7 say of a route, and its start.
-#[derive(Drop)]
+#[derive(Clone, Copy)]
 pub struct Opened {
     pub outcome: Outcome,
     pub marking: Marking,

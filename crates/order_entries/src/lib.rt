@@ -12,7 +12,7 @@ use refusal::Outcome;
 use route::Marking;
 
 // The marking at the end of the order, where it is accepted.
-#[derive(Drop)]
+#[derive(Clone, Copy)]
 pub struct Tried {
     pub number: u32,
     pub second: u64,

@@ -3,7 +3,7 @@ ghost use Rattle.std.specs.Prelude.{◌≡◌, length};
 ghost use Rattle.out_slice.specs.OutSlice.{unwritten, whole, wrote_text, out_with};
 
 // 0, 0 and the bytes written; or a refusal and its second number, and nothing written.
-#[derive(Drop)]
+#[derive(Clone, Copy)]
 pub struct Wrote {
     pub number: u32,
     pub second: u64,

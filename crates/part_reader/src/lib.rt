@@ -5,7 +5,7 @@ pub mod parts;
 
 // Where reading stands between two lines: the place and whether the layout holds to there, how many lines there were,
 // and their outcome.
-#[derive(Drop)]
+#[derive(Clone, Copy)]
 pub struct Pass {
     pub at: usize,
     pub ok: bool,
@@ -14,14 +14,14 @@ pub struct Pass {
 }
 
 // Past a route's head: where reading stands, and the place count.
-#[derive(Drop)]
+#[derive(Clone, Copy)]
 pub struct Head {
     pub pass: Pass,
     pub places: u64,
 }
 
 // Past the steps or the done names: where reading stands, and how many were put away.
-#[derive(Drop)]
+#[derive(Clone, Copy)]
 pub struct Filled {
     pub pass: Pass,
     pub len: usize,

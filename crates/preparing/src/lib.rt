@@ -19,7 +19,7 @@ use slice::variables::variables_of;
 
 // A job whose lines pass, after the rows to 12: their outcome, the line of `(job)` and, where no row to 9 refuses, the
 // new route's start, where the straight list ends, the kept occurrences, and the new route's variables.
-#[derive(Drop)]
+#[derive(Clone, Copy)]
 pub struct Prepared {
     pub outcome: Outcome,
     pub line: u64,

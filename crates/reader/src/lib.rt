@@ -8,7 +8,7 @@ pub mod reads;
 
 // What reading gives besides the lists: a refusal and its second number, or 0 and 0 and both place counts and all three
 // lengths.
-#[derive(Drop)]
+#[derive(Clone, Copy)]
 pub struct Counts {
     pub number: u32,
     pub second: u64,

@@ -1,9 +1,11 @@
 // A refusal and its second number, and the first row that refuses.
+#![tactic(auto)]
+
 ghost use Rattle.std.specs.Prelude.{◌≡◌, eqb};
 ghost use Rattle.refusal.specs.Rows.{pass, refuse};
 
 // 0 and 0 where nothing is refused.
-#[derive(Drop)]
+#[derive(Clone, Copy)]
 pub struct Outcome {
     pub number: u32,
     pub second: u64,

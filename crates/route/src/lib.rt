@@ -1,9 +1,11 @@
 // A route by value, its steps and its marking.
+#![tactic(auto)]
+
 pub mod firing;
 pub mod steps;
 
 // Places and variables are bit masks: place p at bit p. `cloth` is the mark of a step that cuts cloth.
-#[derive(Drop)]
+#[derive(Clone, Copy)]
 pub struct Step {
     pub name: u32,
     pub cloth: bool,
@@ -14,7 +16,7 @@ pub struct Step {
 }
 
 // The first `len` of the steps. A length over 64 is that of a list that was too long.
-#[derive(Drop)]
+#[derive(Clone, Copy)]
 pub struct Route {
     pub places: u64,
     pub len: usize,
@@ -22,12 +24,12 @@ pub struct Route {
 }
 
 // The places with a token.
-#[derive(Drop)]
+#[derive(Clone, Copy)]
 pub struct Marking {
     pub tokens: u64,
 }
 
-#[derive(Drop)]
+#[derive(Clone, Copy)]
 pub struct Fired {
     pub number: u32,
     pub second: u64,

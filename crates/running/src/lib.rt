@@ -8,7 +8,7 @@ use route::Marking;
 pub mod lists;
 pub mod routes;
 
-#[derive(Drop)]
+#[derive(Clone, Copy)]
 pub struct Ran {
     pub number: u32,
     pub second: u64,
@@ -17,7 +17,7 @@ pub struct Ran {
 
 // A job whose lines pass, after row 9: the outcome of rows 6 to 9, the old route's marking, the new route's start, and
 // how many of the old route's names were compared.
-#[derive(Drop)]
+#[derive(Clone, Copy)]
 pub struct Begun {
     pub outcome: Outcome,
     pub marking: Marking,

@@ -3,7 +3,7 @@ use crate::{one, step, three, two};
 use route::{Route, Step};
 
 // Both routes, and the first `len` of the names are done.
-#[derive(Drop)]
+#[derive(Clone, Copy)]
 pub struct Sample {
     pub old: Route,
     pub new: Route,

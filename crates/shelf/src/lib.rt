@@ -5,21 +5,21 @@ pub mod between;
 mod editions;
 pub mod storing;
 
-#[derive(Drop)]
+#[derive(Clone, Copy)]
 pub struct Edition {
     pub number: u32,
     pub route: Route,
 }
 
 // The first `len` of the editions are stored.
-#[derive(Drop)]
+#[derive(Clone, Copy)]
 pub struct Shelf {
     pub len: usize,
     pub editions: [Edition; 8],
 }
 
 // 0, 0 and the shelf with one edition more; or a refusal, its second number and the shelf as it came.
-#[derive(Drop)]
+#[derive(Clone, Copy)]
 pub struct Stored {
     pub number: u32,
     pub second: u64,
@@ -27,7 +27,7 @@ pub struct Stored {
 }
 
 // Where two editions stand, unless one is missing, the target isn't later, or the shelf is bad.
-#[derive(Drop)]
+#[derive(Clone, Copy)]
 enum Entries {
     At(usize, usize),
     Nothing,

@@ -12,7 +12,7 @@ use slice::sweeping::keep;
 use slice::variables::variables_of;
 
 // Occurrence k is bit k - 1 of a mask and row k - 1 of the table.
-#[derive(Drop)]
+#[derive(Clone, Copy)]
 pub struct Sliced {
     pub number: u32,
     pub second: u64,

@@ -5,13 +5,13 @@ pub mod numbers;
 pub mod texts;
 
 // A place in the bytes, and whether the layout holds to there; where it does not, the place is the byte that breaks it.
-#[derive(Drop)]
+#[derive(Clone, Copy)]
 pub struct Cursor {
     pub at: usize,
     pub ok: bool,
 }
 
-#[derive(Drop)]
+#[derive(Clone, Copy)]
 pub struct Numeral {
     pub at: usize,
     pub ok: bool,
@@ -20,7 +20,7 @@ pub struct Numeral {
 
 // What is kept of a list's entries: a mask, one above the highest, how many, and whether one was not above all before
 // it. The mask is that of the entries where all are below 64.
-#[derive(Drop)]
+#[derive(Clone, Copy)]
 pub struct Entries {
     pub mask: u64,
     pub top: u64,
@@ -28,7 +28,7 @@ pub struct Entries {
     pub falls: bool,
 }
 
-#[derive(Drop)]
+#[derive(Clone, Copy)]
 pub struct Listed {
     pub at: usize,
     pub ok: bool,

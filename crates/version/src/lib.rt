@@ -1,8 +1,10 @@
 // The limits that differ between versions of the sheet's layout. All who read a sheet take them as one record.
+#![tactic(auto)]
+
 ghost use Rattle.std.specs.Prelude.{◌≡◌};
 ghost use Rattle.version.specs.Limits.{name_fits};
 
-#[derive(Drop)]
+#[derive(Clone, Copy)]
 pub struct Version {
     // the most digits of a number
     pub digits: usize,

@@ -10,13 +10,13 @@ use Rattle.emit.proofs.pair.Reads as pair
 use Rattle.emit.proofs.digits.Reads as digits
 use Rattle.emit.proofs.digits.Kinds.{ps}
 use Rattle.emit.proofs.+digits.Lts-digits as lts
-use Rattle.emit.proofs.+digits.{statement}
-use Rattle.emit.proofs.+digits.Tie.{close}
+use Rattle.emit.proofs.+digits.Goals as goal
 
 abbrev μ : Measures 1 ps ℕ
 μ κs a = a.1.1.0
 
 -- what `digits` is given at the measure t, and what a call of it asks below t
+
 abbrev at : ℕ → In 1 ps
 at t = and 1 ps (is 1 ps μ t) digits.Pre
 
@@ -43,7 +43,3 @@ same-length-2 t c = search rules
 
 returns-2 : (t : ℕ) → lts.Need-returns-2 (calls t) (at t) digits.Post
 returns-2 t c = search (rules, more-emits)
-
-pub +digits-spec : {M : Type 1} → statement M
-+digits-spec = close μ (λ t. lts.spec (calls t) (at t) digits.Post (short-requires t) (same_length t) (returns t)
-    (digits-requires t) (pair-requires t) (same-length-2 t) (returns-2 t))
