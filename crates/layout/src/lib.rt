@@ -1,4 +1,6 @@
 // The layout of a sheet: the one table of the ten words. The parts and the points are what the definitions speak of.
+#![tactic(auto)]
+
 pub mod words;
 
 // 01's nine words and 02's tenth, cloth.

@@ -23,23 +23,11 @@ at t = and 1 ps (is 1 ps μ t) digits.Pre
 abbrev calls : ℕ → lts.Claims
 calls t = (short.Asked, short.Learnt, and 1 ps (falls 1 ps ◌<◌ μ t) digits.Pre, digits.Post, pair.Asked, pair.Learnt)
 
-short-requires : (t : ℕ) → lts.Need-short-requires (calls t) (at t) digits.Post
-short-requires t c κs = search rules
+pub digits-last-requires : goal.digits-last-requires
+digits-last-requires t c = (search rules, search (rules, more_room))
 
-same_length : (t : ℕ) → lts.Need-same-length (calls t) (at t) digits.Post
-same_length t c = search rules
+pub pair-requires : goal.pair-requires
+pair-requires t c = (search rules, search (rules, last-room))
 
-returns : (t : ℕ) → lts.Need-returns (calls t) (at t) digits.Post
-returns t c = search rules
-
-digits-requires : (t : ℕ) → lts.Need-digits-requires (calls t) (at t) digits.Post
-digits-requires t c κs = (search rules, search (rules, more_room))
-
-pair-requires : (t : ℕ) → lts.Need-pair-requires (calls t) (at t) digits.Post
-pair-requires t c κs = (search rules, search (rules, last-room))
-
-same-length-2 : (t : ℕ) → lts.Need-same-length-2 (calls t) (at t) digits.Post
-same-length-2 t c = search rules
-
-returns-2 : (t : ℕ) → lts.Need-returns-2 (calls t) (at t) digits.Post
-returns-2 t c = search (rules, more-emits)
+pub returns : goal.returns
+returns t c = search (rules, more-emits)

@@ -9,8 +9,8 @@ use Rattle.emit.proofs.entries.Given as goal
 
 abbrev pub invariant-loop-left : goal.invariant-loop-left
 invariant-loop-left l =
-    (l.left < 2 ^ 64) × ((length l.first ≡ length l.out₀)
-    × Left (over (numbered l.out) (members 64 l.left)) l.first l.end (over (numbered l.out) (members 64 l.m)) l.out₀ l.at)
+    (l.left < 2 ^ 64) × ((length l.out ≡ length l.initial.out)
+    × Left (over (numbered l.first) (members 64 l.left)) l.out l.end (over (numbered l.first) (members 64 l.m)) l.initial.out l.at)
 
 abbrev pub decreases-loop-left : goal.decreases-loop-left
 decreases-loop-left l = l.left

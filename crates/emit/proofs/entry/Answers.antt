@@ -13,7 +13,10 @@ pub returns-then-n-gt99 : goal.returns-then-n-gt99
 returns-then-n-gt99 c = search (rules, entry_whole)
 
 pub short-requires : goal.short-requires
-short-requires c = (search rules, search (rules, entry-second))
+short-requires c = record {
+  n_bound = search rules;
+  room = search (rules, entry-second);
+}
 
 pub returns : goal.returns
 returns c = search (rules, entry_whole)

@@ -10,7 +10,10 @@ pub returns-then-n-lt10 : goal.returns-then-n-lt10
 returns-then-n-lt10 c = search (rules, one-emits)
 
 pub pair-requires : goal.pair-requires
-pair-requires c = (search rules, search (rules, pair-room))
+pair-requires c = record {
+  n_bound = search rules;
+  room = search (rules, pair-room);
+}
 
 pub returns : goal.returns
 returns c = search (rules, pair-emits)

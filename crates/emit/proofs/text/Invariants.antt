@@ -9,7 +9,7 @@ use Rattle.emit.proofs.text.Given as goal
 
 abbrev pub invariant-loop-i : goal.invariant-loop-i
 invariant-loop-i l = (l.i ≤ length l.t)
-    × ((length l.t ≡ length l.out₀) × Left (over (λ (b : ℕ). b ∷ []) (drop l.i l.t)) l.t l.end l.t l.out₀ l.at)
+    × ((length l.out ≡ length l.initial.out) × Left (over (λ (b : ℕ). b ∷ []) (drop l.i l.t)) l.out l.end l.t l.initial.out l.at)
 
 abbrev pub decreases-loop-i : goal.decreases-loop-i
 decreases-loop-i l = length l.t - l.i
