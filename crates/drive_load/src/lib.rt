@@ -1,4 +1,6 @@
 // The arguments of an operation that is whole, as records and bytes.
+#![tactic(auto)]
+
 ghost use Rattle.std.specs.Prelude.{◌<◌, ◌≤◌};
 ghost use Rattle.counts.specs.Counts.{IsPrefixLen};
 
