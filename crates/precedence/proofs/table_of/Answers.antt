@@ -20,14 +20,14 @@ use Rattle.precedence.proofs.ByVariable.{by-none, meeting-or}
 use Rattle.precedence.proofs.Filled.{Filled, filled_none, filled_more, filled-all}
 use Rattle.precedence.proofs.Rows.{row-past}
 use Rattle.precedence.proofs.RowByVariable.{read_by, written_by, cut_by, cut-more, row_by}
-use Rattle.precedence.proofs.table_of.Statement.{statement}
-use Rattle.precedence.proofs.table_of.Tie as tie
+use Rattle.precedence.proofs.table_of.Goals as goal
 
 abbrev GathersBoth : List ℕ → List ℕ → ℕ → ℕ → Type 0
 GathersBoth by by' vars m = (f g : ℕ → ℕ) (n : ℕ) → ByVariable f n by → ByVariable g n by'
     → m ≡ bit_or (meeting f vars n) (meeting g vars n)
 
 -- an occurrence's row and entries
+
 module _ (l : List Step) (i : ℕ) (s : Step) (is : s ≡ get_or l i blank) where
   writers-more : (by by' : List ℕ) (own : ℕ) → own ≡ bit i → ByVariable (written_by l) i by
       → Joins by s.writes own by' → ByVariable (written_by l) (i + 1) by'
@@ -72,23 +72,14 @@ none-cut : (l : List Step) → 0 ≡ collect (cut_by l) 0
 unfolding collect
 none-cut l = refl
 
-abbrev invariant-loop : tie.invariant-loop
-invariant-loop occurrences rows₀ writers₀ readers₀ cut₀ n i₀ rows writers readers cut i =
-    (i ≤ n) × ((length rows ≡ 64) × (Filled (row (steps_in occurrences)) i rows
-    × (ByVariable (written_by (steps_in occurrences)) i writers × (ByVariable (read_by (steps_in occurrences)) i readers
-    × (cut ≡ collect (cut_by (steps_in occurrences)) i)))))
+pub loop-i-init : goal.loop-i-init
+loop-i-init c = (search rules, (refl, (filled_none _ 64, (by-none _, (by-none _, none-cut (steps_in _))))))
 
-abbrev decreases-loop : tie.decreases-loop
-decreases-loop occurrences rows₀ writers₀ readers₀ cut₀ n i₀ rows writers readers cut i = n - i
+pub overflow_sub-rows : goal.overflow_sub-rows
+overflow_sub-rows c = search (rules, own-some)
 
-loop-holds : tie.Need-loop-init invariant-loop decreases-loop
-loop-holds c = (search rules, (refl, (filled_none _ 64, (by-none _, (by-none _, none-cut (steps_in _))))))
-
-sub-rows : tie.Need-overflow-sub-rows invariant-loop decreases-loop
-sub-rows c = search (rules, own-some)
-
-loop-again : tie.Need-loop-preserved invariant-loop decreases-loop
-loop-again c = (
+pub loop-i-preserved : goal.loop-i-preserved
+loop-i-preserved c = (
   search rules,
   (
     search rules,
@@ -99,11 +90,5 @@ loop-again c = (
   ),
 )
 
-returns : tie.Need-returns invariant-loop decreases-loop
+pub returns : goal.returns
 returns c = search (rules, all-rows)
-
-pub table-of-spec : {M : Type 1} → statement M
-table-of-spec = tie.close (tie.spec invariant-loop decreases-loop (λ c κs. search rules) loop-holds (λ c κs. search rules)
-    (λ c κs. search rules) (λ c κs. search rules) (λ c κs. search rules) (λ c κs. search rules)
-    (λ c κs. search rules) sub-rows (λ c. search rules)
-    (λ c. search rules) (λ c. search rules) (λ c. search rules) loop-again returns)
