@@ -11,8 +11,7 @@ use Rattle.refusal.proofs.Rows.{row-passes, row-refuses}
 use Rattle.job.specs.Lines.{places_fit}
 use Rattle.line_reader.specs.inner.Rows.{head_row, new_row}
 use borrow.Author.Rules.{rules}
-use Rattle.line_reader.proofs.rows.new_row.Statement.{statement}
-use Rattle.line_reader.proofs.rows.new_row.Tie as tie
+use Rattle.line_reader.proofs.rows.new_row.Goals as goal
 
 module _ (line above n : ℕ) (o : Outcome) where
   four : above ≡ 0 → o ≡ refuse 4 line → o ≡ new_row line above n
@@ -28,11 +27,8 @@ module _ (line above n : ℕ) (o : Outcome) where
       alone true = unfold first unless in refl
       alone false = unfold first unless in refl
 
-returns : tie.Need-returns
+pub returns-then-above-eq0 : goal.returns-then-above-eq0
+returns-then-above-eq0 c = search (rules, four, then)
+
+pub returns : goal.returns
 returns c = search (rules, four, then)
-
-returns-2 : tie.Need-returns-2
-returns-2 c = search (rules, four, then)
-
-pub new-row-spec : {M : Type 1} → statement M
-new-row-spec = tie.close (tie.spec (λ c κs. search rules) returns (λ c κs. search rules) returns-2)

@@ -9,8 +9,7 @@ use Rattle.refusal.specs.declared.Outcome.{Outcome}
 use Rattle.line_reader.specs.inner.Rows.{job_row}
 use Rattle.refusal.proofs.Rows.{unless-no, unless-yes}
 use borrow.Author.Rules.{rules}
-use Rattle.line_reader.proofs.rows.job_row.Statement.{statement}
-use Rattle.line_reader.proofs.rows.job_row.Tie as tie
+use Rattle.line_reader.proofs.rows.job_row.Goals as goal
 
 module _ (line above : ℕ) (o : Outcome) where
   four : above ≡ 0 → o ≡ refuse 4 line → o ≡ job_row line above
@@ -21,11 +20,8 @@ module _ (line above : ℕ) (o : Outcome) where
   unfolding job_row
   fine h q = q ∙ sym (unless-yes (not (eqb above 0)) 4 line (ap not (ne_eqb above 0 h)))
 
-returns : tie.Need-returns
+pub returns-then-above-eq0 : goal.returns-then-above-eq0
+returns-then-above-eq0 c = search (rules, four, fine)
+
+pub returns : goal.returns
 returns c = search (rules, four, fine)
-
-returns-2 : tie.Need-returns-2
-returns-2 c = search (rules, four, fine)
-
-pub job-row-spec : {M : Type 1} → statement M
-job-row-spec = tie.close (tie.spec (λ c κs. search rules) returns (λ c κs. search rules) returns-2)

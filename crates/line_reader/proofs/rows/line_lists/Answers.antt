@@ -7,8 +7,7 @@ use Rattle.mask.proofs.Truth.{and_yes, and_no}
 use Rattle.line_reader.specs.inner.Lines.{entries_fit, line_lists}
 use Rattle.line_reader.specs.declared.StepLine.{StepLine}
 use borrow.Author.Rules.{rules}
-use Rattle.line_reader.proofs.rows.line_lists.Statement.{statement}
-use Rattle.line_reader.proofs.rows.line_lists.Tie as tie
+use Rattle.line_reader.proofs.rows.line_lists.Goals as goal
 
 module _ (p : StepLine) where
   no-ins : p.ins.count ≡ 0 → false ≡ line_lists p
@@ -50,24 +49,20 @@ module _ (p : StepLine) where
         last r w h q z v = and_yes refl some_in (and_yes refl some_out
             (and_yes in_List (not-false a fine) (and_yes out-list (not-false b h) (and_yes q z v))))
 
-returns : tie.Need-returns
-returns c = search (rules, no-ins)
+pub returns-then-l-eq0 : goal.returns-then-l-eq0
+returns-then-l-eq0 c = search (rules, no-ins)
 
-returns-2 : tie.Need-returns-2
-returns-2 c = search (rules, no-outs)
+pub returns-then-l-eq0-2 : goal.returns-then-l-eq0-2
+returns-then-l-eq0-2 c = search (rules, no-outs)
 
-returns-3 : tie.Need-returns-3
-returns-3 c = search (rules, bad-ins)
+pub returns-then-not-entries_fit : goal.returns-then-not-entries_fit
+returns-then-not-entries_fit c = search (rules, bad-ins)
 
-returns-4 : tie.Need-returns-4
-returns-4 c = search (rules, bad-outs)
+pub returns-then-not-entries_fit-2 : goal.returns-then-not-entries_fit-2
+returns-then-not-entries_fit-2 c = search (rules, bad-outs)
 
-returns-5 : tie.Need-returns-5
-returns-5 c = search (rules, last)
+pub returns-then-entries_fit : goal.returns-then-entries_fit
+returns-then-entries_fit c = search (rules, last)
 
-returns-6 : tie.Need-returns-6
-returns-6 c = search (rules, bad-reads)
-
-pub line-lists-spec : {M : Type 1} → statement M
-line-lists-spec = tie.close (tie.spec returns returns-2 (λ c κs. search rules) returns-3 (λ c κs. search rules)
-    returns-4 (λ c κs. search rules) (λ c κs. search rules) returns-5 returns-6)
+pub returns-else-entries_fit : goal.returns-else-entries_fit
+returns-else-entries_fit c = search (rules, bad-reads)

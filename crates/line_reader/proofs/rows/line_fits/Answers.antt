@@ -10,8 +10,7 @@ use Rattle.version.specs.declared.Version.{Version}
 use Rattle.line_reader.specs.inner.Lines.{line_fits}
 use Rattle.line_reader.specs.declared.StepLine.{StepLine}
 use borrow.Author.Rules.{rules}
-use Rattle.line_reader.proofs.rows.line_fits.Statement.{statement}
-use Rattle.line_reader.proofs.rows.line_fits.Tie as tie
+use Rattle.line_reader.proofs.rows.line_fits.Goals as goal
 
 module _ (v : Version) (places : ℕ) (p : StepLine) (n : Bool) (name : n ≡ name_fits v p.name) where
   no_name : not n ≡ true → false ≡ line_fits v places p
@@ -39,20 +38,17 @@ module _ (v : Version) (places : ℕ) (p : StepLine) (n : Bool) (name : n ≡ na
       last outs reads = and_yes name (not-false n named)
           (and_yes refl (le-leb _ _ ins) (and_yes refl (le-leb _ _ outs) (and_yes refl (le-leb _ _ reads) refl)))
 
-returns : tie.Need-returns
-returns c = search (rules, no_name)
+pub returns-then-not-name_fits : goal.returns-then-not-name_fits
+returns-then-not-name_fits c = search (rules, no_name)
 
-returns-2 : tie.Need-returns-2
-returns-2 c = search (rules, no-ins)
+pub returns-then-places-l : goal.returns-then-places-l
+returns-then-places-l c = search (rules, no-ins)
 
-returns-3 : tie.Need-returns-3
-returns-3 c = search (rules, no-outs)
+pub returns-then-places-l-2 : goal.returns-then-places-l-2
+returns-then-places-l-2 c = search (rules, no-outs)
 
-returns-4 : tie.Need-returns-4
-returns-4 c = search (rules, last)
+pub returns-then-l-le32 : goal.returns-then-l-le32
+returns-then-l-le32 c = search (rules, last)
 
-returns-5 : tie.Need-returns-5
-returns-5 c = search (rules, no_reads)
-
-pub line-fits-spec : {M : Type 1} → statement M
-line-fits-spec = tie.close (tie.spec (λ c κs. search rules) returns returns-2 returns-3 returns-4 returns-5)
+pub returns-else-l-le32 : goal.returns-else-l-le32
+returns-else-l-le32 c = search (rules, no_reads)

@@ -11,8 +11,7 @@ use Rattle.version.specs.Limits.{name_fits}
 use Rattle.version.specs.declared.Version.{Version}
 use Rattle.job.specs.Lines.{done_row}
 use borrow.Author.Rules.{rules}
-use Rattle.line_reader.proofs.rows.done_row.Statement.{statement}
-use Rattle.line_reader.proofs.rows.done_row.Tie as tie
+use Rattle.line_reader.proofs.rows.done_row.Goals as goal
 
 module _ (v : Version) (line above n : ℕ) (o : Outcome) where
   four : 64 ≤ above → o ≡ refuse 4 line → o ≡ done_row v line above n
@@ -30,15 +29,11 @@ module _ (v : Version) (line above n : ℕ) (o : Outcome) where
     fine h q = q ∙ sym (row-passes _ 4 line _ (lt-ltb above 64 room)
         ∙ row-passes (name_fits v n) 2 line [] (sym fits ∙ not-false f h) ∙ rows_end)
 
-returns : tie.Need-returns
+pub returns-then-above-ge-STEPS : goal.returns-then-above-ge-STEPS
+returns-then-above-ge-STEPS c = search (rules, four, two, fine)
+
+pub returns-then-not-name_fits : goal.returns-then-not-name_fits
+returns-then-not-name_fits c = search (rules, four, two, fine)
+
+pub returns : goal.returns
 returns c = search (rules, four, two, fine)
-
-returns-2 : tie.Need-returns-2
-returns-2 c = search (rules, four, two, fine)
-
-returns-3 : tie.Need-returns-3
-returns-3 c = search (rules, four, two, fine)
-
-pub done-row-spec : {M : Type 1} → statement M
-done-row-spec = tie.close (tie.spec (λ c κs. search rules) returns (λ c κs. search rules) (λ c κs. search rules)
-    returns-2 (λ c κs. search rules) returns-3)
