@@ -45,6 +45,10 @@ pub flat-at : (w : List ℕ) (i : ℕ) → i < length (steps_in w)
     → get_or (steps_in w) i blank ≡ step_from (get_or w (4 * i) 0) (get_or w (4 * i + 1) 0) (get_or w (4 * i + 2) 0)
     (get_or w (4 * i + 3) 0)
 unfolding steps_in
+flat-at [] i h = elim h [ ]
+flat-at (n ∷ []) i h = elim h [ ]
+flat-at (n ∷ (a ∷ [])) i h = elim h [ ]
+flat-at (n ∷ (a ∷ (b ∷ []))) i h = elim h [ ]
 flat-at (n ∷ a ∷ b ∷ c ∷ w) zero h = refl
 flat-at (n ∷ a ∷ b ∷ c ∷ w) (suc i) h =
     flat-at w i (omega arith)
@@ -75,6 +79,10 @@ put-past n a b c w x y n' a' b' c' e =
 flat-put : (w : List ℕ) (i n a b c : ℕ) → i < length (steps_in w)
     → steps_in (put4 w (4 * i) n a b c) ≡ set (steps_in w) i (step_from n a b c)
 unfolding steps_in
+flat-put [] i n a b c h = elim h [ ]
+flat-put (x ∷ []) i n a b c h = elim h [ ]
+flat-put (x ∷ (y ∷ [])) i n a b c h = elim h [ ]
+flat-put (x ∷ (y ∷ (z ∷ []))) i n a b c h = elim h [ ]
 flat-put (x ∷ y ∷ z ∷ u ∷ w) zero n a b c h = refl
 flat-put (x ∷ y ∷ z ∷ u ∷ w) (suc i) n a b c h =
     ap steps_in (put-past x y z u w (4 * suc i) (4 * i) n a b c (omega arith))

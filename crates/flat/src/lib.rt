@@ -1,5 +1,7 @@
 // Lent lists of steps: four numbers for each step, so that a list is lent as numbers and a step is copied out or put
 // in.
+#![tactic(auto)]
+
 ghost use Rattle.std.specs.Prelude.{◌≡◌, ◌<◌, length, get_or, set};
 ghost use Rattle.route.specs.Steps.{blank};
 ghost use Rattle.flat.specs.Flat.{first_number, steps_in};

@@ -1,8 +1,8 @@
 -- What is written is read: the text of lines leads from point to point, and gathers those lines.
 -- Assumes nothing.
 use mathlib.Core.Path.{◌≡◌, refl, ap, ◌∙◌}
-use mathlib.Core.Bool.{Bool, true, false}
-use mathlib.Core.List.{List, [], ◌∷◌, reverse_aux, reverse-reverse}
+use mathlib.Core.Bool.{Bool, true, false, cond}
+use mathlib.Core.List.{List, [], ◌∷◌, ◌++◌, reverse_aux, reverse-reverse}
 use Prim.Native.Nat.{ℕ}
 use Rattle.version.specs.Limits.{Limits}
 use Rattle.version.specs.declared.Version.{Version}
@@ -11,14 +11,14 @@ use Rattle.layout.specs.Text.{Form, Lines, number, entries, listed, marked, step
 use Rattle.layout.specs.Text.{step_lines, done_lines, job_text, text, Short, Shorts, ShortForm, ShortForms}
 use Rattle.layout.specs.Text.{ShortLines}
 use Rattle.layout.specs.Points.{digit, alive, expect, chosen, spelt, in_list, past_word, ended, more, closed, next}
-use Rattle.layout.specs.Parse.{Line, Parsed, no_line, no_lines, with_num, stored, took, form_of, put_step}
+use Rattle.layout.specs.Parse.{Line, Parsed, broken, no_line, no_lines, with_num, stored, took, form_of, put_step}
 use Rattle.layout.specs.inner.Entries.{with_entries}
 use Rattle.layout.specs.Parse.{put_line, keep, at_end, run, parse}
 use Rattle.layout.specs.declared.Word.{Word}
-use Rattle.layout.specs.declared.Word.TheVariants.{Old, New, Done, Step, In, Out, Read, Write}
+use Rattle.layout.specs.declared.Word.TheVariants.{Old, New, Done, Step, In, Out, Read, Write, Cloth}
 use Rattle.layout.specs.declared.Part.{Part}
 use Rattle.layout.specs.declared.Part.TheVariants.{OldRoute, NewRoute, JobPart}
-use Rattle.layout.specs.declared.Point.TheVariants.{Start, Open, Past, Digit, Digits, Closed}
+use Rattle.layout.specs.declared.Point.TheVariants.{Start, Open, Past, Digit, Digits, Gap, Closed, Stuck}
 use Rattle.layout.proofs.Numbers.{number-run}
 use Rattle.layout.proofs.LineLists.{form_of-line_with}
 
@@ -74,12 +74,20 @@ module _ (v : Version) (limits : Limits v) where
 
   -- ---- the lines
 
+  -- the space before the mark
+  mark-opens : (p : Part) → v.cloth ≡ true → (t : Lines) (c : Line) (s : List ℕ)
+      → run v (Closed Write p) c t (32 ∷ s) ≡ run v (Gap Cloth p) c t s
+  unfolding run next closed alive expect took keep
+  mark-opens p h t c s =
+      ap (λ (b : Bool). cond (alive (cond b (Gap Cloth p) Stuck)) (run v (cond b (Gap Cloth p) Stuck) c t s)
+      (broken (32 ∷ s))) h
+
   -- past the last list, to the line's end
   marked-run : (p : Part) (m : Bool) → (m ≡ true → v.cloth ≡ true) → (t : Lines) (c : Line) (s : List ℕ)
       → run v (Closed Write p) c t (marked m (41 ∷ 10 ∷ s)) ≡ run v (Open p) no_line (put_step p (form_of m c) t) s
   unfolding marked run next closed alive expect took keep put_line spelt spelling past_word
   marked-run p false h t c s = refl
-  marked-run p true h t c s = rw (h refl)
+  marked-run p true h t c s = mark-opens p (h refl) t c (40 ∷ (spelling Cloth ++ (41 ∷ 41 ∷ 10 ∷ s)))
 
   module _ (p : Part) (t : Lines) (f : Form) (short : ShortForm v f) where
     -- from the step's name to the line's end

@@ -20,6 +20,7 @@ pub const TABLE: [u8; 60] = [
 ];
 
 // The row of a word.
+#[tactic(auto, unfolding(crate::specs::Words::number_of))]
 pub fn place(w: Word) -> usize
     ensures { result ≡ number_of w }
 {

@@ -123,11 +123,14 @@ module _ (from : ℕ) (l : List ℕ) (past : length l ≤ from) where
 
 pub total-follows : (from : ℕ) (l sought : List ℕ) → Follows l from sought → compared_from from l sought ≡ length sought
 unfolding compared_from
-total-follows from l _ (done _) = refl
-total-follows from l _ (below _ n sought h is f) =
-    ap (λ (x : Looked). x.compared + compared_from x.next l sought) (looked-here from n l h is)
-    ∙ omega (arith, total-follows (suc from) l sought f)
-total-follows from l _ (round _ sought h f) = total-round from l h sought ∙ total-follows 0 l sought f
+total-follows from l sought f = go l from sought f
+  where
+    go : (l : List ℕ) (from : ℕ) (sought : List ℕ) → Follows l from sought → compared_from from l sought ≡ length sought
+    go l from _ (done _) = refl
+    go l from _ (below _ n sought h is f) =
+        ap (λ (x : Looked). x.compared + compared_from x.next l sought) (looked-here from n l h is)
+        ∙ omega (arith, go l (suc from) sought f)
+    go l from _ (round _ sought h f) = total-round from l h sought ∙ go l 0 sought f
 
 -- ---- the turns of look-ups of names in turn
 

@@ -1,4 +1,6 @@
 // Look-up by name in a list of steps.
+#![tactic(auto)]
+
 ghost use Rattle.std.specs.Prelude.{◌≡◌, ◌*◌, ◌≤◌, min, length};
 ghost use Rattle.route.specs.Steps.{names};
 ghost use Rattle.lookup.specs.Position.{position};

@@ -1,4 +1,6 @@
 // A list of steps as a whole: the places that they take from and put to, the start, and rows 6 and 7.
+#![tactic(auto)]
+
 ghost use Rattle.std.specs.Prelude.{◌≡◌, ◌≤◌};
 ghost use Rattle.flat.specs.Flat.{steps_in};
 ghost use Rattle.opening.specs.Net.{opened};

@@ -1,5 +1,5 @@
 -- Entries laid over a list one by one.
-use mathlib.Core.Path.{◌≡◌, refl, sym, ap, ◌∙◌}
+use mathlib.Core.Path.{◌≡◌, refl, sym, ap, ap₂, ◌∙◌}
 use mathlib.Core.List.{List, ◌++◌}
 use Prim.Native.Nat.{ℕ, suc, ◌+◌, ◌<◌}
 use native.Mathlib.Omega.{arith}
@@ -21,6 +21,12 @@ overlaid-more {X} d l a i h k =
     ∙ sym (append_snoc (take i l) (get_or l i d) (drop (suc i) a))
     ∙ ap (λ (x : List X). x ++ drop (suc i) a) (sym (take-suc l i d h))
     ∙ ap (λ (n : ℕ). take n l ++ drop n a) (sym (add-one i))
+
+-- one entry more
+pub overlaid-on : {X : Type 0} (d x : X) (l a w : List X) (i : ℕ) → w ≡ overlaid i l a → x ≡ get_or l i d → i < length l
+    → i < length a → set w i x ≡ overlaid (i + 1) l a
+overlaid-on {X} d x l a w i so_far is h k =
+    ap₂ (λ (u : List X) (y : X). set u i y) so_far is ∙ overlaid-more d l a i h k
 
 -- only the entries laid count
 pub overlaid-same : {X : Type 0} (l k a : List X) (n : ℕ) → take n l ≡ take n k → overlaid n l a ≡ overlaid n k a

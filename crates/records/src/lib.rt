@@ -1,4 +1,6 @@
 // Lent lists of step records.
+#![tactic(auto)]
+
 ghost use Rattle.std.specs.Prelude.{◌≡◌, ◌≤◌, length, get_or};
 ghost use Rattle.route.specs.Steps.{blank};
 ghost use Rattle.flat.specs.Flat.{steps_in, Laid};

@@ -1,5 +1,4 @@
 -- Laws on steps and firing, which proofs of this crate and of those above it cite.
-pub mod RouteLength
 pub mod StepList
 pub mod Toggle
 pub mod IfFires

@@ -1,5 +1,7 @@
 // The tokens of a sheet's lines: fixed texts, numbers, lists. Each reader takes a place and whether the layout holds to
 // there, and passes a break on, so that a line is straight code with one test at its end.
+#![tactic(auto)]
+
 pub mod lists;
 pub mod numbers;
 pub mod texts;
