@@ -9,12 +9,10 @@ use lib.Bits.{bit_or}
 use lib.ListN.{length, get_or}
 use Rattle.mask.specs.Mask.{bit, without}
 use Rattle.route.specs.Steps.{blank}
-use Rattle.flat.specs.Flat.{steps_in}
 use Rattle.route.specs.declared.Step.{Step}
 use Rattle.slice.specs.Slice.{Sweep, keeps, sweep_step, kept_mask}
 use Rattle.slice.proofs.Sweep.{sweep_from, sweep-end, sweep-on}
-use Rattle.slice.proofs.sweeping.keep.Statement.{statement}
-use Rattle.slice.proofs.sweeping.keep.Tie as tie
+use Rattle.slice.proofs.sweeping.keep.Goals as goal
 
 at-the-end : (l : List Step) (vars i : ℕ) → i ≡ length l → sweep_from l vars i ≡ record { live = vars; kept = 0 }
 at-the-end l vars i h = sweep-end l vars i (omega arith)
@@ -58,26 +56,14 @@ module _ (l : List Step) (vars i live kept : ℕ) where
       start : 0 ≡ i
       start = omega arith
 
-abbrev invariant-loop : tie.invariant-loop
-invariant-loop occurrences vars live₀ kept₀ i₀ live kept i =
-    (i ≤ length (steps_in occurrences)) × (sweep_from (steps_in occurrences) vars i ≡ record { live = live; kept = kept })
+pub loop-i-init : goal.loop-i-init
+loop-i-init c = (search rules, search (rules, at-the-end))
 
-abbrev decreases-loop : tie.decreases-loop
-decreases-loop occurrences vars live₀ kept₀ i₀ live kept i = i
+pub loop-i-preserved-then-stays : goal.loop-i-preserved-then-stays
+loop-i-preserved-then-stays c = (search rules, search (rules, taken-along))
 
-loop-holds : tie.Need-loop-init invariant-loop decreases-loop
-loop-holds c = (search rules, search (rules, at-the-end))
+pub loop-i-preserved : goal.loop-i-preserved
+loop-i-preserved c = (search rules, search (rules, passed_over))
 
-loop-again : tie.Need-loop-preserved invariant-loop decreases-loop
-loop-again c = (search rules, search (rules, taken-along))
-
-loop-again-2 : tie.Need-loop-preserved-2 invariant-loop decreases-loop
-loop-again-2 c = (search rules, search (rules, passed_over))
-
-returns : tie.Need-returns invariant-loop decreases-loop
+pub returns : goal.returns
 returns c = search (rules, all-swept)
-
-pub keep_spec : {M : Type 1} → statement M
-keep_spec = tie.close (tie.spec invariant-loop decreases-loop (λ c κs. search rules) loop-holds (λ c. search rules)
-    (λ c κs. search rules) (λ c κs. search rules) (λ c κs. search rules) (λ c κs. search rules) (λ c. search rules)
-    loop-again (λ c. search rules) loop-again-2 returns)

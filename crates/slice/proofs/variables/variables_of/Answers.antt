@@ -2,7 +2,7 @@
 -- the union over all.
 use mathlib.Core.Path.{◌≡◌, sym, ◌∙◌}
 use mathlib.Core.List.{List, ◌∷◌}
-use Prim.Native.Nat.{ℕ, ◌+◌, ◌-◌, ◌≤◌, ◌<◌}
+use Prim.Native.Nat.{ℕ, ◌+◌, ◌≤◌, ◌<◌}
 use native.Mathlib.Omega.{arith}
 use native.Mathlib.Numerals.{add-one}
 use borrow.Author.Rules.{rules}
@@ -10,12 +10,10 @@ use lib.Bits.{bit_or, or_zero_l}
 use lib.ListN.{length, drop, get_or, drop_of_length-le}
 use lib.Seq.{drop-cons}
 use Rattle.route.specs.Steps.{blank, union}
-use Rattle.flat.specs.Flat.{steps_in}
 use Rattle.route.specs.declared.Step.{Step}
 use Rattle.route.proofs.StepList.{union_more, union-done}
 use Rattle.slice.specs.Slice.{variables}
-use Rattle.slice.proofs.variables.variables_of.Statement.{statement}
-use Rattle.slice.proofs.variables.variables_of.Tie as tie
+use Rattle.slice.proofs.variables.variables_of.Goals as goal
 
 abbrev touches : Step → ℕ
 touches s = bit_or s.reads s.writes
@@ -36,22 +34,11 @@ none_yet : (l : List Step) → bit_or 0 (union touches l) ≡ variables l
 unfolding variables
 none_yet l = or_zero_l (union touches l)
 
-abbrev invariant-loop : tie.invariant-loop
-invariant-loop steps n vars₀ i₀ vars i = (i ≤ n) × (bit_or vars (union touches (drop i (steps_in steps)))
-    ≡ variables (steps_in steps))
+pub loop-i-init : goal.loop-i-init
+loop-i-init c = (search rules, none_yet _)
 
-abbrev decreases-loop : tie.decreases-loop
-decreases-loop steps n vars₀ i₀ vars i = n - i
+pub loop-i-preserved : goal.loop-i-preserved
+loop-i-preserved c = (search rules, search (rules, one_more))
 
-loop-holds : tie.Need-loop-init invariant-loop decreases-loop
-loop-holds c = (search rules, none_yet _)
-
-loop-again : tie.Need-loop-preserved invariant-loop decreases-loop
-loop-again c = (search rules, search (rules, one_more))
-
-returns : tie.Need-returns invariant-loop decreases-loop
+pub returns : goal.returns
 returns c = search (rules, all_in)
-
-pub variables-of-spec : {M : Type 1} → statement M
-variables-of-spec = tie.close (tie.spec invariant-loop decreases-loop (λ c κs. search rules) loop-holds (λ c κs. search rules)
-    (λ c. search rules) (λ c. search rules) loop-again returns)

@@ -6,8 +6,7 @@ use borrow.Author.Rules.{rules}
 use Rattle.mask.specs.Mask.{meets}
 use Rattle.route.specs.declared.Step.{Step}
 use Rattle.slice.specs.Slice.{Sweep, keeps}
-use Rattle.slice.proofs.sweeping.stays.Statement.{statement}
-use Rattle.slice.proofs.sweeping.stays.Tie as tie
+use Rattle.slice.proofs.sweeping.stays.Goals as goal
 
 marked : (s : Step) (live : ℕ) → s.cloth ≡ true → (w : Sweep) → w.live ≡ live → true ≡ keeps s w
 unfolding keeps
@@ -18,11 +17,8 @@ unmarked : (s : Step) (live : ℕ) (t : Bool) → s.cloth ≡ false → t ≡ me
 unfolding keeps
 unmarked s live t e p w is = p ∙ ap₂ (λ (b : Bool) (m : ℕ). b || meets s.writes m) (sym e) (sym is)
 
-returns : tie.Need-returns
-returns c = search (rules, marked)
+pub returns-then-s : goal.returns-then-s
+returns-then-s c = search (rules, marked)
 
-returns-2 : tie.Need-returns-2
-returns-2 c = search (rules, unmarked)
-
-pub stays-spec : {M : Type 1} → statement M
-stays-spec = tie.close (tie.spec returns (λ c κs. search rules) returns-2)
+pub returns : goal.returns
+returns c = search (rules, unmarked)
