@@ -1,4 +1,6 @@
 // The lines that a listing has once, and what the lines of its tables begin with.
+#![tactic(auto)]
+
 ghost use Rattle.std.specs.Prelude.{◌≡◌, ◌++◌, ◌<◌, min};
 ghost use Rattle.emit.specs.Emit.{Room, Emits};
 ghost use Rattle.emit.specs.Numbers.{over, entry as entry_text};

@@ -1,5 +1,7 @@
 // The tables of the listing: a line for each kept occurrence that comes after another, and for each variable that has a
 // writer.
+#![tactic(auto)]
+
 ghost use Rattle.std.specs.Prelude.{◌<◌};
 ghost use Rattle.emit.specs.Emit.{Room, Emits};
 ghost use Rattle.listing_lines.specs.Lines.{after_line, after_lines, value_line, value_lines};
