@@ -6,7 +6,7 @@ use mathlib.Core.List.{List}
 use lib.ListN.{length}
 use lib.Seq.{length-take-le}
 use borrow.Author.Rules.{rules}
-use Rattle.io.specs.Counts.{IsPrefixLen}
+use Rattle.counts.specs.Counts.{IsPrefixLen}
 
 pub counts : (n : ℕ) (s : List ℕ) → n ≤ length s → IsPrefixLen n s
 counts n s h = (h, sym (length-take-le n s h))

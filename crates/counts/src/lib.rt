@@ -1,6 +1,8 @@
 // Counts within a list: so many of its first entries, as `&list[..n]` asks for it.
+#![tactic(auto)]
+
 ghost use Rattle.std.specs.Prelude.{◌≤◌};
-ghost use Rattle.io.specs.Counts.{IsPrefixLen};
+ghost use Rattle.counts.specs.Counts.{IsPrefixLen};
 
 // n, or the bound where that is less.
 pub fn least(n: usize, bound: usize) -> usize

@@ -18,13 +18,16 @@
 //
 // An answer is all its numbers, and every slice that was lent as it then stands; 20 and 21 show the shelf too. The
 // second program says the same of scripts (reference/src/script.rs).
+#![tactic(auto)]
+
 use drive_script::{ends, numbers};
 use shelf::Shelf;
+use std::io;
 
 mod operations;
 
 // Each operation in turn. One takes at least a number, so there are no more turns than numbers.
-fn answer_all(nums: &[u64], o: &mut [u8; 65536]) {
+fn answer_all(rt: &impl Print, nums: &[u64], o: &mut [u8; 65536]) -> io::Result<()> {
     let mut at = 0;
     let mut n = 0;
     let mut shelf = Shelf::empty();
@@ -32,23 +35,22 @@ fn answer_all(nums: &[u64], o: &mut [u8; 65536]) {
     while 0 < turns {
         let end = ends::operation(nums, at);
         if end == ends::STOP {
-            drive_out::flush(o, n);
-            return;
+            return drive_out::flush(rt, o, n);
         }
-        let t = operations::turn(shelf, nums, at, o, n);
+        let t = operations::turn(rt, shelf, nums, at, o, n)?;
         n = drive_out::end(o, t.n);
         shelf = t.shelf;
         at = end;
         turns -= 1;
     }
-    drive_out::flush(o, n);
+    drive_out::flush(rt, o, n)
 }
 
-fn main() {
-    let mut text = io::large_buffer();
-    let n = io::read_full(0, &mut text);
+fn main(rt: HostRuntime) -> io::Result<()> {
+    let mut text = [0u8; 65536];
+    let n = input::read_full(&mut rt.stdin(), &mut text)?;
     let mut nums = [0u64; 32768];
     let count = numbers::all(&text[..n], &mut nums);
-    let mut o = io::large_buffer();
-    answer_all(&nums[..count], &mut o);
+    let mut o = [0u8; 65536];
+    answer_all(&rt, &nums[..count], &mut o)
 }

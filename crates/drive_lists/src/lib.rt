@@ -1,10 +1,13 @@
 // The operations over lent lists, each on the arguments that begin at a number of the script.
+#![tactic(auto)]
+
 ghost use Rattle.std.specs.Prelude.{◌≤◌};
 
 use drive_load::Lent;
 use drive_script::ends;
+use std::io;
 
-fn run(x: Lent, o: &mut [u8; 65536], n: usize) -> usize
+fn run(rt: &impl Print, x: Lent, o: &mut [u8; 65536], n: usize) -> io::Result<usize>
     requires { (x.n ≤ 100) × (x.m ≤ 100) }
 {
     let a = x.a;
@@ -12,10 +15,10 @@ fn run(x: Lent, o: &mut [u8; 65536], n: usize) -> usize
     let done = x.done;
     let k = counts::names(x.len, &done);
     let r = arrays::run(x.p, a, x.n, x.q, b, x.m, &done[..k]);
-    drive_answers::marked(o, n, r.number, r.second, r.marking)
+    drive_answers::marked(rt, o, n, r.number, r.second, r.marking)
 }
 
-fn slice(x: Lent, o: &mut [u8; 65536], n: usize) -> usize
+fn slice(rt: &impl Print, x: Lent, o: &mut [u8; 65536], n: usize) -> io::Result<usize>
     requires { (x.n ≤ 100) × (x.m ≤ 100) }
 {
     let a = x.a;
@@ -23,10 +26,16 @@ fn slice(x: Lent, o: &mut [u8; 65536], n: usize) -> usize
     let done = x.done;
     let k = counts::names(x.len, &done);
     let r = arrays::slice(x.p, a, x.n, x.q, b, x.m, &done[..k]);
-    drive_answers::sliced(o, n, r)
+    drive_answers::sliced(rt, o, n, r)
 }
 
-fn try_order(x: Lent, order: &[u8], o: &mut [u8; 65536], n: usize) -> usize
+fn try_order(
+    rt: &impl Print,
+    x: Lent,
+    order: &[u8],
+    o: &mut [u8; 65536],
+    n: usize,
+) -> io::Result<usize>
     requires { (x.n ≤ 100) × (x.m ≤ 100) }
 {
     let a = x.a;
@@ -34,10 +43,16 @@ fn try_order(x: Lent, order: &[u8], o: &mut [u8; 65536], n: usize) -> usize
     let done = x.done;
     let k = counts::names(x.len, &done);
     let r = arrays::try_order(x.p, a, x.n, x.q, b, x.m, &done[..k], order);
-    drive_answers::marked(o, n, r.number, r.second, r.marking)
+    drive_answers::marked(rt, o, n, r.number, r.second, r.marking)
 }
 
-fn judge(x: Lent, work: &mut [u8], o: &mut [u8; 65536], n: usize) -> usize
+fn judge(
+    rt: &impl Print,
+    x: Lent,
+    work: &mut [u8],
+    o: &mut [u8; 65536],
+    n: usize,
+) -> io::Result<usize>
     requires { (x.n ≤ 100) × (x.m ≤ 100) }
 {
     let a = x.a;
@@ -45,10 +60,16 @@ fn judge(x: Lent, work: &mut [u8], o: &mut [u8; 65536], n: usize) -> usize
     let done = x.done;
     let k = counts::names(x.len, &done);
     let r = arrays::judge(x.p, a, x.n, x.q, b, x.m, &done[..k], work);
-    drive_answers::judged(o, n, r, work)
+    drive_answers::judged(rt, o, n, r, work)
 }
 
-fn write(x: Lent, out: &mut [u8], o: &mut [u8; 65536], n: usize) -> usize
+fn write(
+    rt: &impl Print,
+    x: Lent,
+    out: &mut [u8],
+    o: &mut [u8; 65536],
+    n: usize,
+) -> io::Result<usize>
     requires { (x.n ≤ 100) × (x.m ≤ 100) }
 {
     let a = x.a;
@@ -56,24 +77,38 @@ fn write(x: Lent, out: &mut [u8], o: &mut [u8; 65536], n: usize) -> usize
     let done = x.done;
     let k = counts::names(x.len, &done);
     let r = arrays::write(x.p, a, x.n, x.q, b, x.m, &done[..k], out);
-    drive_answers::wrote(o, n, r, out)
+    drive_answers::wrote(rt, o, n, r, out)
 }
 
 // With the order, the work or the out slice.
-fn with(op: u64, x: Lent, s: &mut [u8], o: &mut [u8; 65536], n: usize) -> usize
+fn with(
+    rt: &impl Print,
+    op: u64,
+    x: Lent,
+    s: &mut [u8],
+    o: &mut [u8; 65536],
+    n: usize,
+) -> io::Result<usize>
     requires { (x.n ≤ 100) × (x.m ≤ 100) }
 {
     match op {
-        12 => run(x, o, n),
-        13 => slice(x, o, n),
-        14 => try_order(x, s, o, n),
-        15 => judge(x, s, o, n),
-        _ => write(x, s, o, n),
+        12 => run(rt, x, o, n),
+        13 => slice(rt, x, o, n),
+        14 => try_order(rt, x, s, o, n),
+        15 => judge(rt, x, s, o, n),
+        _ => write(rt, x, s, o, n),
     }
 }
 
-pub fn answer(op: u64, nums: &[u64], at: usize, o: &mut [u8; 65536], n: usize) -> usize {
+pub fn answer(
+    rt: &impl Print,
+    op: u64,
+    nums: &[u64],
+    at: usize,
+    o: &mut [u8; 65536],
+    n: usize,
+) -> io::Result<usize> {
     let mut s = [0u8; 21000];
     let k = drive_load::given(nums, ends::lists(nums, at), op < 14, op != 14, &mut s);
-    with(op, drive_load::lists(nums, at), &mut s[..k], o, n)
+    with(rt, op, drive_load::lists(nums, at), &mut s[..k], o, n)
 }

@@ -1,6 +1,8 @@
 // The arguments of an operation that is whole, as records and bytes.
+#![tactic(auto)]
+
 ghost use Rattle.std.specs.Prelude.{◌<◌, ◌≤◌};
-ghost use Rattle.io.specs.Counts.{IsPrefixLen};
+ghost use Rattle.counts.specs.Counts.{IsPrefixLen};
 
 use drive_script::{ends, numbers};
 use route::{Route, Step};

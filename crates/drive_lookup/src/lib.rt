@@ -1,7 +1,10 @@
 // Look-ups, each on the arguments that begin at a number of the script: a name among names, and how many names a job's
 // look-ups compare.
+#![tactic(auto)]
+
 use drive_script::{ends, numbers};
 use lookup::Found;
+use std::io;
 
 // Steps of these names, with nothing else, as numbers.
 fn steps_named(list: [u32; 100]) -> [u64; 400] {
@@ -22,7 +25,13 @@ fn place(found: Found) -> u64 {
     }
 }
 
-pub fn find(nums: &[u64], at: usize, o: &mut [u8; 65536], n: usize) -> usize {
+pub fn find(
+    rt: &impl Print,
+    nums: &[u64],
+    at: usize,
+    o: &mut [u8; 65536],
+    n: usize,
+) -> io::Result<usize> {
     let steps = steps_named(drive_load::names(nums, at));
     let len = drive_load::length(nums, at, 100);
     let rest = ends::names(nums, at);
@@ -30,14 +39,20 @@ pub fn find(nums: &[u64], at: usize, o: &mut [u8; 65536], n: usize) -> usize {
     let l = lookup::find(&steps[..4 * len], from, drive_load::word(nums, rest, 1));
     let found = l.found;
     let answer = [place(found), l.compared as u64, l.next as u64];
-    drive_out::numbers(o, n, &answer)
+    drive_out::numbers(rt, o, n, &answer)
 }
 
-pub fn compare(nums: &[u64], at: usize, o: &mut [u8; 65536], n: usize) -> usize {
+pub fn compare(
+    rt: &impl Print,
+    nums: &[u64],
+    at: usize,
+    o: &mut [u8; 65536],
+    n: usize,
+) -> io::Result<usize> {
     let f = drive_load::facts(nums, at);
     let done = f.done;
     let k = counts::names(f.len, &done);
     let r = finding::routes::compare(f.old, f.new, &done[..k]);
     let totals = [r.number as u64, r.second, r.run as u64, r.matched as u64];
-    drive_out::numbers(o, n, &totals)
+    drive_out::numbers(rt, o, n, &totals)
 }

@@ -1,37 +1,40 @@
-// What is to be written is gathered in a buffer; n of its bytes are in use.
+// What is to be written is gathered in a buffer; n of its bytes are in use. It is written where it is full.
+#![tactic(auto)]
+
 pub mod runs;
 
-pub fn flush(o: &[u8], n: usize) {
+use std::io;
+
+pub fn flush(rt: &impl Print, o: &[u8], n: usize) -> io::Result<()> {
     let k = counts::bytes(n, o);
-    io::write_all(1, &o[..k]);
+    rt.write_all(&o[..k])
 }
 
-fn put(o: &mut [u8; 65536], n: usize, b: u8) -> usize {
+fn put(rt: &impl Print, o: &mut [u8; 65536], n: usize, b: u8) -> io::Result<usize> {
     if n < 65536 {
         o[n] = b;
-        return n + 1;
+        return Ok(n + 1);
     }
-    flush(o, n);
+    flush(rt, o, n)?;
     o[0] = b;
-    1
+    Ok(1)
 }
 
-fn puts(o: &mut [u8; 65536], n: usize, s: &[u8]) -> usize {
+fn puts(rt: &impl Print, o: &mut [u8; 65536], n: usize, s: &[u8]) -> io::Result<usize> {
     let mut m = n;
     let mut i = 0;
     while i < s.len() {
-        m = put(o, m, s[i]);
+        m = put(rt, o, m, s[i])?;
         i += 1;
     }
-    m
+    Ok(m)
 }
 
 // A number and a space.
-pub fn number(o: &mut [u8; 65536], n: usize, x: u64) -> usize {
-    let mut digits = [0u8; 20];
-    let k = io::decimal(x, &mut digits);
-    let m = puts(o, n, &digits[..k]);
-    put(o, m, b' ')
+pub fn number(rt: &impl Print, o: &mut [u8; 65536], n: usize, x: u64) -> io::Result<usize> {
+    let mut digits = itoa::Buffer::new();
+    let m = puts(rt, o, n, digits.format(x).as_bytes())?;
+    put(rt, o, m, b' ')
 }
 
 // The line ends where the last space stands.
@@ -45,14 +48,14 @@ pub fn end(o: &mut [u8; 65536], n: usize) -> usize {
     n
 }
 
-pub fn numbers(o: &mut [u8; 65536], n: usize, l: &[u64]) -> usize {
+pub fn numbers(rt: &impl Print, o: &mut [u8; 65536], n: usize, l: &[u64]) -> io::Result<usize> {
     let mut m = n;
     let mut i = 0;
     while i < l.len() {
-        m = number(o, m, l[i]);
+        m = number(rt, o, m, l[i])?;
         i += 1;
     }
-    m
+    Ok(m)
 }
 
 pub fn wide8(x: u8) -> u64 {
@@ -68,22 +71,22 @@ pub fn mark(cloth: bool) -> u64 {
     if cloth { 1 } else { 0 }
 }
 
-pub fn bytes(o: &mut [u8; 65536], n: usize, l: &[u8]) -> usize {
+pub fn bytes(rt: &impl Print, o: &mut [u8; 65536], n: usize, l: &[u8]) -> io::Result<usize> {
     let mut m = n;
     let mut i = 0;
     while i < l.len() {
-        m = number(o, m, wide8(l[i]));
+        m = number(rt, o, m, wide8(l[i]))?;
         i += 1;
     }
-    m
+    Ok(m)
 }
 
-pub fn names(o: &mut [u8; 65536], n: usize, l: &[u32]) -> usize {
+pub fn names(rt: &impl Print, o: &mut [u8; 65536], n: usize, l: &[u32]) -> io::Result<usize> {
     let mut m = n;
     let mut i = 0;
     while i < l.len() {
-        m = number(o, m, wide32(l[i]));
+        m = number(rt, o, m, wide32(l[i]))?;
         i += 1;
     }
-    m
+    Ok(m)
 }

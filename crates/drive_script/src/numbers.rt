@@ -1,5 +1,5 @@
 // The numbers of a script.
-ghost use Rattle.io.specs.Counts.{IsPrefixLen};
+ghost use Rattle.counts.specs.Counts.{IsPrefixLen};
 
 // A number and where it ends, or a word that is none.
 #[derive(Clone, Copy)]

@@ -12,7 +12,7 @@ use lib.Seq.{sets, drop-cons}
 use Rattle.mask.specs.Mask.{members}
 use Rattle.mask.proofs.FromLowest.{members-none, members-lowest}
 use Rattle.emit.specs.Emit.{Room, Emits}
-use Rattle.emit.specs.Numbers.{over}
+use Rattle.emit.specs.Numbers.{entry, over}
 use Rattle.emit.proofs.Chains.{emits-length, sets-append}
 
 -- where `rest` is written next, the whole text is written, and there is room for it
@@ -108,3 +108,8 @@ module _ (l : List ℕ) (i : ℕ) {o u o₀ : List ℕ} {n n₀ : ℕ}
 
   pub bytes-end : length l ≤ i → Emits u o₀ n₀ o n
   bytes-end = list-end (λ (b : ℕ). b ∷ []) l i left
+
+-- ---- entries, the lowest numbered `first`
+
+abbrev pub numbered : ℕ → ℕ → List ℕ
+numbered first v = entry (first + v)

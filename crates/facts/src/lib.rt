@@ -1,5 +1,7 @@
 // What a sheet's lines tell: rows 4, 2, 3 and 5, and the facts. The definitions and their laws are the substance; the
 // reader is above.
+#![tactic(auto)]
+
 ghost use Rattle.std.specs.Prelude.{◌≡◌};
 ghost use Rattle.facts.specs.Facts.{failed};
 
@@ -18,6 +20,7 @@ pub struct Sheet {
 
 impl Sheet {
     // A refusal: all else is 0.
+    #[tactic(auto, unfolding(crate::specs::Facts::failed))]
     pub fn refused(number: u32, second: u64) -> Sheet
         ensures { result ≡ failed number second }
     {

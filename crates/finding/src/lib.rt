@@ -1,4 +1,6 @@
 // The done names found in both routes, each from where the one before was found, and how many names that compared.
+#![tactic(auto)]
+
 ghost use Rattle.std.specs.Prelude.{◌≡◌};
 ghost use Rattle.finding.specs.Comparisons.{compared_stopped};
 

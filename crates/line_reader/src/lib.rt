@@ -1,4 +1,6 @@
 // One line of a sheet: read by tokens, looked at for its rows, and made a record.
+#![tactic(auto)]
+
 use tokens::Entries;
 
 pub mod reading;

@@ -1,5 +1,7 @@
 // The names of a list of steps as a set: row 5's test whether a name is new. It is no look-up, and tells no place; a
 // hint for the name's last digit in base 256 spares most scans.
+#![tactic(auto)]
+
 ghost use Rattle.std.specs.Prelude.{◌≡◌, List, [], ◌∷◌, ◌++◌, ℕ, ◌<◌, length};
 ghost use Rattle.route.specs.Steps.{names};
 ghost use Rattle.name_set.specs.Among.{among};

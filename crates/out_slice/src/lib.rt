@@ -1,4 +1,6 @@
 // The out slice: a whole text is written into it, or 15 with the bytes needed and no byte of it changed.
+#![tactic(auto)]
+
 ghost use Rattle.std.specs.Prelude.{◌≡◌, length};
 ghost use Rattle.out_slice.specs.OutSlice.{unwritten, whole, wrote_text, out_with};
 

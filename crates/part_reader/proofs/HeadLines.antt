@@ -11,7 +11,7 @@ use lib.Dec.{eqb, leb}
 use lib.ListN.{length}
 use borrow.Author.Tests.{eq-eqb, leb-true, not-false}
 use Rattle.mask.proofs.Truth.{both}
-use Rattle.refusal.specs.Rows.{pass, unless}
+use Rattle.refusal.specs.Rows.{unless}
 use Rattle.refusal.specs.declared.Outcome.{Outcome}
 use Rattle.job.specs.Lines.{places_fit}
 use Rattle.version.specs.declared.Version.{Version}

@@ -1,4 +1,6 @@
 // One part of a sheet at a time, and where reading stands between two.
+#![tactic(auto)]
+
 use refusal::Outcome;
 
 pub mod parts;

@@ -1,4 +1,6 @@
 // The precedence table: by variable, the earlier writers and the earlier readers of each; and the earlier cuts.
+#![tactic(auto)]
+
 ghost use Rattle.std.specs.Prelude.{◌≡◌, cond, ℕ, ◌≤◌, length};
 ghost use Rattle.std.specs.Int.Bits.{bit_or};
 ghost use Rattle.flat.specs.Flat.{steps_in};

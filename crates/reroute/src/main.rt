@@ -1,10 +1,14 @@
 // reroute: a sheet on standard input, its listing on standard output. It takes the first 65,536 bytes and reads no
 // further.
-fn main() {
-    let mut sheet = io::large_buffer();
-    let n = io::read_full(0, &mut sheet);
+#![tactic(auto)]
+
+use std::io;
+
+fn main(rt: HostRuntime) -> io::Result<()> {
+    let mut sheet = [0u8; 65536];
+    let n = input::read_full(&mut rt.stdin(), &mut sheet)?;
     let mut work = [0u8; 8192];
     let mut out = [0u8; 7053];
     let w = ops::print::print(&sheet[..n], &mut work, &mut out);
-    io::write_all(1, &out[..w.written as usize]);
+    rt.write_all(&out[..w.written as usize])
 }

@@ -4,6 +4,7 @@ use mathlib.Core.List.{List, [], ◌∷◌}
 use mathlib.Core.Option.{Option, get_or}
 use Prim.Native.Nat.{ℕ, ◌+◌}
 use native.Mathlib.Omega.{arith}
+use Rattle.route.specs.Firing.{fire}
 use Rattle.route.specs.Steps.{blank, names, lookup}
 use Rattle.route.specs.declared.Step.{Step}
 use Rattle.route.proofs.StepList.{lookup-name}
@@ -30,7 +31,7 @@ module _ (steps : List Step) where
       let f = first-fires m line n d e in
       ap₂ (λ (x : ℕ) (l : List ℕ). x ∷ l)
       (ap (λ (q : Option Step). (get_or q blank).name) f.there ∙ lookup-name n steps f.step f.there)
-      (run-names _ (line + 1) d f.onward)
+      (run-names (fire m f.step) (line + 1) d f.onward)
 
 -- ---- the job
 

@@ -1,4 +1,6 @@
 // The run of a job on its old route: rows 6 to 9, and the steps done.
+#![tactic(auto)]
+
 ghost use Rattle.std.specs.Prelude.{◌≡◌};
 ghost use Rattle.running.specs.Run.{stopped, begun_stopped};
 

@@ -1,5 +1,7 @@
 // What the programs that show the engine at work share: 01's examples as records, routes at the limits, and how an
 // answer is printed.
+#![tactic(auto)]
+
 use route::{Route, Step};
 
 pub mod chains;

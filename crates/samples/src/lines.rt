@@ -1,26 +1,33 @@
 // Lines on standard output.
 use route::Marking;
+use std::io;
 
 // A word and a number.
-pub fn number(word: &[u8], n: u64) {
-    io::write_all(1, word);
-    io::print_decimal(1, n);
+pub fn number(rt: &impl Print, word: &[u8], n: u64) -> io::Result<()> {
+    rt.write_all(word)?;
+    rt.print(n)
 }
 
-pub fn end() {
-    io::write_all(1, b"\n");
+pub fn end(rt: &impl Print) -> io::Result<()> {
+    rt.write_all(b"\n")
 }
 
 // What a line of each answer begins with.
-pub fn head(label: &[u8], first: u32, second: u64) {
-    io::write_all(1, label);
-    number(b" ", first as u64);
-    number(b" ", second);
+pub fn head(rt: &impl Print, label: &[u8], first: u32, second: u64) -> io::Result<()> {
+    rt.write_all(label)?;
+    number(rt, b" ", first as u64)?;
+    number(rt, b" ", second)
 }
 
 // An answer that is a refusal or a marking.
-pub fn answer(label: &[u8], first: u32, second: u64, marking: Marking) {
-    head(label, first, second);
-    number(b" ", marking.tokens);
-    end();
+pub fn answer(
+    rt: &impl Print,
+    label: &[u8],
+    first: u32,
+    second: u64,
+    marking: Marking,
+) -> io::Result<()> {
+    head(rt, label, first, second)?;
+    number(rt, b" ", marking.tokens)?;
+    end(rt)
 }

@@ -2,24 +2,25 @@
 use crate::judge_in;
 use samples::letters;
 use samples::letters::Sample;
+use std::io;
 
 // A work slice of 8,192 bytes is enough; what it holds doesn't matter.
-pub fn say(label: &[u8], x: Sample) {
+pub fn say(rt: &impl Print, label: &[u8], x: Sample) -> io::Result<()> {
     let mut work = [7u8; 8192];
-    show_judged::say(label, judge_in(x, &mut work));
+    show_judged::say(rt, label, judge_in(x, &mut work))
 }
 
-pub fn show() {
-    say(b"A", letters::a());
-    say(b"B", letters::b());
-    say(b"C", letters::c());
-    say(b"D", letters::d());
-    say(b"E", letters::e());
-    say(b"F", letters::f());
-    say(b"G", letters::g());
-    say(b"H", letters::h());
-    say(b"I", letters::i());
-    say(b"J", letters::j());
-    say(b"K", letters::k());
-    say(b"L", letters::l());
+pub fn show(rt: &impl Print) -> io::Result<()> {
+    say(rt, b"A", letters::a())?;
+    say(rt, b"B", letters::b())?;
+    say(rt, b"C", letters::c())?;
+    say(rt, b"D", letters::d())?;
+    say(rt, b"E", letters::e())?;
+    say(rt, b"F", letters::f())?;
+    say(rt, b"G", letters::g())?;
+    say(rt, b"H", letters::h())?;
+    say(rt, b"I", letters::i())?;
+    say(rt, b"J", letters::j())?;
+    say(rt, b"K", letters::k())?;
+    say(rt, b"L", letters::l())
 }

@@ -1,7 +1,10 @@
 // Prints judge's and try's answers on records: 01's examples A to L, the limit of 16 kept, loops, the search at its
 // worst, work slices and orders of every kind.
+#![tactic(auto)]
+
 use answering::Judged;
 use samples::letters::Sample;
+use std::io;
 
 mod letters;
 mod searches;
@@ -12,10 +15,10 @@ fn judge_in(x: Sample, work: &mut [u8]) -> Judged {
     judging::judging::judge(x.old, x.new, &done[..k], work)
 }
 
-fn main() {
-    letters::show();
-    searches::show();
-    searches::show_work();
-    show_orders::show();
-    show_orders::show_letters();
+fn main(rt: HostRuntime) -> io::Result<()> {
+    letters::show(&rt)?;
+    searches::show(&rt)?;
+    searches::show_work(&rt)?;
+    show_orders::show(&rt)?;
+    show_orders::show_letters(&rt)
 }

@@ -1,69 +1,78 @@
 // An answer of judge: a line with its number and second number, and for a job that moves what the listing shows.
+#![tactic(auto)]
+
 use answering::Judged;
 use samples::lines;
 use samples::lines::number;
+use std::io;
 
 // Nothing where there is none.
-fn say_entry(x: u8) {
+fn say_entry(rt: &impl Print, x: u8) -> io::Result<()> {
     if x != 0 {
-        number(b" ", x as u64);
+        number(rt, b" ", x as u64)?;
     }
+    Ok(())
 }
 
-fn say_order(order: [u8; 64], len: u32) {
-    io::write_all(1, b"  order");
+fn say_order(rt: &impl Print, order: [u8; 64], len: u32) -> io::Result<()> {
+    rt.write_all(b"  order")?;
     for i in 0..64 {
-        say_entry(order[i]);
+        say_entry(rt, order[i])?;
     }
-    number(b" length ", len as u64);
-    lines::end();
+    number(rt, b" length ", len as u64)?;
+    lines::end(rt)
 }
 
-fn say_mask(i: u64, mask: u64) {
+fn say_mask(rt: &impl Print, i: u64, mask: u64) -> io::Result<()> {
     if mask != 0 {
-        number(b"  after ", i);
-        number(b" mask ", mask);
-        lines::end();
+        number(rt, b"  after ", i)?;
+        number(rt, b" mask ", mask)?;
+        lines::end(rt)?;
     }
+    Ok(())
 }
 
-fn say_after(after: [u64; 64]) {
+fn say_after(rt: &impl Print, after: [u64; 64]) -> io::Result<()> {
     for i in 0..64 {
-        say_mask(i as u64 + 1, after[i]);
+        say_mask(rt, i as u64 + 1, after[i])?;
     }
+    Ok(())
 }
 
-fn say_writer(v: u64, x: u8) {
+fn say_writer(rt: &impl Print, v: u64, x: u8) -> io::Result<()> {
     if x != 0 {
-        number(b"  value ", v);
-        number(b" ", x as u64);
-        lines::end();
+        number(rt, b"  value ", v)?;
+        number(rt, b" ", x as u64)?;
+        lines::end(rt)?;
     }
+    Ok(())
 }
 
-fn say_writers(writers: [u8; 32]) {
+fn say_writers(rt: &impl Print, writers: [u8; 32]) -> io::Result<()> {
     for v in 0..32 {
-        say_writer(v as u64, writers[v]);
+        say_writer(rt, v as u64, writers[v])?;
     }
+    Ok(())
 }
 
-fn say_moved(a: Judged) {
-    number(b"  kept mask ", a.kept);
-    number(b" dropped ", a.dropped as u64);
-    number(b" marking mask ", a.marking.tokens);
-    lines::end();
+fn say_moved(rt: &impl Print, a: Judged) -> io::Result<()> {
+    number(rt, b"  kept mask ", a.kept)?;
+    number(rt, b" dropped ", a.dropped as u64)?;
+    number(rt, b" marking mask ", a.marking.tokens)?;
+    lines::end(rt)?;
     let order = a.order;
-    say_order(order, a.len);
+    say_order(rt, order, a.len)?;
     let after = a.after;
-    say_after(after);
+    say_after(rt, after)?;
     let writers = a.writers;
-    say_writers(writers);
+    say_writers(rt, writers)
 }
 
-pub fn say(label: &[u8], a: Judged) {
-    lines::head(label, a.number, a.second);
-    lines::end();
+pub fn say(rt: &impl Print, label: &[u8], a: Judged) -> io::Result<()> {
+    lines::head(rt, label, a.number, a.second)?;
+    lines::end(rt)?;
     if a.number == 0 {
-        say_moved(a);
+        say_moved(rt, a)?;
     }
+    Ok(())
 }

@@ -2,60 +2,61 @@
 use crate::{say_bare, say_one, say_two};
 use route::{Route, Step};
 use samples::{letters, one, step, two};
+use std::io;
 
 // Beside a sound new route.
-fn say_old(label: &[u8], r: Route) {
-    say_bare(label, r, letters::a_new());
+fn say_old(rt: &impl Print, label: &[u8], r: Route) -> io::Result<()> {
+    say_bare(rt, label, r, letters::a_new())
 }
 
 // Beside a sound old route.
-fn say_new(label: &[u8], r: Route) {
-    say_bare(label, letters::a_old(), r);
+fn say_new(rt: &impl Print, label: &[u8], r: Route) -> io::Result<()> {
+    say_bare(rt, label, letters::a_old(), r)
 }
 
-fn say_step(label: &[u8], s: Step) {
-    say_old(label, one(2, s));
+fn say_step(rt: &impl Print, label: &[u8], s: Step) -> io::Result<()> {
+    say_old(rt, label, one(2, s))
 }
 
-pub fn show_routes() {
+pub fn show_routes(rt: &impl Print) -> io::Result<()> {
     let none = Route::empty();
     let mut bare = none;
     bare.places = 4;
-    say_old(b"4 old has no step", bare);
-    say_new(b"4 new has no step", bare);
-    say_old(b"2 no old place", none);
-    say_new(b"2 no new place", none);
-    say_two(b"2 done 0", 10, 0);
-    say_one(b"8 done 65536", 65536);
-    say_one(b"8 done 4294967295", 4294967295);
+    say_old(rt, b"4 old has no step", bare)?;
+    say_new(rt, b"4 new has no step", bare)?;
+    say_old(rt, b"2 no old place", none)?;
+    say_new(rt, b"2 no new place", none)?;
+    say_two(rt, b"2 done 0", 10, 0)?;
+    say_one(rt, b"8 done 65536", 65536)?;
+    say_one(rt, b"8 done 4294967295", 4294967295)
 }
 
-pub fn show_steps() {
-    say_step(b"2 name 0", step(0, 1, 2, 0, 0));
-    say_step(b"0 name 65536", step(65536, 1, 2, 0, 0));
-    say_step(b"0 name 4294967295", step(4294967295, 1, 2, 0, 0));
-    say_step(b"2 place not below N", step(1, 1, 4, 0, 0));
-    say_step(b"3 in empty", step(1, 0, 2, 0, 0));
-    say_step(b"3 out empty", step(1, 1, 0, 0, 0));
-    say_step(b"3 nine reads", step(1, 1, 2, 511, 0));
-    say_step(b"3 nine writes", step(1, 1, 2, 0, 511));
-    say_old(b"3 nine in-places", one(10, step(1, 511, 512, 0, 0)));
+pub fn show_steps(rt: &impl Print) -> io::Result<()> {
+    say_step(rt, b"2 name 0", step(0, 1, 2, 0, 0))?;
+    say_step(rt, b"0 name 65536", step(65536, 1, 2, 0, 0))?;
+    say_step(rt, b"0 name 4294967295", step(4294967295, 1, 2, 0, 0))?;
+    say_step(rt, b"2 place not below N", step(1, 1, 4, 0, 0))?;
+    say_step(rt, b"3 in empty", step(1, 0, 2, 0, 0))?;
+    say_step(rt, b"3 out empty", step(1, 1, 0, 0, 0))?;
+    say_step(rt, b"3 nine reads", step(1, 1, 2, 511, 0))?;
+    say_step(rt, b"3 nine writes", step(1, 1, 2, 0, 511))?;
+    say_old(rt, b"3 nine in-places", one(10, step(1, 511, 512, 0, 0)))?;
     let a = step(7, 1, 2, 0, 0);
-    say_old(b"5 name twice", two(3, a, step(7, 2, 4, 0, 0)));
-    say_old(b"3 before 5", two(3, a, step(7, 2, 0, 0, 0)));
+    say_old(rt, b"5 name twice", two(3, a, step(7, 2, 4, 0, 0)))?;
+    say_old(rt, b"3 before 5", two(3, a, step(7, 2, 0, 0, 0)))
 }
 
 // A route with a place that belongs to no step, and one with no start.
-pub fn show_starts() {
+pub fn show_starts(rt: &impl Print) -> io::Result<()> {
     let mut loose = letters::a_old();
     loose.places = 5;
     let round = two(2, step(1, 1, 2, 0, 0), step(2, 2, 1, 0, 0));
-    say_old(b"6 old", loose);
-    say_new(b"6 new", loose);
-    say_old(b"7 old", round);
-    say_new(b"7 new", round);
-    say_old(b"6 before 7", one(3, step(1, 1, 1, 0, 0)));
-    say_bare(b"old 7 before new 6", round, loose);
-    say_two(b"9 second line", 10, 10);
-    say_two(b"8 after 9 is not reached", 20, 40);
+    say_old(rt, b"6 old", loose)?;
+    say_new(rt, b"6 new", loose)?;
+    say_old(rt, b"7 old", round)?;
+    say_new(rt, b"7 new", round)?;
+    say_old(rt, b"6 before 7", one(3, step(1, 1, 1, 0, 0)))?;
+    say_bare(rt, b"old 7 before new 6", round, loose)?;
+    say_two(rt, b"9 second line", 10, 10)?;
+    say_two(rt, b"8 after 9 is not reached", 20, 40)
 }

@@ -2,19 +2,20 @@
 use samples::letters;
 use samples::letters::Sample;
 use show_ran::say;
+use std::io;
 
-fn say_sample(label: &[u8], x: Sample) {
+fn say_sample(rt: &impl Print, label: &[u8], x: Sample) -> io::Result<()> {
     let done = x.done;
     let k = counts::names(x.len, &done);
-    say(label, x.old, x.new, &done[..k]);
+    say(rt, label, x.old, x.new, &done[..k])
 }
 
-pub fn show() {
-    say_sample(b"A", letters::a());
-    say_sample(b"B", letters::b());
-    say_sample(b"H", letters::h());
-    say_sample(b"I", letters::i());
-    say_sample(b"J", letters::j());
-    say_sample(b"K", letters::k());
-    say_sample(b"L", letters::l());
+pub fn show(rt: &impl Print) -> io::Result<()> {
+    say_sample(rt, b"A", letters::a())?;
+    say_sample(rt, b"B", letters::b())?;
+    say_sample(rt, b"H", letters::h())?;
+    say_sample(rt, b"I", letters::i())?;
+    say_sample(rt, b"J", letters::j())?;
+    say_sample(rt, b"K", letters::k())?;
+    say_sample(rt, b"L", letters::l())
 }

@@ -1,16 +1,19 @@
 // Prints run's answers on records: the route parts of 01's examples, the limits, and a wrong record for each row; then
 // fire's. Each line is a label, the number, the second number and the marking.
+#![tactic(auto)]
+
 use show_ran::faults;
+use std::io;
 
 mod fires;
 mod letters;
 mod limits;
 
-fn main() {
-    letters::show();
-    limits::show();
-    faults::show_routes();
-    faults::show_steps();
-    faults::show_starts();
-    fires::show();
+fn main(rt: HostRuntime) -> io::Result<()> {
+    letters::show(&rt)?;
+    limits::show(&rt)?;
+    faults::show_routes(&rt)?;
+    faults::show_steps(&rt)?;
+    faults::show_starts(&rt)?;
+    fires::show(&rt)
 }

@@ -1,48 +1,53 @@
 // Reads sheets from standard input, each ended by `%`, and writes for each: the refusal's two numbers, the two place
 // counts, the two step counts, how many done names, and the length of the job part. Before that the first sheet is read
+#![tactic(auto)]
+
+use std::io;
+
 // cut off at every length.
-fn number(n: u64) {
-    io::print_decimal(1, n);
-    io::write_all(1, b" ");
+fn number(rt: &impl Print, n: u64) -> io::Result<()> {
+    rt.print(n)?;
+    rt.write_all(b" ")
 }
 
-fn show(s: &[u8]) {
+fn show(rt: &impl Print, s: &[u8]) -> io::Result<()> {
     let x = reader::reads::read(s);
-    number(x.number as u64);
-    number(x.second);
-    number(x.old.places);
-    number(x.new.places);
-    number(x.old.len as u64);
-    number(x.new.len as u64);
-    number(x.done_len as u64);
+    number(rt, x.number as u64)?;
+    number(rt, x.second)?;
+    number(rt, x.old.places)?;
+    number(rt, x.new.places)?;
+    number(rt, x.old.len as u64)?;
+    number(rt, x.new.len as u64)?;
+    number(rt, x.done_len as u64)?;
     let part = reader::part::job_part(s);
-    number(part.len() as u64);
-    io::write_all(1, b"\n");
+    number(rt, part.len() as u64)?;
+    rt.write_all(b"\n")
 }
 
 // Every beginning.
-fn show_cuts(s: &[u8]) {
+fn show_cuts(rt: &impl Print, s: &[u8]) -> io::Result<()> {
     let mut k = 0;
     while k < s.len() {
-        show(&s[..k]);
+        show(rt, &s[..k])?;
         k += 1;
     }
+    Ok(())
 }
 
 // The first sheet, cut off.
-fn show_first(s: &[u8]) {
+fn show_first(rt: &impl Print, s: &[u8]) -> io::Result<()> {
     let mut i = 0;
     while i < s.len() {
         if s[i] == 37 {
-            show_cuts(&s[..i]);
-            return;
+            return show_cuts(rt, &s[..i]);
         }
         i += 1;
     }
+    Ok(())
 }
 
 // The sheets in turn.
-fn show_all(s: &[u8]) {
+fn show_all(rt: &impl Print, s: &[u8]) -> io::Result<()> {
     let mut start = 0;
     let mut i = 0;
     while i < s.len() {
@@ -50,15 +55,16 @@ fn show_all(s: &[u8]) {
             i += 1;
             continue;
         }
-        show(&s[start..i]);
+        show(rt, &s[start..i])?;
         i += 1;
         start = i;
     }
+    Ok(())
 }
 
-fn main() {
-    let mut buffer = io::large_buffer();
-    let n = io::read_full(0, &mut buffer);
-    show_first(&buffer[..n]);
-    show_all(&buffer[..n]);
+fn main(rt: HostRuntime) -> io::Result<()> {
+    let mut buffer = [0u8; 65536];
+    let n = input::read_full(&mut rt.stdin(), &mut buffer)?;
+    show_first(&rt, &buffer[..n])?;
+    show_all(&rt, &buffer[..n])
 }

@@ -1,11 +1,14 @@
 // Reads a sheet, writes its records back into slices one byte short, exactly long enough and longer, and then records
 // that rows 4, 2, 3 and 5 refuse. For each it shows the refusal's two numbers, the bytes written, how many bytes agree
 // with the sheet, and the slice, which holds dots before.
-use route::Route;
+#![tactic(auto)]
 
-fn number(n: u64) {
-    io::print_decimal(1, n);
-    io::write_all(1, b" ");
+use route::Route;
+use std::io;
+
+fn number(rt: &impl Print, n: u64) -> io::Result<()> {
+    rt.print(n)?;
+    rt.write_all(b" ")
 }
 
 // How many bytes agree.
@@ -23,30 +26,45 @@ fn agree(a: &[u8], b: &[u8]) -> u64 {
     i as u64
 }
 
-fn show(s: &[u8], old: Route, new: Route, done: &[u32], out: &mut [u8]) {
+fn show(
+    rt: &impl Print,
+    s: &[u8],
+    old: Route,
+    new: Route,
+    done: &[u32],
+    out: &mut [u8],
+) -> io::Result<()> {
     let w = writer::writes::write(old, new, done, out);
-    number(w.number as u64);
-    number(w.second);
-    number(w.written);
-    number(agree(s, out));
-    io::write_all(1, out);
-    io::write_all(1, b"\n");
+    number(rt, w.number as u64)?;
+    number(rt, w.second)?;
+    number(rt, w.written)?;
+    number(rt, agree(s, out))?;
+    rt.write_all(out)?;
+    rt.write_all(b"\n")
 }
 
 // With a slice of `room` bytes.
-fn room(s: &[u8], old: Route, new: Route, done: &[u32], room: usize) {
+fn room(
+    rt: &impl Print,
+    s: &[u8],
+    old: Route,
+    new: Route,
+    done: &[u32],
+    room: usize,
+) -> io::Result<()> {
     let mut out = [46u8; 512];
     let k = counts::bytes(room, &out);
-    show(s, old, new, done, &mut out[..k]);
+    show(rt, s, old, new, done, &mut out[..k])
 }
 
-fn rooms(s: &[u8], old: Route, new: Route, done: &[u32]) {
+fn rooms(rt: &impl Print, s: &[u8], old: Route, new: Route, done: &[u32]) -> io::Result<()> {
     let n = s.len();
     if 0 < n && n < 500 {
-        room(s, old, new, done, n - 1);
-        room(s, old, new, done, n);
-        room(s, old, new, done, n + 8);
+        room(rt, s, old, new, done, n - 1)?;
+        room(rt, s, old, new, done, n)?;
+        room(rt, s, old, new, done, n + 8)?;
     }
+    Ok(())
 }
 
 fn no_step(r: Route) -> Route {
@@ -77,27 +95,27 @@ fn name_twice(r: Route) -> Route {
     q
 }
 
-fn refusals(s: &[u8], old: Route, new: Route, done: &[u32]) {
-    room(s, old, no_step(new), done, 16);
-    room(s, many_places(old), new, done, 16);
-    room(s, no_in_place(old), new, done, 16);
-    room(s, name_twice(old), new, done, 16);
+fn refusals(rt: &impl Print, s: &[u8], old: Route, new: Route, done: &[u32]) -> io::Result<()> {
+    room(rt, s, old, no_step(new), done, 16)?;
+    room(rt, s, many_places(old), new, done, 16)?;
+    room(rt, s, no_in_place(old), new, done, 16)?;
+    room(rt, s, name_twice(old), new, done, 16)
 }
 
-fn show_records(s: &[u8], old: Route, new: Route, done: &[u32]) {
-    rooms(s, old, new, done);
-    refusals(s, old, new, done);
+fn show_records(rt: &impl Print, s: &[u8], old: Route, new: Route, done: &[u32]) -> io::Result<()> {
+    rooms(rt, s, old, new, done)?;
+    refusals(rt, s, old, new, done)
 }
 
-fn show_sheet(s: &[u8]) {
+fn show_sheet(rt: &impl Print, s: &[u8]) -> io::Result<()> {
     let x = reader::reads::read(s);
     let done = x.done;
     let k = counts::names(x.done_len, &done);
-    show_records(s, x.old, x.new, &done[..k]);
+    show_records(rt, s, x.old, x.new, &done[..k])
 }
 
-fn main() {
-    let mut buffer = io::large_buffer();
-    let n = io::read_full(0, &mut buffer);
-    show_sheet(&buffer[..n]);
+fn main(rt: HostRuntime) -> io::Result<()> {
+    let mut buffer = [0u8; 65536];
+    let n = input::read_full(&mut rt.stdin(), &mut buffer)?;
+    show_sheet(&rt, &buffer[..n])
 }

@@ -7,8 +7,11 @@
 //     3   put of the eighth edition, the usual job's new route
 //     4   put on the same shelf, refused by 20
 //     5   judge from the full shelf, refused by 19
+#![tactic(auto)]
+
 use drive_script::numbers;
 use samples::lines;
+use std::io;
 
 mod rounds;
 mod usual;
@@ -26,22 +29,23 @@ fn sum(kind: u64, n: u64) -> u64 {
 }
 
 // A line for each pair.
-fn print_all(nums: &[u64]) {
+fn print_all(rt: &impl Print, nums: &[u64]) -> io::Result<()> {
     let mut at = 0;
     let mut left = nums.len() / 2;
     while 0 < left {
         let kind = numbers::at(nums, at, 0);
-        io::print_decimal(1, sum(kind, numbers::at(nums, at, 1)));
-        lines::end();
+        rt.print(sum(kind, numbers::at(nums, at, 1)))?;
+        lines::end(rt)?;
         at = std::num::wrapping_add_usize(at, 2);
         left -= 1;
     }
+    Ok(())
 }
 
-fn main() {
-    let mut text = io::buffer();
-    let n = io::read_full(0, &mut text);
+fn main(rt: HostRuntime) -> io::Result<()> {
+    let mut text = [0u8; 4096];
+    let n = input::read_full(&mut rt.stdin(), &mut text)?;
     let mut nums = [0u64; 16];
     let count = numbers::all(&text[..n], &mut nums);
-    print_all(&nums[..count]);
+    print_all(&rt, &nums[..count])
 }

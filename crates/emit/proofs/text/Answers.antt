@@ -1,5 +1,4 @@
 -- `emit::text`: byte by byte.
-use Prim.Native.Nat.{◌-◌}
 use borrow.Author.Rules.{rules}
 use Rattle.emit.proofs.Loops.{bytes-start, bytes-room, bytes-turn, bytes-end}
 use Rattle.emit.proofs.text.Goals as goal

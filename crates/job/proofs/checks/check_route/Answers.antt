@@ -1,0 +1,19 @@
+-- `job::checks::check_route`: the head, the steps, and whether there is one.
+use borrow.Author.Rules.{rules}
+use Rattle.job.proofs.Rows.{head-places, route-two, route-steps, route-none, route-pass}
+use Rattle.job.proofs.checks.check_route.Goals as goal
+
+pub returns-then-not-places_fit : goal.returns-then-not-places_fit
+returns-then-not-places_fit c = search (rules, route-two)
+
+pub check_steps-o-requires : goal.check_steps-o-requires
+check_steps-o-requires c = search (rules, head-places)
+
+pub returns-then-not-passed : goal.returns-then-not-passed
+returns-then-not-passed c = search (rules, route-steps)
+
+pub returns-then-count-eq0 : goal.returns-then-count-eq0
+returns-then-count-eq0 c = search (rules, route-none)
+
+pub returns : goal.returns
+returns c = search (rules, route-pass)

@@ -1,0 +1,24 @@
+-- `name_set::has`: where the hint is right the name is there; else by a scan.
+use mathlib.Core.Path.{refl}
+use borrow.Author.Rules.{rules}
+use Rattle.flat.specs.Flat.{steps_in}
+use Rattle.name_set.proofs.Among.{among-found, among-missed}
+use Rattle.name_set.proofs.DigitHints.{hint-none, hint-inside, hint-right}
+use Rattle.name_set.proofs.has.Goals as goal
+
+pub returns-then-k-eq0 : goal.returns-then-k-eq0
+returns-then-k-eq0 c = search (rules, hint-none)
+
+pub name_at-requires : goal.name_at-requires
+name_at-requires c =
+    let a = c in
+    hint-inside (steps_in a.args.steps.now) a.args.hint.now a.args.name _ a.requires refl c.if-k-eq0.false
+
+pub returns-then-name_at-name : goal.returns-then-name_at-name
+returns-then-name_at-name c = search (rules, hint-right)
+
+pub returns-in-At : goal.returns-in-At
+returns-in-At c = search (rules, among-found)
+
+pub returns-in-Nothing : goal.returns-in-Nothing
+returns-in-Nothing c = search (rules, among-missed)
