@@ -1,4 +1,6 @@
 // The rows from 6 to 12, where all lines pass: what try and judge start from.
+#![tactic(auto)]
+
 ghost use Rattle.std.specs.Prelude.{◌≡◌, ◌≤◌, length};
 ghost use Rattle.flat.specs.Flat.{steps_in};
 ghost use Rattle.job.specs.Job.{flat_job};
