@@ -1,4 +1,6 @@
 // What the listing shows of a list of occurrences: its rows, its last writers, its figures.
+#![tactic(auto)]
+
 use route::Marking;
 
 pub mod answers;

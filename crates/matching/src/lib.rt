@@ -1,4 +1,6 @@
 // How the new route matches a job's occurrences: straight replay, and rows 10 to 12.
+#![tactic(auto)]
+
 use route::Marking;
 
 pub mod rows;

@@ -1,4 +1,6 @@
 // The operation slice: the rows to 9, then what is kept and the table.
+#![tactic(auto)]
+
 ghost use Rattle.std.specs.Prelude.{◌≡◌};
 ghost use Rattle.job.specs.Job.{job_of, flat_job};
 ghost use Rattle.slicing.specs.Slicing.{sliced_stopped, sliced};

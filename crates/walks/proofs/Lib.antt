@@ -1,5 +1,2 @@
--- The walk that all operations over lent lists share.
-pub mod Slices
-pub mod HandedOn
+-- Two lent lists of records.
 pub mod Laying
-pub mod OverLists

@@ -1,1 +1,2 @@
-// No code: laws for walks by hand of functions that lay two lent lists of records and hand them on.
+// No code: two lists of records laid as numbers, as each operation over lent lists lays them.
+#![tactic(auto)]

@@ -1,5 +1,4 @@
 -- `lookup::first`: the position is the one found in what is left, moved on by what has been passed.
-use Prim.Native.Nat.{◌-◌}
 use borrow.Author.Rules.{rules}
 use Rattle.lookup.proofs.Position.{moved_none, find-hit, find-miss, find-end}
 use Rattle.lookup.proofs.first.Goals as goal

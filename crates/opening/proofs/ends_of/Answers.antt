@@ -1,6 +1,5 @@
 -- `opening::ends_of`: what is gathered so far, together with the union over the steps that are left, is the union
 -- over all.
-use Prim.Native.Nat.{◌-◌}
 use lib.Bits.{or_zero_l}
 use borrow.Author.Rules.{rules}
 use Rattle.route.proofs.StepList.{union-on, union-all}

@@ -1,7 +1,7 @@
 -- `flat::laying::lay`: the steps laid so far are the first of the route's.
 use mathlib.Core.Path.{refl}
 use native.Mathlib.Omega.{arith}
-use Prim.Native.Nat.{◌-◌, ◌≤◌, ◌<◌}
+use Prim.Native.Nat.{◌≤◌, ◌<◌}
 use lib.ListN.{length}
 use Rattle.flat.specs.Flat.{steps_in}
 use borrow.Author.Rules.{rules}

@@ -1,7 +1,7 @@
 -- `job::checks::check_steps`: the rows of the steps that are left, given the names of those passed, answer for all.
 use mathlib.Core.Path.{◌≡◌, ap}
 use mathlib.Core.List.{[]}
-use Prim.Native.Nat.{ℕ, ◌+◌, ◌-◌}
+use Prim.Native.Nat.{ℕ, ◌+◌}
 use native.Mathlib.Omega.{arith}
 use Rattle.refusal.specs.Rows.{first}
 use Rattle.flat.specs.Flat.{steps_in}
