@@ -1,4 +1,6 @@
 // Emitters of a sheet's lines, each line from its opening bracket to its LF. There is room for them, as for `emit`'s.
+#![tactic(auto)]
+
 ghost use Rattle.std.specs.Prelude.{[], map};
 ghost use Rattle.mask.specs.Mask.{members};
 ghost use Rattle.emit.specs.Emit.{Room, Emits};

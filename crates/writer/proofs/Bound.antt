@@ -20,7 +20,7 @@ use Rattle.job.specs.Lines.{line_rows}
 use Rattle.layout.specs.Words.{spelling}
 use Rattle.layout.specs.Text.{Form, Lines, digits, number, entries, listed, marked, step_line, word_line, job_line}
 use Rattle.layout.specs.Text.{step_lines, done_lines, job_text, text, Short, Shorts}
-use Rattle.layout.specs.declared.Word.TheVariants.{New, Job, In, Out, Read, Write}
+use Rattle.layout.specs.declared.Word.TheVariants.{New, In, Out, Read, Write}
 use Rattle.layout.proofs.Sound.{sound}
 use Rattle.facts.specs.Forms.{all_below}
 use Rattle.facts.specs.Facts.{read_by}
