@@ -1,4 +1,6 @@
 // Reading a sheet: layout and facts in one pass, into lent lists.
+#![tactic(auto)]
+
 ghost use Rattle.std.specs.Prelude.{◌≡◌};
 ghost use Rattle.reader.specs.Refused.{no_counts};
 
