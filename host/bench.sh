@@ -3,6 +3,6 @@
 # Rust twin's on the same sheets, and judge from a shelf and put beside judge by value, as ratios.
 set -euo pipefail
 cd "$(dirname "${BASH_SOURCE[0]}")/.."
-rt staticlib engine
-rt check time_shelf
+(cd crates/engine && rt lib)
+(cd crates/time_shelf && rt run <stdin >/dev/null)
 cargo run --offline --quiet --release --manifest-path host/Cargo.toml --bin bench

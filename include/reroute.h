@@ -1,6 +1,6 @@
 /* The route mover for sail jobs, for a host in C.
  *
- * Link target/staticlib/libengine.a, which `rt staticlib engine` makes. Both functions are total: whatever bytes they are lent, they read and write
+ * Link crates/engine/out/libengine.a, which `rt lib` in crates/engine makes. Both functions are total: whatever bytes they are lent, they read and write
  * nothing outside them, end, and return a number of docs/REFUSALS.md, 0 where all went well. They keep nothing between calls, call nothing of the C
  * library but memcpy and memset, and may run in several threads at once, each on buffers of its own.
  *

@@ -5,12 +5,12 @@ use std::fs::{self, File};
 use std::path::{Path, PathBuf};
 use std::process::Command;
 
-/// The program, where `rt check drive` leaves it.
+/// The program, where `rt ci`, or `rt run` in crates/drive, leaves it.
 fn program() -> PathBuf {
-    let program = Path::new(env!("CARGO_MANIFEST_DIR")).join("../target/bin/drive");
+    let program = Path::new(env!("CARGO_MANIFEST_DIR")).join("../crates/drive/out/drive");
     assert!(
         program.exists(),
-        "{} is missing: `rt check drive` makes it",
+        "{} is missing: `rt run` in crates/drive makes it",
         program.display()
     );
     program

@@ -48,13 +48,13 @@ fn times() -> [f64; KINDS.len()] {
 
 /// The time of a run in nanoseconds, and what it writes.
 fn run(kind: usize, rounds: u32) -> (f64, Vec<u8>) {
-    let program = Path::new(env!("CARGO_MANIFEST_DIR")).join("../target/bin/time_shelf");
+    let program = Path::new(env!("CARGO_MANIFEST_DIR")).join("../crates/time_shelf/out/time_shelf");
     let begin = Instant::now();
     let mut child = Command::new(program)
         .stdin(Stdio::piped())
         .stdout(Stdio::piped())
         .spawn()
-        .expect("no target/bin/time_shelf");
+        .expect("no crates/time_shelf/out/time_shelf");
     let mut input = child.stdin.take().expect("no standard input");
     writeln!(input, "{kind} {rounds}").expect("not written");
     drop(input);

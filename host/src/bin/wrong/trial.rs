@@ -2,17 +2,15 @@
 
 use crate::edit::{root, sorted, Edit};
 use crate::scripts::Script;
+use std::env;
 use std::fmt;
 use std::fs;
 use std::path::{Path, PathBuf};
 use std::process::Command;
 use std::thread;
 
-/// A program that takes longer is not run to its end.
-const SECONDS: &str = "120";
-
-/// `rt try` compiles a program in three ways.
-const WAYS: usize = 3;
+/// All scripts together take no longer.
+const SECONDS: &str = "600";
 
 pub enum Verdict {
     /// On the script of this number, the first that tells, and how.
@@ -46,7 +44,8 @@ pub struct Trial {
 
 impl Trial {
     pub fn new(number: usize) -> Trial {
-        let folder = root().join(format!("target/wrong/{number}"));
+        // beside the repository: `rt ci` wants no code but that of its crates
+        let folder = env::temp_dir().join(format!("wrong-programs/{number}"));
         let _ = fs::remove_dir_all(&folder);
         for from in sorted(&root().join("crates")) {
             let name = from.file_name().expect("no name");
@@ -83,46 +82,72 @@ impl Trial {
 
     /// The first script that the program, as it stands here, answers wrongly.
     pub fn first_wrong(&self, scripts: &[Script]) -> Verdict {
+        let said = self.try_drive(scripts);
+        let lines: Vec<&str> = said.lines().collect();
         for (script, number) in scripts.iter().zip(1..) {
-            let said = self.try_drive(script);
-            let ok = |line: &&str| line.starts_with("ok: the native program");
-            if said.lines().filter(ok).count() < WAYS {
-                return match how_wrong(&said, script) {
-                    Some(how) => Verdict::Wrong {
-                        script: number,
-                        how,
-                    },
-                    None => Verdict::NotRun(said.lines().next().unwrap_or("").to_string()),
-                };
-            }
+            let case = format!("case={} ", name(number));
+            let Some(end) = lines.iter().position(|line| line.starts_with(&case)) else {
+                return Verdict::NotRun(lines.first().unwrap_or(&"").to_string());
+            };
+            let line = lines[end];
+            let how = if line.contains("run=fault") {
+                "a fault".to_string()
+            } else if line.contains("output=differs") {
+                how_wrong(&lines[..end], script)
+            } else if line.contains("output=expected") {
+                continue;
+            } else {
+                return Verdict::NotRun(line.to_string());
+            };
+            return Verdict::Wrong {
+                script: number,
+                how,
+            };
         }
         Verdict::Right
     }
 
-    /// What `rt try` says of the program and this script.
-    fn try_drive(&self, script: &Script) -> String {
+    /// What `rt try` says of the program and these scripts: it compiles it once,
+    /// with checks, and runs it on each.
+    fn try_drive(&self, scripts: &[Script]) -> String {
         let drive = self.folder.join("crates/drive");
-        fs::write(drive.join("stdin"), &script.text).expect("no room");
-        fs::write(drive.join("stdout"), script.answer()).expect("no room");
+        let cases = self.folder.join("cases");
+        fs::create_dir_all(&cases).expect("no room");
+        for (script, number) in scripts.iter().zip(1..) {
+            fs::write(cases.join(name(number)), &script.text).expect("no room");
+            let answer = cases.join(format!("{}.stdout", name(number)));
+            fs::write(answer, script.answer()).expect("no room");
+        }
+        // one step: the interpreter, which would be slow, gives no answer
         let ran = Command::new("timeout")
-            .args([SECONDS, "rt", "try", "drive"])
-            .current_dir(&self.folder)
+            .args([SECONDS, "rt", "try", "--steps", "1", "--cases"])
+            .arg(&cases)
+            .current_dir(drive)
             .output()
             .expect("rt doesn't run");
         String::from_utf8_lossy(&[ran.stdout, ran.stderr].concat()).into_owned()
     }
 }
 
-/// Where the compiled program first writes otherwise, or that it ends in a fault.
-fn how_wrong(said: &str, script: &Script) -> Option<String> {
-    let mut lines = said.lines();
-    let fail = lines.find(|line| line.starts_with("FAIL: the native program"))?;
-    if !fail.contains("ended") {
-        return Some("a fault".to_string());
+/// A script's file: they are run in the order of their names.
+fn name(number: usize) -> String {
+    format!("{number:03}")
+}
+
+/// Where the program first writes otherwise: the last that was said before the
+/// script's own line.
+fn how_wrong(said: &[&str], script: &Script) -> String {
+    let at = |line: &&str| -> Option<usize> {
+        let (_, byte) = line.split_once(": at byte ")?;
+        byte.split(',').next()?.parse().ok()
+    };
+    match said.iter().rev().find_map(at) {
+        Some(byte) => {
+            let (line, operation) = script.operation_at(byte);
+            format!("line {line}, operation {operation}")
+        }
+        None => "the output differs".to_string(),
     }
-    let byte = lines.find_map(|line| line.strip_prefix("on standard output, at byte "))?;
-    let (line, operation) = script.operation_at(byte.split(',').next()?.parse().ok()?);
-    Some(format!("line {line}, operation {operation}"))
 }
 
 fn copy(from: &Path, to: &Path) {
