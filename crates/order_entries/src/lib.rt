@@ -1,4 +1,6 @@
 // Rows 16, 17 and 18: the entries of an order.
+#![tactic(auto)]
+
 ghost use Rattle.std.specs.Prelude.{◌≡◌, true, not, ◌&&◌, List, map, ℕ, ◌-◌, ◌≤◌, ◌<◌, length};
 ghost use Rattle.mask.specs.Mask.{has};
 ghost use Rattle.flat.specs.Flat.{steps_in};
