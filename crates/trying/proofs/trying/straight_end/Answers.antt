@@ -5,8 +5,7 @@ use borrow.Author.Rules.{rules}
 use borrow.Author.Tests.{not-true, not-false}
 use Rattle.matching.specs.declared.End.{End}
 use Rattle.matching.specs.declared.End.TheVariants.{Stuck}
-use Rattle.trying.proofs.trying.straight_end.Statement.{statement}
-use Rattle.trying.proofs.trying.straight_end.Tie as tie
+use Rattle.trying.proofs.trying.straight_end.Goals as goal
 
 module _ (straight : End) (t x : Bool) (is : t ≡ x) where
   other : not t ≡ true → Stuck ≡ cond x straight Stuck
@@ -15,11 +14,8 @@ module _ (straight : End) (t x : Bool) (is : t ≡ x) where
   same : not t ≡ false → straight ≡ cond x straight Stuck
   same on = ap (λ (b : Bool). cond b straight Stuck) (sym (not-false t on) ∙ is)
 
-returns : tie.Need-returns
-returns c = search (rules, other)
+pub returns-then-not-in_turn : goal.returns-then-not-in_turn
+returns-then-not-in_turn c = search (rules, other)
 
-returns-2 : tie.Need-returns-2
-returns-2 c = search (rules, same)
-
-pub straight-end-spec : {M : Type 1} → statement M
-straight-end-spec = tie.close (tie.spec (λ c κs. search rules) returns returns-2)
+pub returns : goal.returns
+returns c = search (rules, same)
