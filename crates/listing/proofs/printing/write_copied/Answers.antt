@@ -17,6 +17,6 @@ slice_bounds-copy-end c = search (room, prefix-long)
 
 pub returns : goal.returns
 returns c = record {
-      value = search (room, copied-answer);
-      out_after = search (room, copied-out);
-    }
+  value = search (room, copied-answer);
+  out_after = search (room, copied-out);
+}

@@ -9,6 +9,6 @@ text-end-requires c = search (rules, text-room, listing-fits)
 
 pub returns : goal.returns
 returns c = record {
-      value = search (rules, whole-answer, listing-fits);
-      out_after = search (rules, whole_out, listing-fits);
-    }
+  value = search (rules, whole-answer, listing-fits);
+  out_after = search (rules, whole_out, listing-fits);
+}
