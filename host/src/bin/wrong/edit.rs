@@ -54,7 +54,11 @@ impl Edit {
     /// Changes code alone, and code that drive reaches: not the C form.
     pub fn is_driven(&self) -> bool {
         // a clause says one of these words, and no line of code does
-        let clause = |text: &str| ["≡", "requires", ".now"].iter().any(|word| text.contains(word));
+        let clause = |text: &str| {
+            ["≡", "requires", ".now"]
+                .iter()
+                .any(|word| text.contains(word))
+        };
         let code = |change: &Change| change.file.starts_with("src/") && !clause(&change.old);
         self.crate_name != "engine" && self.changes.iter().all(code)
     }
