@@ -1,4 +1,2 @@
--- Reading into lent lists: what it answers, and the calls that its walk makes.
+-- Reading into lent lists: what it answers.
 pub mod Counting
-pub mod Lays
-mod CountedCall

@@ -1,4 +1,6 @@
 // Reading a sheet into lent lists.
+#![tactic(auto)]
+
 ghost use Rattle.std.specs.Prelude.{◌≡◌, ◌≤◌, length, replicate};
 ghost use Rattle.records.specs.Overlaid.{overlaid};
 ghost use Rattle.facts.specs.Facts.{read_of};

@@ -1,4 +1,6 @@
 // The shelf: up to eight editions of a route with rising numbers, and jobs judged between two of them.
+#![tactic(auto)]
+
 use route::Route;
 
 pub mod between;

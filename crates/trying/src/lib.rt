@@ -1,2 +1,4 @@
 // Try: an order that somebody hands in.
+#![tactic(auto)]
+
 pub mod trying;

@@ -13,6 +13,6 @@ slice_bounds-judge_lists-end-2 c = sym (length-take-le _ _ (search rules))
 
 pub returns : goal.returns
 returns c = record {
-      value = search (rules, judged-laid);
-      work_after = search (rules, work-laid);
-    }
+  value = search (rules, judged-laid);
+  work_after = search (rules, work-laid);
+}

@@ -7,9 +7,9 @@ use Rattle.judging.proofs.judging.judge_checked.Goals as goal
 
 pub returns-then-not-passed : goal.returns-then-not-passed
 returns-then-not-passed c = record {
-      value = search (rules, judged-refused);
-      work_after = search (rules, work-refused);
-    }
+  value = search (rules, judged-refused);
+  work_after = search (rules, work-refused);
+}
 
 pub slice_bounds-occurrences-end : goal.slice_bounds-occurrences-end
 slice_bounds-occurrences-end c = search (rules, numbers-room)
@@ -25,9 +25,9 @@ slice_bounds-judge_prepared-end-2 c = search (rules, numbers-count)
 
 pub judge_prepared-requires : goal.judge_prepared-requires
 judge_prepared-requires c = record {
-      passing = search (rules, prepared-passing);
-      in_bounds = search rules;
-    }
+  passing = search (rules, prepared-passing);
+  in_bounds = search rules;
+}
 
 pub returns : goal.returns
 returns c =

@@ -19,11 +19,11 @@ placed-list-requires c = search (rules, columns-few)
 pub answered-requires : goal.answered-requires
 answered-requires c =
     let room : Room c.columns-c.result = record {
-  few = search (rules, columns-few);
-  ins-room = search rules;
-  outs-room = search rules;
-  before-room = search rules;
-} in
+      few = search (rules, columns-few);
+      ins-room = search rules;
+      outs-room = search rules;
+      before-room = search rules;
+    } in
     let order = c in
     let found = c in
     let searched = c in
@@ -42,11 +42,11 @@ answered-requires c =
 pub returns-in-Of : goal.returns-in-Of
 returns-in-Of c =
     let room : Room c.columns-c.result = record {
-  few = search (rules, columns-few);
-  ins-room = search rules;
-  outs-room = search rules;
-  before-room = search rules;
-} in
+      few = search (rules, columns-few);
+      ins-room = search rules;
+      outs-room = search rules;
+      before-room = search rules;
+    } in
     let order = c in
     let found = c in
     let searched = c in
@@ -62,11 +62,11 @@ returns-in-Of c =
 pub returns-in-Nothing : goal.returns-in-Nothing
 returns-in-Nothing c =
     let room : Room c.columns-c.result = record {
-  few = search (rules, columns-few);
-  ins-room = search rules;
-  outs-room = search rules;
-  before-room = search rules;
-} in
+      few = search (rules, columns-few);
+      ins-room = search rules;
+      outs-room = search rules;
+      before-room = search rules;
+    } in
     let searched = c in
     let cols = c in
     let start = c in

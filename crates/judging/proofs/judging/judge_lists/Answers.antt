@@ -6,18 +6,18 @@ use Rattle.judging.proofs.judging.judge_lists.Goals as goal
 
 pub returns-then-work-lt-WORK : goal.returns-then-work-lt-WORK
 returns-then-work-lt-WORK c = record {
-      value = search (rules, judged-short);
-      work_after = search (rules, work-short);
-    }
+  value = search (rules, judged-short);
+  work_after = search (rules, work-short);
+}
 
 pub returns-then-not-passed : goal.returns-then-not-passed
 returns-then-not-passed c = record {
-      value = search (rules, judged-line);
-      work_after = search (rules, work-line);
-    }
+  value = search (rules, judged-line);
+  work_after = search (rules, work-line);
+}
 
 pub judge_checked-requires : goal.judge_checked-requires
 judge_checked-requires c = record {
-      lines_pass = search (rules, lines-pass);
-      in_bounds = search rules;
-    }
+  lines_pass = search (rules, lines-pass);
+  in_bounds = search rules;
+}
