@@ -1,5 +1,7 @@
-// The operations over lent lists, lent the first records of two arrays: the first n of `a` and the first m of `b`. (A
-// local that is a lent list of records takes a walk by hand, so a program calls these.)
+// The operations over lent lists, lent the first records of two arrays: the first n of `a` and the first m of `b`, for
+// a program whose records stand in arrays.
+#![tactic(auto)]
+
 ghost use Rattle.std.specs.Prelude.{◌≡◌, ◌≤◌, ◌++◌, length, take, drop};
 ghost use Rattle.running.specs.Run.{ran};
 ghost use Rattle.slicing.specs.Slicing.{sliced};

@@ -1,5 +1,7 @@
 // The operations over lent lists of step records: each lays both lists into numbers, and lends those to the operation
 // over lists of numbers. (The arrays have other names in each, so that an edit of must-fail/ can name its line.)
+#![tactic(auto)]
+
 ghost use Rattle.std.specs.Prelude.{◌≡◌, length};
 ghost use Rattle.running.specs.Run.{ran};
 ghost use Rattle.slicing.specs.Slicing.{sliced};

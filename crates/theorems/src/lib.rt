@@ -1,1 +1,3 @@
+#![tactic(auto)]
+
 // The theorems over the definitions of the crates below. No code.
