@@ -20,7 +20,7 @@ impl<'a> Table<'a> {
         Table(text.split("\n\n").filter_map(definition).collect())
     }
 
-    /// A list of lines: `"line" ∷ list`, `[]`, `set list k "line"`, `E .field` or a name.
+    /// A list of lines: `"line" ∷ list`, `[]`, `set list k "line"`, `E.field` or a name.
     fn lines(&self, list: &str) -> Vec<String> {
         let list = list.trim();
         if list == "[]" {
@@ -38,7 +38,7 @@ impl<'a> Table<'a> {
             lines[at] = words[2].trim_matches('"').to_string();
             return lines;
         }
-        match list.split_once(" .") {
+        match list.split_once('.') {
             Some((example, field)) => self.field(example, field),
             None => self.lines(self.0[list]),
         }
