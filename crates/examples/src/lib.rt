@@ -1,3 +1,2 @@
-#![tactic(auto)]
-
 // 01's examples A to L, proved about the definitions of the crates below. No code.
+#![tactic(auto)]

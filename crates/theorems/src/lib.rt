@@ -1,3 +1,2 @@
-#![tactic(auto)]
-
 // The theorems over the definitions of the crates below. No code.
+#![tactic(auto)]
