@@ -8,9 +8,9 @@ use Rattle.ops.proofs.print.answer.Goals as goal
 
 pub returns-then-c-ne0 : goal.returns-then-c-ne0
 returns-then-c-ne0 c = record {
-      value = search (rules, answer-refused);
-      work_after = search (rules, work-refused);
-    }
+  value = search (rules, answer-refused);
+  work_after = search (rules, work-refused);
+}
 
 pub slice_bounds-old-end : goal.slice_bounds-old-end
 slice_bounds-old-end c = search (rules, old-room)
@@ -32,9 +32,9 @@ slice_bounds-judge_checked-end-3 c = sym (length-take-le _ _ (search rules))
 
 pub judge_checked-requires : goal.judge_checked-requires
 judge_checked-requires c = record {
-      lines_pass = search (rules, read-passes);
-      in_bounds = search rules;
-    }
+  lines_pass = search (rules, read-passes);
+  in_bounds = search rules;
+}
 
 pub returns : goal.returns
 returns c =

@@ -6,17 +6,17 @@ use Rattle.ops.proofs.print.print.Goals as goal
 
 pub returns-then-work-lt-WORK : goal.returns-then-work-lt-WORK
 returns-then-work-lt-WORK c = record {
-      value = search (rules, printed-short);
-      work_after = search (rules, work-short);
-      out_after = search (rules, out-short);
-    }
+  value = search (rules, printed-short);
+  work_after = search (rules, work-short);
+  out_after = search (rules, out-short);
+}
 
 pub write_listing-requires : goal.write_listing-requires
 write_listing-requires c = search (rules, answer-length)
 
 pub returns : goal.returns
 returns c = record {
-      value = search (rules, printed-long);
-      work_after = search rules;
-      out_after = search (rules, out-long);
-    }
+  value = search (rules, printed-long);
+  work_after = search rules;
+  out_after = search (rules, out-long);
+}

@@ -12,24 +12,24 @@ ruleset inside = (rules, entry-fits, edition-inside, target-inside)
 
 pub returns-then-work-lt-WORK : goal.returns-then-work-lt-WORK
 returns-then-work-lt-WORK c = record {
-      value = search (rules, between-short);
-      work_after = search (rules, between-short-work);
-    }
+  value = search (rules, between-short);
+  work_after = search (rules, between-short-work);
+}
 
 pub returns-in-Bad : goal.returns-in-Bad
 returns-in-Bad c = record {
-      value = search (rules, between-bad);
-      work_after = search (rules, between-bad-work);
-    }
+  value = search (rules, between-bad);
+  work_after = search (rules, between-bad-work);
+}
 
 pub returns-in-Nothing : goal.returns-in-Nothing
 returns-in-Nothing c = record {
-      value = search (rules, between-nothing);
-      work_after = search (rules, between-nothing-work);
-    }
+  value = search (rules, between-nothing);
+  work_after = search (rules, between-nothing-work);
+}
 
 pub returns-in-At : goal.returns-in-At
 returns-in-At c = record {
-      value = search (rules, between-judged);
-      work_after = search (rules, between-judged-work);
-    }
+  value = search (rules, between-judged);
+  work_after = search (rules, between-judged-work);
+}

@@ -1,6 +1,5 @@
 -- `shelf::editions::numbers_in`: the numbers taken so far are the first of the entries'.
 use mathlib.Core.Path.{◌≡◌, refl}
-use Prim.Native.Nat.{◌-◌}
 use lib.ListN.{length}
 use borrow.Author.Rules.{rules}
 use Rattle.shelf.proofs.Numbers.{numbers_more, numbers-all}

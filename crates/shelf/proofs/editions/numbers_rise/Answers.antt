@@ -1,6 +1,5 @@
 -- `shelf::editions::numbers_rise`: the numbers left rise from the last one passed.
 use mathlib.Core.Path.{refl}
-use Prim.Native.Nat.{◌-◌}
 use borrow.Author.Rules.{rules}
 use Rattle.shelf.proofs.Numbers.{rise-stops, rise-on, rise-end}
 use Rattle.shelf.proofs.editions.numbers_rise.Goals as goal

@@ -1,5 +1,4 @@
 -- `shelf::editions::position_of`: the position is the one found in what is left, moved on by what has been passed.
-use Prim.Native.Nat.{◌-◌}
 use borrow.Author.Rules.{rules}
 use Rattle.lookup.proofs.Position.{moved_none, position-hit, position-miss, position-end}
 use Rattle.shelf.proofs.editions.position_of.Goals as goal
