@@ -1,10 +1,10 @@
 // Reads sheets from standard input, each ended by `%`, and writes for each: the refusal's two numbers, the two place
 // counts, the two step counts, how many done names, and the length of the job part. Before that the first sheet is read
+// cut off at every length.
 #![tactic(auto)]
 
 use std::io;
 
-// cut off at every length.
 fn number(rt: &impl Print, n: u64) -> io::Result<()> {
     rt.print(n)?;
     rt.write_all(b" ")
