@@ -11,6 +11,7 @@ ghost use Rattle.judging.specs.Judge.{judged, work_after};
 ghost use Rattle.judging.specs.inner.Passing.{Passing};
 ghost use Rattle.judging.specs.inner.Answers.{AnswersStraight, AnswersFirst, AnswersRows, Works};
 
+use mask::Mask;
 use answering::answers::{answered, stop, straight_order};
 use answering::{Judged, Placed};
 use candidates::gathering::{columns, placed, search_columns};
@@ -28,7 +29,7 @@ fn judge_straight(occurrences: &[u64], rows: [u64; 64], vars: u32, marking: Mark
     ensures { AnswersStraight rows vars marking.tokens (steps_in occurrences.now) result }
 {
     let len = flat::count(occurrences);
-    let kept = mask::below64(len as u64);
+    let kept = u64::below(len as u64);
     let order = straight_order(len);
     let list = Placed {
         len,
