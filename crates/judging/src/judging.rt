@@ -19,7 +19,6 @@ use mask::Mask;
 use precedence::table_of;
 use preparing::{Prepared, prepare};
 use route::{Marking, Route};
-use search::Sequence;
 use work_slice::WORK;
 
 // The straight list, after which all count as kept.
@@ -55,14 +54,11 @@ fn judge_kept(
 {
     let start = p.start;
     let c = columns(p.kept, &rows, matches);
-    let found = search_columns(c, start, work);
-    match found {
-        Sequence::Of(order) => {
-            let list = placed(c, order, start);
-            answered(occurrences, &rows, p.vars, p.kept, list)
-        }
-        Sequence::Nothing => stop(13, p.line),
-    }
+    let Some(order) = search_columns(c, start, work) else {
+        return stop(13, p.line);
+    };
+    let list = placed(c, order, start);
+    answered(occurrences, &rows, p.vars, p.kept, list)
 }
 
 // What judge answers in a job that no row to 12 refuses.
