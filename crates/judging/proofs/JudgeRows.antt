@@ -28,8 +28,8 @@ use Rattle.matching.proofs.Matched.{length-matched}
 use Rattle.matching.proofs.KeptRows.{limit-holds, members-same}
 use Rattle.answering.specs.Answer.{padded, judge_stopped, answer}
 use Rattle.search.specs.Candidates.{first_order, sequence}
-use Rattle.search.specs.declared.Sequence.{Sequence}
-use Rattle.search.specs.declared.Sequence.TheVariants.{Of, Nothing}
+use Rattle.std.specs.Prelude
+use Rattle.std.specs.Prelude.{Some, None}
 use Rattle.candidates.specs.FirstFit.{first_fit}
 use Rattle.candidates.specs.inner.Columns.{ColumnsOf, Packed, positions, placed_by}
 use Rattle.candidates.specs.declared.Columns.{Columns}
@@ -174,10 +174,10 @@ module _ {p : Prepared} {l t : List Step} (k : Passing p l t) (rows : List ℕ) 
   columns-are : ColumnsOf p.kept rows (matched k.new l) c
   columns-are = subst (λ (x : List Step). ColumnsOf p.kept rows x c) k.matches-are cols
 
-  module _ (table_is : rows ≡ table l) (room : Room c) (r : Sequence)
+  module _ (table_is : rows ≡ table l) (room : Room c) (r : Prelude.Option ℕ)
       (e : r ≡ sequence (first_order (take c.len c.ins) (take c.len c.outs) (take c.len c.before)
       p.start.tokens)) where
-    pub none-judged : r ≡ Nothing → (z : Judged) → z ≡ judge_stopped 13 p.line
+    pub none-judged : r ≡ None → (z : Judged) → z ≡ judge_stopped 13 p.line
         → z ≡ judge_found p.line p.start.tokens k.new l (first_fit p.start.tokens k.new l)
     none-judged f z is =
         is
@@ -185,7 +185,7 @@ module _ {p : Prepared} {l t : List Step} (k : Passing p l t) (rows : List ℕ) 
         (none-fit k.new l p.kept rows c k.kept-is (passing-same k) table_is columns-are room p.start.tokens
         r e f)
 
-    module _ (x : ℕ) (of : r ≡ Of x) (q : Placed)
+    module _ (x : ℕ) (of : r ≡ Some x) (q : Placed)
         (placed : (o : List ℕ) → Packed x c.len o → q ≡ placed_by c p.start.tokens o) where
       found : Found k.new l c p.start.tokens x
       found = order-fit k.new l p.kept rows c k.kept-is (passing-same k) table_is columns-are room

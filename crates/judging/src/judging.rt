@@ -11,6 +11,7 @@ ghost use Rattle.judging.specs.Judge.{judged, work_after};
 ghost use Rattle.judging.specs.inner.Passing.{Passing};
 ghost use Rattle.judging.specs.inner.Answers.{AnswersStraight, AnswersFirst, AnswersRows, Works};
 
+use mask::Mask;
 use answering::answers::{answered, stop, straight_order};
 use answering::{Judged, Placed};
 use candidates::gathering::{columns, placed, search_columns};
@@ -20,7 +21,6 @@ use matching::End;
 use precedence::table_of;
 use preparing::{Prepared, prepare};
 use route::{Marking, Route};
-use search::Sequence;
 use work_slice::WORK;
 
 // The straight list, after which all count as kept.
@@ -29,7 +29,7 @@ fn judge_straight(occurrences: &[u64], rows: [u64; 64], vars: u32, marking: Mark
     ensures { AnswersStraight rows vars marking.tokens (steps_in occurrences.now) result }
 {
     let len = flat::count(occurrences);
-    let kept = mask::below64(len as u64);
+    let kept = u64::below(len as u64);
     let order = straight_order(len);
     let list = Placed {
         len,
@@ -56,14 +56,11 @@ fn judge_kept(
 {
     let start = p.start;
     let c = columns(p.kept, &rows, matches);
-    let found = search_columns(c, start, work);
-    match found {
-        Sequence::Of(order) => {
-            let list = placed(c, order, start);
-            answered(occurrences, &rows, p.vars, p.kept, list)
-        }
-        Sequence::Nothing => stop(13, p.line),
-    }
+    let Some(order) = search_columns(c, start, work) else {
+        return stop(13, p.line);
+    };
+    let list = placed(c, order, start);
+    answered(occurrences, &rows, p.vars, p.kept, list)
 }
 
 // What judge answers in a job that no row to 12 refuses.

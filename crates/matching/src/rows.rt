@@ -9,6 +9,7 @@ ghost use Rattle.matching.specs.KeptRows.{kept_lines, kept_rows};
 ghost use Rattle.matching.specs.inner.Matched.{straight_end};
 ghost use Rattle.matching.specs.inner.Matches.{MatchesOf, same_mask, is_at};
 
+use mask::Mask;
 use crate::End;
 use refusal::Outcome;
 use route::Route;
@@ -19,7 +20,7 @@ fn limited(straight: End, kept: u64) -> bool
 {
     match straight {
         End::At(_) => true,
-        End::Stuck => mask::count64(kept) as usize <= Route::KEPT,
+        End::Stuck => kept.count() as usize <= Route::KEPT,
     }
 }
 
@@ -30,7 +31,7 @@ fn kept_lines(kept: u64, same: u64, matches: &[u64], line: u64) -> Outcome
     ensures { (new l : List Step) → MatchesOf new l matches.now → same ≡ same_mask new l
         → result ≡ first (kept_lines new l line (members 64 kept)) }
 {
-    let wrong = mask::without64(kept, same);
+    let wrong = kept.without(same);
     if wrong == 0 {
         return Outcome::pass();
     }

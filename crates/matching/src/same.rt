@@ -5,6 +5,7 @@ ghost use Rattle.flat.specs.Flat.{steps_in};
 ghost use Rattle.matching.specs.Straight.{same_data};
 ghost use Rattle.matching.specs.inner.Matches.{MatchesOf, present, same_mask};
 
+use mask::Mask;
 use route::Step;
 
 // The match `t` is there, reads and writes what `s` does, and has its mark.
@@ -40,7 +41,7 @@ pub fn same_mask(occurrences: &[u64], matches: &[u64]) -> u64
             i += 1;
             continue;
         }
-        same |= mask::bit64(i);
+        same |= u64::bit(i);
         i += 1;
     }
     same

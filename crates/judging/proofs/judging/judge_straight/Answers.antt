@@ -25,4 +25,4 @@ returns c from new rows vars m =
     c.answered.ensures from new (in_turn 0 (length done)) rows vars
     (straight-list from new done _ _ _ n order.straight_order-order.ensures m)
     ∙ ap (λ (k : ℕ). answer from new done k (in_turn 0 (length done)))
-    (kept.below64-kept.ensures ∙ ap (λ (k : ℕ). below k) n)
+    (kept.below-kept.ensures ∙ ap (λ (k : ℕ). below k) n)

@@ -15,4 +15,4 @@ returns-in-At c = ap (λ (e : End). is_at e || leb (count 64 c.args.kept) 16) (s
 pub returns-in-Stuck : goal.returns-in-Stuck
 unfolding is_at
 returns-in-Stuck c =
-    ap₂ (λ (e : End) (n : ℕ). is_at e || leb n 16) (sym c.in-Stuck.is) c.count64.ensures
+    ap₂ (λ (e : End) (n : ℕ). is_at e || leb n 16) (sym c.in-Stuck.is) c.count.ensures
