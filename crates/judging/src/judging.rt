@@ -11,12 +11,12 @@ ghost use Rattle.judging.specs.Judge.{judged, work_after};
 ghost use Rattle.judging.specs.inner.Passing.{Passing};
 ghost use Rattle.judging.specs.inner.Answers.{AnswersStraight, AnswersFirst, AnswersRows, Works};
 
-use mask::Mask;
 use answering::answers::{answered, stop, straight_order};
 use answering::{Judged, Placed};
 use candidates::gathering::{columns, placed, search_columns};
 use flat::laying::lay;
 use job::checks::check_lines;
+use mask::Mask;
 use matching::End;
 use precedence::table_of;
 use preparing::{Prepared, prepare};

@@ -9,8 +9,8 @@ ghost use Rattle.matching.specs.KeptRows.{kept_lines, kept_rows};
 ghost use Rattle.matching.specs.inner.Matched.{straight_end};
 ghost use Rattle.matching.specs.inner.Matches.{MatchesOf, same_mask, is_at};
 
-use mask::Mask;
 use crate::End;
+use mask::Mask;
 use refusal::Outcome;
 use route::Route;
 
