@@ -9,8 +9,8 @@ ghost use Rattle.precedence.specs.Table.{table};
 ghost use Rattle.answering.specs.Answer.{padded, after_of, writer_of, judge_stopped};
 ghost use Rattle.answering.specs.inner.Listed.{AnswersList};
 
-use mask::Mask;
 use crate::{Judged, Placed};
+use mask::Mask;
 use route::Marking;
 
 // The rows of the kept, with the kept alone.
