@@ -61,15 +61,16 @@ module _ (s : Shelf) (edition target : ℕ) (v : List ℕ) (are : v ≡ numbers_
   stored-none : (n : ℕ) → position n (take s.len v) ≡ None → route_of n (editions_of s) ≡ maybe.none
   stored-none n e = route-none n (editions_of s) (stored n None e)
 
-  -- the job of two routes that stand so
+  -- the job, by whether the target is later
   abbrev job : Bool → List ℕ → maybe.Option Job
   job later done =
       cond later (job_of_routes (route_of edition (editions_of s)) (route_of target (editions_of s)) done) maybe.none
 
+  -- a job of the routes that stand so, or none
   abbrev pub JobAt : (List ℕ → maybe.Option Job) → Option (ℕ × ℕ) → Type 0
   JobAt job None = (done : List ℕ) → job done ≡ maybe.none
-  JobAt job (Some (i, j)) = (i < 8) × ((j < 8) × ((done : List ℕ) (d : Edition)
-      → job done ≡ maybe.some (job_of (get_or s.editions i d).route (get_or s.editions j d).route done)))
+  JobAt job (Some (i, j)) = (i < 8) × (j < 8) × ((done : List ℕ) (d : Edition)
+      → job done ≡ maybe.some (job_of (get_or s.editions i d).route (get_or s.editions j d).route done))
 
   job-stands : JobAt (job_between s edition target) (entries_in edition target (take s.len v))
   unfolding entries_in job_between job_of_routes
@@ -85,11 +86,9 @@ module _ (s : Shelf) (edition target : ℕ) (v : List ℕ) (are : v ≡ numbers_
           (stored-none target q)
       go true (Some i) p (Some j) q = (
         inside edition i p,
-        (
-          inside target j q,
-          λ done d.
-              ap₂ (λ (x y : maybe.Option Route). job_of_routes x y done) (stored-at edition i d p) (stored-at target j d q),
-        ),
+        inside target j q,
+        λ done d.
+            ap₂ (λ (x y : maybe.Option Route). job_of_routes x y done) (stored-at edition i d p) (stored-at target j d q),
       )
 
   -- by what was found
@@ -105,11 +104,11 @@ module _ (s : Shelf) (edition target : ℕ) (v : List ℕ) (are : v ≡ numbers_
       edition-inside = (stands (Some (i, j)) is).0
 
       pub target-inside : j < 8
-      target-inside = (stands (Some (i, j)) is).1.0
+      target-inside = (stands (Some (i, j)) is).1
 
       pub the_job : (done : List ℕ) (d : Edition) → job_between s edition target done
           ≡ maybe.some (job_of (get_or s.editions i d).route (get_or s.editions j d).route done)
-      the_job = (stands (Some (i, j)) is).1.1
+      the_job = (stands (Some (i, j)) is).2
 
 -- ---- the look-ups in turn, and where both numbers stand
 

@@ -41,15 +41,19 @@ module _ (s : Shelf) (edition target : ℕ) (done : List ℕ) where
       go true (maybe.some j) = work-short j work h
       go false j = refl
 
-  -- the numbers stored say whether the shelf is good
+  -- a bad shelf, where there is room
+  pub between-twenty-one : good_shelf s ≡ false → (room : ℕ) (r : Judged) → 8192 ≤ room → r ≡ judge_stopped 21 1
+      → r ≡ judged_between s edition target done room
+  unfolding judged_between
+  between-twenty-one off room r h e = e ∙ cond_no _ _ refl off ∙ cond_yes _ _ refl (le-leb 8192 room h)
+
+  -- the numbers stored say whether it is good
   module _ (v : List ℕ) (are : v ≡ numbers_in s.editions) (full : length s.editions ≡ 8) (t : Bool)
       (test : t ≡ (leb s.len (length v) && rise 0 (take s.len v))) where
     module _ (bad : not t ≡ true) where
       pub between-bad : (room : ℕ) (r : Judged) → 8192 ≤ room → r ≡ judge_stopped 21 1
           → r ≡ judged_between s edition target done room
-      unfolding judged_between
-      between-bad room r h e =
-          e ∙ cond_no _ _ refl (good-no s v are full t test bad) ∙ cond_yes _ _ refl (le-leb 8192 room h)
+      between-bad = between-twenty-one (good-no s v are full t test bad)
 
       pub between-bad-work : (work : List ℕ) → work ≡ work_between s edition target done work
       unfolding work_between
