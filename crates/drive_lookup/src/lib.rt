@@ -3,26 +3,20 @@
 #![tactic(auto)]
 
 use drive_script::{ends, numbers};
-use lookup::Found;
 use std::io;
 
 // Steps of these names, with nothing else, as numbers.
 fn steps_named(list: [u32; 100]) -> [u64; 400] {
     let mut steps = [0u64; 400];
-    let mut i = 0;
-    while i < 100 {
-        steps[4 * i] = drive_out::wide32(list[i]);
-        i += 1;
+    for (i, &name) in list.iter().enumerate() {
+        steps[4 * i] = u64::from(name);
     }
     steps
 }
 
 // The place counted from 1, and 0 for none.
-fn place(found: Found) -> u64 {
-    match found {
-        Found::At(k) => std::num::wrapping_add_u64(k as u64, 1),
-        Found::Nothing => 0,
-    }
+fn place(found: Option<usize>) -> u64 {
+    found.map_or(0, |k| (k as u64).wrapping_add(1))
 }
 
 pub fn find(
@@ -37,8 +31,7 @@ pub fn find(
     let rest = ends::names(nums, at);
     let from = numbers::at(nums, rest, 0) as usize;
     let l = lookup::find(&steps[..4 * len], from, drive_load::word(nums, rest, 1));
-    let found = l.found;
-    let answer = [place(found), l.compared as u64, l.next as u64];
+    let answer = [place(l.found), l.compared as u64, l.next as u64];
     drive_out::numbers(rt, o, n, &answer)
 }
 

@@ -1,160 +1,113 @@
--- Look-up by name: the position among the names, and the step there. The loop's invariant is that the position is the
--- one found in what is left, moved on by what has been passed.
-use mathlib.Core.Path.{◌≡◌, refl, sym, ap, ◌∙◌}
-use mathlib.Core.Bool.{Bool, true, false, cond, true≢false}
+-- Look-up by name: the position is the first place that has the name, and the step of a name stands there. A scan from
+-- the top has passed only other names.
+use mathlib.Core.Path.{◌≡◌, refl, sym, ◌∙◌}
+use mathlib.Core.Bool.{cond}
 use mathlib.Core.List.{List, [], ◌∷◌, map}
-use mathlib.Core.Option.{Option, none, some}
-use Prim.Native.Nat.{ℕ, zero, suc, ◌+◌, ◌≤◌, ◌<◌}
+use mathlib.Core.Option as maybe
+use Prim.Native.Nat.{ℕ, ◌+◌, ◌≤◌, ◌<◌}
 use native.Mathlib.Omega.{arith}
-use native.Mathlib.Nat.{le_of_suc-le-suc, not-suc-le-zero}
-use native.Mathlib.Numerals.{add-one}
 use lib.Dec.{eqb}
-use lib.ListN.{length, drop, get_or, drop_of_length-le}
-use lib.Seq.{drop-cons}
-use borrow.Author.Tests.{eqb-true, eq-eqb, ne_eqb}
+use lib.ListN.{length, get_or, length-map}
+use borrow.Author.Tests.{eqb-true, eqb-false, eq-eqb, ne_eqb}
+use Rattle.std.specs.Prelude.{false, Some, None}
+use Rattle.std.specs.List.{position_or_len}
+use borrow.Author.Count.{below_more}
+use Rattle.std.proofs.lemmas.Grind.{common_steps}
+use Rattle.std.proofs.lemmas.List.{get_or-map}
+use Rattle.std.proofs.lemmas.List.Sums.{position_or_len_is, fails_before_first}
+use Rattle.std.proofs.lemmas.List.Quantifiers.{position-Some}
+use Rattle.std.proofs.lemmas.List.Recursion as recursion
 use Rattle.route.specs.Steps.{blank, names, lookup}
 use Rattle.route.specs.declared.Step.{Step}
 use Rattle.route.proofs.StepList.{length-names, get_or-names}
-use Rattle.lookup.specs.Position.{position, moved}
-use Rattle.lookup.specs.declared.Found.{Found}
-use Rattle.lookup.specs.declared.Found.TheVariants.{At, Nothing}
+use Rattle.lookup.specs.Position.{position}
 
-pub moved_none : (f : Found) → moved 0 f ≡ f
-unfolding moved
-moved_none (At k) = ap At (omega arith)
-moved_none Nothing = refl
+-- none of the first i names is n
+abbrev pub Lacks : ℕ → List ℕ → ℕ → Type 0
+Lacks n l i = (k : ℕ) → k < i → get_or l k 0 ≡ n → ⊥
 
-moved_on : (i : ℕ) (f : Found) → moved i (moved 1 f) ≡ moved (i + 1) f
-unfolding moved
-moved_on i (At k) = ap At (omega arith)
-moved_on i Nothing = refl
+module _ (n : ℕ) (l : List ℕ) where
+  unequal : (k : ℕ) → eqb (get_or l k 0) n ≡ false → get_or l k 0 ≡ n → ⊥
+  unequal k e = eqb-false (get_or l k 0) n e
 
-module _ (n : ℕ) (column : List ℕ) (whole : Found) where
-  pub position-hit : (i : ℕ) → i < length column → moved i (position n (drop i column)) ≡ whole → get_or column i 0 ≡ n
-      → At i ≡ whole
-  unfolding moved position
-  position-hit i h inv e =
-      ap At here
-      ∙ sym (ap (λ (t : Bool). moved i (cond t (At 0) (moved 1 (position n (drop (suc i) column)))))
-      (eq-eqb (get_or column i 0) n e))
-      ∙ ap (λ (l : List ℕ). moved i (position n l)) (sym (drop-cons column i 0 h)) ∙ inv
-    where
-      here : i ≡ i + 0
-      here = omega arith
-
-  pub position-miss : (i : ℕ) → i < length column → moved i (position n (drop i column)) ≡ whole
-      → (get_or column i 0 ≡ n → ⊥) → moved (i + 1) (position n (drop (i + 1) column)) ≡ whole
+  pub position_is : (i : ℕ) → i < length l → Lacks n l i → get_or l i 0 ≡ n → position n l ≡ Some i
   unfolding position
-  position-miss i h inv e =
-      ap (λ (m : ℕ). moved (i + 1) (position n (drop m column))) (add-one i)
-      ∙ sym (moved_on i (position n (drop (suc i) column)))
-      ∙ sym (ap (λ (t : Bool). moved i (cond t (At 0) (moved 1 (position n (drop (suc i) column)))))
-      (ne_eqb (get_or column i 0) n e))
-      ∙ ap (λ (l : List ℕ). moved i (position n l)) (sym (drop-cons column i 0 h))
-      ∙ inv
+  position_is i h above here =
+      let at : position_or_len (λ x. eqb x n) l ≡ i =
+      position_or_len_is (λ x. eqb x n) l i 0 (omega arith) (λ k b. ne_eqb (get_or l k 0) n (above k b))
+      (λ b. eq-eqb (get_or l i 0) n here) in
+      grind (arith, common_steps)
 
-  pub position-end : (i : ℕ) → length column ≤ i → moved i (position n (drop i column)) ≡ whole → Nothing ≡ whole
-  unfolding moved position
-  position-end i h inv = ap (λ (l : List ℕ). moved i (position n l)) (sym (drop_of_length-le column {i = i} h)) ∙ inv
+  pub position-nowhere : Lacks n l (length l) → position n l ≡ None
+  unfolding position
+  position-nowhere lacks =
+      let at : position_or_len (λ x. eqb x n) l ≡ length l =
+      position_or_len_is (λ x. eqb x n) l (length l) 0 (omega arith) (λ k b. ne_eqb (get_or l k 0) n (lacks k b))
+      (λ b. absurd (omega arith)) in
+      grind (arith, common_steps)
+
+  module _ (k : ℕ) (e : position n l ≡ Some k) where
+    pub position-below : k < length l
+    unfolding position
+    position-below = (position-Some (λ x. eqb x n) l k 0 e).0
+
+    pub position_at : get_or l k 0 ≡ n
+    unfolding position
+    position_at = eqb-true (get_or l k 0) n (position-Some (λ x. eqb x n) l k 0 e).1
+
+    pub position-first : Lacks n l k
+    unfolding position
+    position-first j h = unequal j ((position-Some (λ x. eqb x n) l k 0 e).2 j h)
+
+  pub position-lacks : position n l ≡ None → Lacks n l (length l)
+  unfolding position
+  position-lacks e k h =
+      let none : length l ≤ position_or_len (λ x. eqb x n) l = grind (arith, common_steps) in
+      unequal k (fails_before_first (λ x. eqb x n) l k 0 (omega arith))
 
 -- the turns of a search through the steps, of which there are `count`; `x` is the name at i
-module _ (n : ℕ) (l : List Step) (i count x : ℕ) (whole : Found) (counted : count ≡ length l)
-    (inv : moved i (position n (drop i (names l))) ≡ whole) where
-  within-names : i < count → i < length (names l)
-  within-names h = omega (arith, length-names l)
+module _ (n : ℕ) (l : List Step) (i count x : ℕ) (counted : count ≡ length l) (above : Lacks n (names l) i) where
+  pub find-hit : i < count → x ≡ (get_or l i blank).name → x ≡ n → Some i ≡ position n (names l)
+  find-hit h is e =
+      sym (position_is n (names l) i (omega (arith, length-names l)) above (get_or-names l i ∙ sym is ∙ e))
 
-  pub find-hit : i < count → x ≡ (get_or l i blank).name → x ≡ n → At i ≡ whole
-  find-hit h is e = position-hit n (names l) whole i (within-names h) inv (get_or-names l i ∙ sym is ∙ e)
+  pub find-miss : x ≡ (get_or l i blank).name → (x ≡ n → ⊥) → Lacks n (names l) (i + 1)
+  find-miss is other =
+      below_more (λ k. get_or (names l) k 0 ≡ n → ⊥) i above (λ e. other (is ∙ sym (get_or-names l i) ∙ e))
 
-  pub find-miss : i < count → x ≡ (get_or l i blank).name → (x ≡ n → ⊥)
-      → moved (i + 1) (position n (drop (i + 1) (names l))) ≡ whole
-  find-miss h is e = position-miss n (names l) whole i (within-names h) inv (λ p. e (is ∙ sym (get_or-names l i) ∙ p))
+  pub find-end : count ≤ i → None ≡ position n (names l)
+  find-end past = sym (position-nowhere n (names l) (λ k h. above k (omega (arith, length-names l))))
 
-  pub find-end : count ≤ i → Nothing ≡ whole
-  find-end h = position-end n (names l) whole i (omega (arith, length-names l)) inv
+-- what the first entry of that key has is what the entry at the key's position has
+module _ {A B : Type 0} (key : A → ℕ) (value : A → B) (find : ℕ → List A → maybe.Option B)
+    (nowhere : (n : ℕ) → find n [] ≡ maybe.none)
+    (next : (n : ℕ) (x : A) (l : List A) → find n (x ∷ l) ≡ cond (eqb (key x) n) (maybe.some (value x)) (find n l))
+    (n : ℕ) (l : List A) (d : A) where
+  keyed : (k : ℕ) → k < length l → get_or (map key l) k 0 ≡ key (get_or l k d)
+  keyed k h = get_or-map key l k d 0 h
 
--- ---- what a position says of the list: it is within it, the name stands there, and where there is none nothing has it
+  pub found_at : (k : ℕ) → position n (map key l) ≡ Some k → find n l ≡ maybe.some (value (get_or l k d))
+  found_at k e =
+      let inside : k < length l = omega (arith, position-below n (map key l) k e, length-map l key) in
+      recursion.found_at (find n) (λ x. eqb (key x) n) (λ x. maybe.some (value x)) maybe.none (nowhere n) (next n) l k d
+      inside
+      (λ j h. ne_eqb (key (get_or l j d)) n
+      (λ p. position-first n (map key l) k e j h (keyed j (omega arith) ∙ p)))
+      (eq-eqb (key (get_or l k d)) n (sym (keyed k inside) ∙ position_at n (map key l) k e))
 
-at-nowhere : (k : ℕ) → Nothing ≡ At k → ⊥
-at-nowhere k e = let z : ◌≡◌ {A = ℕ} 0 1 = cc in omega arith
-
-pub at-inj : (j k : ℕ) → At j ≡ At k → j ≡ k
-at-inj j k e = cc
-
-pub position-below : (n : ℕ) (l : List ℕ) (k : ℕ) → position n l ≡ At k → k < length l
-unfolding position moved
-position-below n [] k e = absurd (at-nowhere k e)
-position-below n (x ∷ l) k e = go (eqb x n) (position n l) refl e (position-below n l)
-  where
-    go : (t : Bool) (f : Found) → position n l ≡ f → cond t (At 0) (moved 1 f) ≡ At k
-        → ((j : ℕ) → position n l ≡ At j → j < length l) → k < suc (length l)
-    go true f p q ih = omega (arith, at-inj 0 k q)
-    go false (At j) p q ih = omega (arith, at-inj (1 + j) k q, ih j p)
-    go false Nothing p q ih = absurd (at-nowhere k q)
-
-pub position_at : (n : ℕ) (l : List ℕ) (k : ℕ) → position n l ≡ At k → get_or l k 0 ≡ n
-unfolding position moved
-position_at n [] k e = absurd (at-nowhere k e)
-position_at n (x ∷ l) k e = go (eqb x n) refl (position n l) refl e (position_at n l)
-  where
-    go : (t : Bool) → eqb x n ≡ t → (f : Found) → position n l ≡ f → cond t (At 0) (moved 1 f) ≡ At k
-        → ((j : ℕ) → position n l ≡ At j → get_or l j 0 ≡ n) → get_or (x ∷ l) k 0 ≡ n
-    go true b f p q ih = ap (λ (j : ℕ). get_or (x ∷ l) j 0) (sym (at-inj 0 k q)) ∙ eqb-true x n b
-    go false b (At j) p q ih =
-        let next : k ≡ suc j = omega (arith, at-inj (1 + j) k q) in ap (λ (m : ℕ). get_or (x ∷ l) m 0) next ∙ ih j p
-    go false b Nothing p q ih = absurd (at-nowhere k q)
-
-pub position-lacks : (n : ℕ) (l : List ℕ) → position n l ≡ Nothing → (k : ℕ) → k < length l → get_or l k 0 ≡ n → ⊥
-unfolding position moved
-position-lacks n [] e k h is = not-suc-le-zero h
-position-lacks n (x ∷ l) e k h is = go (eqb x n) refl (position n l) refl e (position-lacks n l) k h is
-  where
-    go : (t : Bool) → eqb x n ≡ t → (f : Found) → position n l ≡ f → cond t (At 0) (moved 1 f) ≡ Nothing
-        → (position n l ≡ Nothing → (k : ℕ) → k < length l → get_or l k 0 ≡ n → ⊥)
-        → (k : ℕ) → k < length (x ∷ l) → get_or (x ∷ l) k 0 ≡ n → ⊥
-    go true b f p q ih k h is = at-nowhere 0 (sym q)
-    go false b (At j) p q ih k h is = at-nowhere (1 + j) (sym q)
-    go false b Nothing p q ih zero h is = true≢false (sym (eq-eqb x n is) ∙ b)
-    go false b Nothing p q ih (suc k) h is = ih p k (le_of_suc-le-suc h) is
-
--- whatever is found by its number is what stands at the number's position: `find` goes through a list for the first
--- entry of that key
-module _ {A B : Type 0} (key : A → ℕ) (value : A → B) (find : ℕ → List A → Option B)
-    (nowhere : (n : ℕ) → find n [] ≡ none)
-    (next : (n : ℕ) (x : A) (l : List A) → find n (x ∷ l) ≡ cond (eqb (key x) n) (some (value x)) (find n l)) where
-  pub found_at : (n : ℕ) (l : List A) (k : ℕ) (d : A) → position n (map key l) ≡ At k
-      → find n l ≡ some (value (get_or l k d))
-  unfolding position moved
-  found_at n [] k d e = cc
-  found_at n (x ∷ l) k d e = next n x l ∙ go (eqb (key x) n) (position n (map key l)) refl e (found_at n l)
-    where
-      go : (t : Bool) (f : Found) → position n (map key l) ≡ f → cond t (At 0) (moved 1 f) ≡ At k
-          → ((j : ℕ) (d : A) → position n (map key l) ≡ At j → find n l ≡ some (value (get_or l j d)))
-          → cond t (some (value x)) (find n l) ≡ some (value (get_or (x ∷ l) k d))
-      go true f p q ih = let z : 0 ≡ k = cc in ap (λ (j : ℕ). some (value (get_or (x ∷ l) j d))) z
-      go false (At j) p q ih =
-          let z : 1 + j ≡ k = cc in
-          let next : suc j ≡ k = omega arith in
-          ih j d p ∙ ap (λ (m : ℕ). some (value (get_or (x ∷ l) m d))) next
-      go false Nothing p q ih = cc
-
-  pub found_nowhere : (n : ℕ) (l : List A) → position n (map key l) ≡ Nothing → find n l ≡ none
-  unfolding position moved
-  found_nowhere n [] e = nowhere n
-  found_nowhere n (x ∷ l) e = next n x l ∙ go (eqb (key x) n) (position n (map key l)) refl e (found_nowhere n l)
-    where
-      go : (t : Bool) (f : Found) → position n (map key l) ≡ f → cond t (At 0) (moved 1 f) ≡ Nothing
-          → (position n (map key l) ≡ Nothing → find n l ≡ none) → cond t (some (value x)) (find n l) ≡ none
-      go true f p q ih = cc
-      go false (At j) p q ih = cc
-      go false Nothing p q ih = ih p
+  pub found_nowhere : position n (map key l) ≡ None → find n l ≡ maybe.none
+  found_nowhere e =
+      recursion.found_nowhere (find n) (λ x. eqb (key x) n) (λ x. maybe.some (value x)) maybe.none (nowhere n) (next n)
+      l d
+      (λ k h. ne_eqb (key (get_or l k d)) n
+      (λ p. position-lacks n (map key l) e k (omega (arith, length-map l key)) (keyed k h ∙ p)))
 
 -- so is the step of a name
-pub lookup-at : (n : ℕ) (l : List Step) (k : ℕ) → position n (names l) ≡ At k → lookup n l ≡ some (get_or l k blank)
+pub lookup-at : (n : ℕ) (l : List Step) (k : ℕ) → position n (names l) ≡ Some k
+    → lookup n l ≡ maybe.some (get_or l k blank)
 unfolding lookup names
-lookup-at n l k =
-    found_at (λ (s : Step). s.name) (λ (s : Step). s) lookup (λ n. refl) (λ n s l. refl) n l k blank
+lookup-at n l = found_at (λ s. s.name) (λ s. s) lookup (λ n. refl) (λ n s l. refl) n l blank
 
-pub lookup-none : (n : ℕ) (l : List Step) → position n (names l) ≡ Nothing → lookup n l ≡ none
+pub lookup-none : (n : ℕ) (l : List Step) → position n (names l) ≡ None → lookup n l ≡ maybe.none
 unfolding lookup names
-lookup-none = found_nowhere (λ (s : Step). s.name) (λ (s : Step). s) lookup (λ n. refl) (λ n s l. refl)
+lookup-none n l = found_nowhere (λ s. s.name) (λ s. s) lookup (λ n. refl) (λ n s l. refl) n l blank

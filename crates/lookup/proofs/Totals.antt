@@ -1,7 +1,6 @@
 -- How many names look-ups in turn compare: all at most each time, at least one, and one where the name stands just
 -- below.
 use mathlib.Core.Path.{◌≡◌, refl, sym, ap, ◌∙◌}
-use mathlib.Core.Bool.{Bool, cond}
 use mathlib.Core.List.{List, [], ◌∷◌, ◌++◌, append-nil}
 use Prim.Native.Nat.{ℕ, suc, ◌+◌, ◌*◌, ◌≤◌, ◌<◌}
 use native.Mathlib.Omega.{arith}
@@ -9,13 +8,13 @@ use native.Mathlib.Nat.{suc-mul, mul-le-mul}
 use native.Mathlib.Numerals.{add-one}
 use lib.ListN.{length, take, drop, get_or, length-take, length-drop, length-append, drop_of_length-le}
 use lib.Seq.{drop-cons, take_all}
-use borrow.Author.Tests.{eq-eqb}
-use Rattle.lookup.specs.Position.{position, moved}
-use Rattle.lookup.specs.Around.{around, compared, found_from, or_above, next_from, looked, compared_from}
+use Rattle.std.specs.Prelude.{Option, Some, None, option_map}
+use Rattle.std.specs.Option.{option_or}
+use Rattle.lookup.specs.Position.{position}
+use Rattle.lookup.specs.Around.{around, compared, found_from, next_from, looked, compared_from}
 use Rattle.lookup.specs.Follows.{Follows, done, below, round}
-use Rattle.lookup.specs.declared.Found.{Found}
-use Rattle.lookup.specs.declared.Found.TheVariants.{At, Nothing}
 use Rattle.lookup.specs.declared.Looked.{Looked}
+use Rattle.lookup.proofs.Position.{position_is}
 use Rattle.lookup.proofs.Around.{compared-most, looked-below}
 
 length-around : (from : ℕ) (l : List ℕ) → length (around from l) ≡ length l
@@ -62,34 +61,34 @@ total-least from l (n ∷ sought) some =
 
 -- the name that stands where a look-up begins costs one comparison
 pub looked-here : (from n : ℕ) (l : List ℕ) → from < length l → get_or l from 0 ≡ n
-    → looked from n l ≡ record { found = At from; compared = 1; next = suc from }
+    → looked from n l ≡ record { found = Some from; compared = 1; next = suc from }
 unfolding position
 looked-here from n l h is =
     sym (looked-below from n l 0 first)
-    ∙ ap (λ (k : ℕ). record { found = At k; compared = 1; next = k + 1 }) (omega arith)
-    ∙ ap (λ (k : ℕ). record { found = At from; compared = 1; next = k }) (add-one from)
+    ∙ ap (λ (k : ℕ). record { found = Some k; compared = 1; next = k + 1 }) (omega arith)
+    ∙ ap (λ (k : ℕ). record { found = Some from; compared = 1; next = k }) (add-one from)
   where
-    first : position n (drop from l) ≡ At 0
+    first : position n (drop from l) ≡ Some 0
     first =
         ap (position n) (drop-cons l from 0 h)
-        ∙ ap (λ (t : Bool). cond t (At 0) (moved 1 (position n (drop (suc from) l)))) (eq-eqb (get_or l from 0) n is)
+        ∙ position_is n (get_or l from 0 ∷ drop (suc from) l) 0 (omega arith) (λ k b. absurd (omega arith)) is
 
 -- so does the one just below a step that was found
-pub looked-next : (from n : ℕ) (l : List ℕ) (k : ℕ) → (looked from n l).found ≡ At k → suc k < length l
+pub looked-next : (from n : ℕ) (l : List ℕ) (k : ℕ) → (looked from n l).found ≡ Some k → suc k < length l
     → looked (looked from n l).next (get_or l (suc k) 0) l
-    ≡ record { found = At (suc k); compared = 1; next = suc (suc k) }
+    ≡ record { found = Some (suc k); compared = 1; next = suc (suc k) }
 unfolding looked next_from
 looked-next from n l k e h =
-    ap (λ (f : Found). looked (next_from from f) (get_or l (suc k) 0) l) e
+    ap (λ (f : Option ℕ). looked (next_from from f) (get_or l (suc k) 0) l) e
     ∙ looked-here (suc k) (get_or l (suc k) 0) l h refl
 
 found-top : (n : ℕ) (l : List ℕ) → found_from 0 n l ≡ position n l
-unfolding found_from or_above moved position
+unfolding found_from position
 found-top n l = go (position n l) refl
   where
-    go : (f : Found) → position n l ≡ f → or_above (moved 0 f) Nothing ≡ f
-    go (At k) e = ap At (omega arith)
-    go Nothing e = refl
+    go : (f : Option ℕ) → position n l ≡ f → option_or (option_map (λ k. 0 + k) f) None ≡ f
+    go (Some k) e = ap Some (omega arith)
+    go None e = refl
 
 -- past the last a look-up begins at the top
 module _ (from : ℕ) (l : List ℕ) (past : length l ≤ from) where
@@ -102,24 +101,24 @@ module _ (from : ℕ) (l : List ℕ) (past : length l ≤ from) where
       ap (λ (x : List ℕ). x ++ take from l) lower-none ∙ take_all from l past ∙ sym (append-nil l)
 
   found-past : (n : ℕ) → found_from from n l ≡ position n l
-  unfolding found_from or_above moved position
+  unfolding found_from position
   found-past n =
-      ap (λ (x : List ℕ). or_above (moved from (position n x)) (position n (take from l))) lower-none
+      ap (λ (x : List ℕ). option_or (option_map (λ k. from + k) (position n x)) (position n (take from l))) lower-none
       ∙ ap (position n) (take_all from l past)
 
   pub total-round : (sought : List ℕ) → compared_from from l sought ≡ compared_from 0 l sought
   unfolding compared_from looked next_from
   total-round [] = refl
   total-round (n ∷ sought) =
-      ap (λ (f : Found). compared n (around from l) + compared_from (next_from from f) l sought) (found-past n)
+      ap (λ (f : Option ℕ). compared n (around from l) + compared_from (next_from from f) l sought) (found-past n)
       ∙ ap (λ (x : List ℕ). compared n x + compared_from (next_from from (position n l)) l sought) around-top
       ∙ ap (λ (m : ℕ). compared n (around 0 l) + m) (go (position n l) (total-round sought))
-      ∙ ap (λ (f : Found). compared n (around 0 l) + compared_from (next_from 0 f) l sought) (sym (found-top n l))
+      ∙ ap (λ (f : Option ℕ). compared n (around 0 l) + compared_from (next_from 0 f) l sought) (sym (found-top n l))
     where
-      go : (f : Found) → compared_from from l sought ≡ compared_from 0 l sought
+      go : (f : Option ℕ) → compared_from from l sought ≡ compared_from 0 l sought
           → compared_from (next_from from f) l sought ≡ compared_from (next_from 0 f) l sought
-      go (At k) ih = refl
-      go Nothing ih = ih
+      go (Some k) ih = refl
+      go None ih = ih
 
 pub total-follows : (from : ℕ) (l sought : List ℕ) → Follows l from sought → compared_from from l sought ≡ length sought
 unfolding compared_from

@@ -1,9 +1,9 @@
 -- Look-up from where we were: "Finding a name shall begin after the step found last, the first time or past the last
 -- step at the top, and go round to the top."
 use Rattle.std.specs.Prelude.{◌≡◌, cond, List, [], ◌∷◌, ◌++◌, ℕ, suc, ◌+◌, ◌<◌, eqb, length, get_or, take, drop}
-use Rattle.lookup.specs.Position.{position, moved}
-use Rattle.lookup.specs.declared.Found.{Found}
-use Rattle.lookup.specs.declared.Found.TheVariants.{At, Nothing}
+use Rattle.std.specs.Prelude.{Option, Some, None, option_map}
+use Rattle.std.specs.Option.{option_or}
+use Rattle.lookup.specs.Position.{position}
 use Rattle.lookup.specs.declared.Looked.{Looked}
 
 -- the names in the order in which they are compared: those from the beginning to the last, then those above the
@@ -16,19 +16,14 @@ unfoldable pub compared : ℕ → List ℕ → ℕ
 compared n [] = 0
 compared n (x ∷ l) = suc (cond (eqb x n) 0 (compared n l))
 
--- what was found below, or else above
-unfoldable pub or_above : Found → Found → Found
-or_above (At k) above = At k
-or_above Nothing above = above
-
 -- where it stands: the first of that name from the beginning on, or else the first above it
-unfoldable pub found_from : ℕ → ℕ → List ℕ → Found
-found_from from n l = or_above (moved from (position n (drop from l))) (position n (take from l))
+unfoldable pub found_from : ℕ → ℕ → List ℕ → Option ℕ
+found_from from n l = option_or (option_map (λ k. from + k) (position n (drop from l))) (position n (take from l))
 
 -- the next look-up begins "after the step found last"; where none was found the beginning stays
-unfoldable pub next_from : ℕ → Found → ℕ
-next_from from (At k) = suc k
-next_from from Nothing = from
+unfoldable pub next_from : ℕ → Option ℕ → ℕ
+next_from from (Some k) = suc k
+next_from from None = from
 
 -- the look-up of one name
 unfoldable pub looked : ℕ → ℕ → List ℕ → Looked

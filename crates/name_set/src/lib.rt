@@ -8,8 +8,6 @@ ghost use Rattle.name_set.specs.Among.{among};
 ghost use Rattle.name_set.specs.inner.Hints.{Hinted};
 ghost use Rattle.flat.specs.Flat.{steps_in};
 
-use lookup::Found;
-
 // One more name, at `place`: the first of its last digit stays.
 pub fn add(hint: &mut [u8; 256], name: u32, place: usize)
     requires { place < 64 }
@@ -34,8 +32,5 @@ pub fn has(hint: &[u8; 256], steps: &[u64], name: u32) -> bool
     if flat::name_at(steps, k - 1) == name {
         return true;
     }
-    match lookup::first(steps, name) {
-        Found::At(_) => true,
-        Found::Nothing => false,
-    }
+    lookup::first(steps, name).is_some()
 }

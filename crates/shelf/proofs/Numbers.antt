@@ -9,6 +9,8 @@ use borrow.Author.Tests.{not-true, not-false, lt-ltb, le-ltb, le-leb, lt-leb}
 use lib.Dec.{ltb, leb}
 use lib.ListN.{length, take, drop, get_or, set, length-map, drop_of_length-le}
 use lib.Seq.{drop-cons, take_all, take-suc, take-suc-set}
+use Rattle.std.specs.Prelude.{slice_get, unwrap_or}
+use Rattle.std.proofs.lemmas.Option.{unwrap_or-slice_get}
 use Rattle.mask.proofs.Truth.{and_yes, and_no}
 use Rattle.shelf.specs.Shelf.{numbers_in, number_fits, rise, last_of}
 use Rattle.shelf.specs.declared.Edition.{Edition}
@@ -84,19 +86,14 @@ so-many l n t h is = and_yes refl (le-leb n (length l) h) is
 
 -- ---- the last number
 
-pub last_none : (l : List ℕ) → length l ≡ 0 → 0 ≡ last_of 0 l
-unfolding last_of
-last_none [] e = refl
-last_none (x ∷ l) e = absurd (omega (arith, e))
-
 last-from : (d n : ℕ) (l : List ℕ) → get_or (n ∷ l) (length l) d ≡ last_of n l
 unfolding last_of
 last-from d n [] = refl
 last-from d n (x ∷ l) = last-from d x l
 
-pub last-at : (l : List ℕ) → (length l ≡ 0 → ⊥) → get_or l (length l - 1) 0 ≡ last_of 0 l
+pub last_is : (l : List ℕ) → unwrap_or (slice_get l (length l - 1)) 0 ≡ last_of 0 l
 unfolding last_of
-last-at [] e = absurd (e refl)
-last-at (x ∷ l) e =
+last_is [] = refl
+last_is (x ∷ l) =
     let last : length (x ∷ l) - 1 ≡ length l = omega arith in
-    ap (λ (k : ℕ). get_or (x ∷ l) k 0) last ∙ last-from 0 x l
+    unwrap_or-slice_get (x ∷ l) (length (x ∷ l) - 1) 0 ∙ ap (λ (k : ℕ). get_or (x ∷ l) k 0) last ∙ last-from 0 x l

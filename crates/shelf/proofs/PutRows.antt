@@ -13,7 +13,7 @@ use Rattle.refusal.proofs.Rows.{rows-passed}
 use Rattle.route.specs.Steps.{steps_of}
 use Rattle.route.specs.declared.Route.{Route}
 use Rattle.job.specs.Alone.{alone_rows}
-use Rattle.mask.proofs.Truth.{cond_yes}
+use Rattle.mask.proofs.Truth.{cond_yes, cond_no}
 use Rattle.shelf.specs.Shelf.{numbers_in, number_fits, rise, last_of, last_number, good_shelf}
 use Rattle.shelf.specs.Put.{shelf_rows, put_row, with_edition, stored}
 use Rattle.shelf.specs.declared.Shelf.{Shelf}
@@ -85,14 +85,6 @@ module _ (s : Shelf) (n : ℕ) (r : Route) (o : Outcome) (is : o ≡ first (shel
   unfolding put_row
   put-goes-on on p rows = rows ∙ sym (rows_pass (shelf_rows s n) _ (rows_of ∙ not-false t on))
 
--- one edition more, where the rows pass
-module _ (s : Shelf) (t : Bool) (on : t ≡ true) where
-  pub room_for : (t ≡ true → s.len < 8) → s.len < 8
-  room_for room = room on
-
-  pub one_more : (n : ℕ) (r : Route) (b : Shelf) → b ≡ with_edition s n r → b ≡ cond t (with_edition s n r) s
-  one_more n r b is = is ∙ cond_yes _ _ refl on
-
 -- the answer, where all rows are in hand
 module _ (s : Shelf) (n : ℕ) (r : Route) (o : Outcome) (is : o ≡ put_row s n r) (t : Bool)
     (test : t ≡ eqb o.number 0) where
@@ -102,7 +94,7 @@ module _ (s : Shelf) (n : ℕ) (r : Route) (o : Outcome) (is : o ≡ put_row s n
       (shelf-passes s n
       (rows-passed (shelf_rows s n) _ (ap (λ (x : Outcome). eqb x.number 0) (sym is) ∙ sym test ∙ on)).0).1.1
 
-  pub put-answers : (b : Shelf) → b ≡ cond t (with_edition s n r) s
+  put-answers : (b : Shelf) → b ≡ cond t (with_edition s n r) s
       → record { number = o.number; second = o.second; shelf = b } ≡ stored s n r
   unfolding stored
   put-answers b more =
@@ -110,3 +102,10 @@ module _ (s : Shelf) (n : ℕ) (r : Route) (o : Outcome) (is : o ≡ put_row s n
       more ∙ ap (λ (x : Bool). cond x (with_edition s n r) s)
       (test ∙ ap (λ (x : Outcome). eqb x.number 0) is) in
       λ i. record { number = (is i).number; second = (is i).second; shelf = shelf-is i }
+
+  pub put-stored : t ≡ true → (b : Shelf) → b ≡ with_edition s n r
+      → record { number = o.number; second = o.second; shelf = b } ≡ stored s n r
+  put-stored on b more = put-answers b (more ∙ cond_yes _ _ refl on)
+
+  pub put-refused : t ≡ false → record { number = o.number; second = o.second; shelf = s } ≡ stored s n r
+  put-refused off = put-answers s (cond_no _ _ refl off)

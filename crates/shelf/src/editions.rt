@@ -4,7 +4,6 @@ ghost use Rattle.shelf.specs.Shelf.{no_shelf, number_fits, rise, last_of, number
 ghost use Rattle.lookup.specs.Position.{position};
 
 use crate::{Edition, Shelf};
-use lookup::Found;
 use route::Route;
 
 impl Shelf {
@@ -28,15 +27,12 @@ impl Shelf {
 }
 
 // The numbers of all eight entries.
-pub(crate) fn numbers_in(s: Shelf) -> [u32; 8]
-    ensures { (result ≡ numbers_in s.editions) × (length s.editions ≡ 8) }
+pub(crate) fn numbers_in(s: &Shelf) -> [u32; 8]
+    ensures { (result ≡ numbers_in s.now.editions) × (length s.now.editions ≡ 8) }
 {
     let mut numbers = [0u32; 8];
-    let mut i = 0;
-    while i < Shelf::EDITIONS {
-        let e = s.editions[i];
+    for (i, e) in s.editions.iter().enumerate() {
         numbers[i] = e.number;
-        i += 1;
     }
     numbers
 }
@@ -53,14 +49,11 @@ fn numbers_rise(numbers: &[u32]) -> bool
     ensures { result ≡ rise 0 numbers.now }
 {
     let mut last = 0;
-    let mut i = 0;
-    while i < numbers.len() {
-        let n = numbers[i];
+    for &n in numbers {
         if !number_fits(last, n) {
             return false;
         }
         last = n;
-        i += 1;
     }
     true
 }
@@ -79,23 +72,13 @@ pub(crate) fn is_good(len: usize, numbers: &[u32]) -> bool
 pub(crate) fn last_of(numbers: &[u32]) -> u32
     ensures { result ≡ last_of 0 numbers.now }
 {
-    let n = numbers.len();
-    if n == 0 {
-        return 0;
-    }
-    numbers[n - 1]
+    numbers.last().copied().unwrap_or(0)
 }
 
 // Where a number stands.
-pub(crate) fn position_of(numbers: &[u32], number: u32) -> Found
+#[tactic(auto, unfolding(lookup::specs::Position::position))]
+pub(crate) fn position_of(numbers: &[u32], number: u32) -> Option<usize>
     ensures { result ≡ position number numbers.now }
 {
-    let mut i = 0;
-    while i < numbers.len() {
-        if numbers[i] == number {
-            return Found::At(i);
-        }
-        i += 1;
-    }
-    Found::Nothing
+    numbers.iter().position(|n| *n == number)
 }

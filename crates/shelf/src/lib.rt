@@ -27,11 +27,3 @@ pub struct Stored {
     pub second: u64,
     pub shelf: Shelf,
 }
-
-// Where two editions stand, unless one is missing, the target isn't later, or the shelf is bad.
-#[derive(Clone, Copy)]
-enum Entries {
-    At(usize, usize),
-    Nothing,
-    Bad,
-}

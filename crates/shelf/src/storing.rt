@@ -1,5 +1,5 @@
 // The operation put: a bad shelf, the number, a full shelf, the rows of the route; then one edition more.
-ghost use Rattle.std.specs.Prelude.{◌≡◌, true, cond, ◌<◌};
+ghost use Rattle.std.specs.Prelude.{◌≡◌, ◌<◌};
 ghost use Rattle.refusal.specs.Rows.{first};
 ghost use Rattle.route.specs.Steps.{steps_of};
 ghost use Rattle.job.specs.Alone.{alone_rows};
@@ -13,8 +13,8 @@ use refusal::Outcome;
 use route::Route;
 
 // The rows of the shelf and of the number.
-fn check_number(s: Shelf, number: u32) -> Outcome
-    ensures { result ≡ first (shelf_rows s number) }
+fn check_number(s: &Shelf, number: u32) -> Outcome
+    ensures { result ≡ first (shelf_rows s.now number) }
 {
     let len = s.len;
     let numbers = numbers_in(s);
@@ -41,8 +41,8 @@ fn check_edition(r: Route) -> Outcome
 }
 
 // All rows of put in turn.
-fn check(s: Shelf, number: u32, route: Route) -> Outcome
-    ensures { result ≡ put_row s number route }
+fn check(s: &Shelf, number: u32, route: Route) -> Outcome
+    ensures { result ≡ put_row s.now number route }
 {
     let o = check_number(s, number);
     if !o.passed() {
@@ -51,27 +51,28 @@ fn check(s: Shelf, number: u32, route: Route) -> Outcome
     check_edition(route)
 }
 
-// One edition more, where the rows pass.
-fn with_edition(s: Shelf, passed: bool, number: u32, route: Route) -> Shelf
-    requires { passed ≡ true → s.len < 8 }
-    ensures { result ≡ cond passed (with_edition s number route) s }
+// One edition more.
+#[tactic(auto, unfolding(crate::specs::Put::with_edition))]
+fn store(s: &mut Shelf, number: u32, route: Route)
+    requires { s.old.len < 8 }
+    ensures { s.new ≡ with_edition s.old number route }
 {
-    let mut shelf = s;
-    if passed {
-        let at = s.len;
-        shelf.editions[at] = Edition { number, route };
-        shelf.len = at + 1;
-    }
-    shelf
+    let at = s.len;
+    s.editions[at] = Edition { number, route };
+    s.len = at + 1;
 }
 
 pub fn put(s: Shelf, number: u32, route: Route) -> Stored
     ensures { result ≡ stored s number route }
 {
-    let o = check(s, number, route);
+    let o = check(&s, number, route);
+    let mut shelf = s;
+    if o.passed() {
+        store(&mut shelf, number, route);
+    }
     Stored {
         number: o.number,
         second: o.second,
-        shelf: with_edition(s, o.passed(), number, route),
+        shelf,
     }
 }

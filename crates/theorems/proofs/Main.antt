@@ -10,6 +10,7 @@ use mathlib.Core.Option.{none, some}
 use Prim.Native.Nat.{ℕ, suc, ◌+◌, ◌*◌, ◌^◌, ◌≤◌, ◌<◌}
 use lib.ListN.{length, get_or, drop}
 use borrow.Author.Tests.{eq-eqb}
+use Rattle.std.specs.Prelude.{Some, None}
 use Rattle.mask.specs.Mask.{has}
 use Rattle.refusal.specs.Rows.{first}
 use Rattle.route.specs.Steps.{blank, steps_of, names, lookup}
@@ -20,7 +21,6 @@ use Rattle.job.specs.Lines.{done_rows, checked, LinesPass}
 use Rattle.lookup.specs.Position.{position}
 use Rattle.lookup.specs.Around.{looked, compared_from, Unique}
 use Rattle.lookup.specs.Follows.{Follows}
-use Rattle.lookup.specs.declared.Found.TheVariants.{At, Nothing}
 use Rattle.lookup.proofs.Around.{count-below, count-above, count-nowhere}
 use Rattle.lookup.proofs.Unique.{looked-found, found-lookup, missed-lookup}
 use Rattle.lookup.proofs.Totals.{looked-next, total-round, total-follows, total-least, total-most}
@@ -234,24 +234,24 @@ pub each-finding-is-as-before : (n : ℕ) (l : List ℕ) → Unique l → (from 
 each-finding-is-as-before = looked-found
 
 pub what-is-found-is-the-step-of-the-name : (from n : ℕ) (l : List Step) → Unique (names l) → (k : ℕ)
-    → (looked from n (names l)).found ≡ At k → lookup n l ≡ some (get_or l k blank)
+    → (looked from n (names l)).found ≡ Some k → lookup n l ≡ some (get_or l k blank)
 what-is-found-is-the-step-of-the-name = found-lookup
 
 pub what-is-missed-has-no-step : (from n : ℕ) (l : List Step) → Unique (names l)
-    → (looked from n (names l)).found ≡ Nothing → lookup n l ≡ none
+    → (looked from n (names l)).found ≡ None → lookup n l ≡ none
 what-is-missed-has-no-step = missed-lookup
 
 -- "how many names it compared: those from its beginning to the step found", below the beginning or, gone round, above
 -- it, "or all where there is none"
-pub counts-to-a-step-below : (from n : ℕ) (l : List ℕ) (k : ℕ) → (looked from n l).found ≡ At k → from ≤ k
+pub counts-to-a-step-below : (from n : ℕ) (l : List ℕ) (k : ℕ) → (looked from n l).found ≡ Some k → from ≤ k
     → from + (looked from n l).compared ≡ k + 1
 counts-to-a-step-below = count-below
 
-pub counts-round-to-a-step-above : (from n : ℕ) (l : List ℕ) (k : ℕ) → (looked from n l).found ≡ At k → k < from
+pub counts-round-to-a-step-above : (from n : ℕ) (l : List ℕ) (k : ℕ) → (looked from n l).found ≡ Some k → k < from
     → from ≤ length l → from + (looked from n l).compared ≡ length l + k + 1
 counts-round-to-a-step-above = count-above
 
-pub counts-all-where-there-is-none : (from n : ℕ) (l : List ℕ) → (looked from n l).found ≡ Nothing
+pub counts-all-where-there-is-none : (from n : ℕ) (l : List ℕ) → (looked from n l).found ≡ None
     → (looked from n l).compared ≡ length l
 counts-all-where-there-is-none = count-nowhere
 
@@ -261,10 +261,10 @@ pub past-the-last-it-begins-at-the-top : (from : ℕ) (l : List ℕ) → length 
 past-the-last-it-begins-at-the-top = total-round
 
 -- "mostly stands just below the last one": such a name costs one comparison
-pub the-name-just-below-costs-one : (from n : ℕ) (l : List ℕ) (k : ℕ) → (looked from n l).found ≡ At k
+pub the-name-just-below-costs-one : (from n : ℕ) (l : List ℕ) (k : ℕ) → (looked from n l).found ≡ Some k
     → suc k < length l
     → looked (looked from n l).next (get_or l (suc k) 0) l
-    ≡ record { found = At (suc k); compared = 1; next = suc (suc k) }
+    ≡ record { found = Some (suc k); compared = 1; next = suc (suc k) }
 the-name-just-below-costs-one = looked-next
 
 -- a list that follows the names costs one each; among names none costs less, and none more than all of them each time

@@ -2,7 +2,7 @@
 use mathlib.Core.Path.{refl}
 use borrow.Author.Rules.{rules}
 use Rattle.flat.specs.Flat.{steps_in}
-use Rattle.name_set.proofs.Among.{among-found, among-missed}
+use Rattle.name_set.proofs.Among.{among-found}
 use Rattle.name_set.proofs.DigitHints.{hint-none, hint-inside, hint-right}
 use Rattle.name_set.proofs.has.Goals as goal
 
@@ -17,8 +17,5 @@ name_at-requires c =
 pub returns-then-name_at-name : goal.returns-then-name_at-name
 returns-then-name_at-name c = search (rules, hint-right)
 
-pub returns-in-At : goal.returns-in-At
-returns-in-At c = search (rules, among-found)
-
-pub returns-in-Nothing : goal.returns-in-Nothing
-returns-in-Nothing c = search (rules, among-missed)
+pub returns : goal.returns
+returns c = search (rules, among-found)

@@ -1,32 +1,16 @@
--- `shelf::between::entries_of`: a bad shelf, an edition that isn't there, a target that isn't later, or both entries.
-use mathlib.Core.Path.{sym}
-use lib.Seq.{length-take-le}
+-- `shelf::between::entries_of`: a target that isn't later, a number that isn't there, or both places.
 use borrow.Author.Rules.{rules}
-use Rattle.shelf.proofs.GoodShelf.{good-few, good-no, good-yes}
-use Rattle.shelf.proofs.EntriesFound.{no-edition, no_target, not-later}
-use Rattle.shelf.proofs.EntriesFound.{edition-inside, target-inside, job-between}
+use Rattle.shelf.proofs.EntriesFound.{not-later, no-edition, no_target, both-found}
 use Rattle.shelf.proofs.between.entries_of.Goals as goal
 
-pub returns-then-not-is_good : goal.returns-then-not-is_good
-returns-then-not-is_good c = search (rules, good-no)
-
-pub slice_bounds-numbers-end : goal.slice_bounds-numbers-end
-slice_bounds-numbers-end c = search (rules, good-few)
-
-pub slice_bounds-stored-end : goal.slice_bounds-stored-end
-slice_bounds-stored-end c = sym (length-take-le _ _ (search rules))
-
-pub returns-in_default : goal.returns-in_default
-returns-in_default c = (search (rules, good-yes), λ done. search (rules, no-edition))
-
-pub returns-in_default-position_of : goal.returns-in_default-position_of
-returns-in_default-position_of c = (search (rules, good-yes), λ done. search (rules, no_target))
-
 pub returns-then-target-edition : goal.returns-then-target-edition
-returns-then-target-edition c = (search (rules, good-yes), λ done. search (rules, not-later))
+returns-then-target-edition c = search (rules, not-later)
+
+pub returns-in_err-i : goal.returns-in_err-i
+returns-in_err-i c = search (rules, no-edition, c.in_err-i.was)
+
+pub returns-in_err-j : goal.returns-in_err-j
+returns-in_err-j c = search (rules, no_target, c.in_ok-i.was, c.in_err-j.was)
 
 pub returns : goal.returns
-returns c = (
-  search (rules, good-yes),
-  (search (rules, edition-inside), (search (rules, target-inside), λ done d. search (rules, job-between))),
-)
+returns c = search (rules, both-found, c.in_ok-i.was, c.in_ok-j.was)

@@ -1,10 +1,13 @@
 -- `shelf::storing::put`: all rows, and one edition more where they pass.
 use borrow.Author.Rules.{rules}
-use Rattle.shelf.proofs.PutRows.{put-room, put-answers}
+use Rattle.shelf.proofs.PutRows.{put-room, put-stored, put-refused}
 use Rattle.shelf.proofs.storing.put.Goals as goal
 
-pub with_edition-requires : goal.with_edition-requires
-with_edition-requires c = search (rules, put-room)
+pub store-requires : goal.store-requires
+store-requires c = search (rules, put-room)
 
-pub returns : goal.returns
-returns c = search (rules, put-answers)
+pub returns-then-passed : goal.returns-then-passed
+returns-then-passed c = search (rules, put-stored)
+
+pub returns-else-passed : goal.returns-else-passed
+returns-else-passed c = search (rules, put-refused)
