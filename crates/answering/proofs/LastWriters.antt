@@ -3,8 +3,9 @@
 use mathlib.Core.Path.{◌≡◌, refl, sym, ap, ap₂, ◌∙◌, subst}
 use mathlib.Core.Bool.{Bool, true, false, not, cond, ◌&&◌, and-true}
 use mathlib.Core.List.{List, [], map}
-use Prim.Native.Nat.{ℕ, zero, suc, ◌-◌, ◌^◌, ◌≤◌, ◌<◌}
+use Prim.Native.Nat.{ℕ, zero, suc, ◌+◌, ◌-◌, ◌^◌, ◌≤◌, ◌<◌}
 use native.Mathlib.Omega.{arith}
+use native.Mathlib.Numerals.{add-one}
 use lib.Dec.{eqb, eqb-suc-zero}
 use lib.Bits.{bit_and}
 use lib.Count.{count_trailing_zeros}
@@ -151,12 +152,12 @@ pub wrote-step :
     → left' ≡ without left (bit_and s.writes left)
     → (writers' : List ℕ)
     → length writers' ≡ 32
-    → ((v : ℕ) → v < 32 → get_or writers' v 0 ≡ cond (has (bit_and s.writes left) v) i (get_or writers v 0))
+    → ((v : ℕ) → v < 32 → get_or writers' v 0 ≡ cond (has (bit_and s.writes left) v) (i - 1 + 1) (get_or writers v 0))
     → Wrote vars l writers' left' (i - 1)
 wrote-step vars l i left writers some w s is left' e writers' room puts =
     wrote_on vars l (i - 1) left writers (omega (arith, w.within)) before _
     (ap (λ (x : Step). bit_and x.writes left) is) left' writers' room
-    (λ v b. puts v b ∙ ap (λ (n : ℕ). cond (has (bit_and s.writes left) v) n (get_or writers v 0)) earlier)
+    (λ v b. puts v b ∙ ap (λ (n : ℕ). cond (has (bit_and s.writes left) v) n (get_or writers v 0)) (add-one (i - 1)))
     e
   where
     earlier : i ≡ suc (i - 1)

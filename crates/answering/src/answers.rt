@@ -49,19 +49,15 @@ fn last_writers(occurrences: &[u64], vars: u32) -> [u8; 32]
     ensures { (new : List Step) → vars ≡ variables new
         → result ≡ map (writer_of new (steps_in occurrences.now)) (in_turn 0 32) }
 {
-    let mut writers = [0u8; 32];
+    let mut writers = [0; 32];
     let mut left = vars;
-    let mut i = flat::count(occurrences);
-    while 0 < i {
+    for i in (0..flat::count(occurrences)).rev() {
         if left == 0 {
             return writers;
         }
-        let number = i as u8;
-        i -= 1;
-        let s = flat::step_at(occurrences, i);
-        let hit = s.writes & left;
+        let hit = flat::step_at(occurrences, i).writes & left;
         left = left.without(hit);
-        mark_writers(&mut writers, hit, number);
+        mark_writers(&mut writers, hit, i as u8 + 1);
     }
     writers
 }
@@ -71,11 +67,9 @@ pub fn straight_order(len: usize) -> [u8; 64]
     requires { len ≤ 64 }
     ensures { result ≡ padded 64 (map suc (in_turn 0 len)) }
 {
-    let mut order = [0u8; 64];
-    let mut i = 0;
-    while i < len {
+    let mut order = [0; 64];
+    for i in 0..len {
         order[i] = i as u8 + 1;
-        i += 1;
     }
     order
 }

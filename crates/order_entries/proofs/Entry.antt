@@ -5,7 +5,7 @@ use mathlib.Core.Bool.{Bool, true, false, not, cond}
 use mathlib.Core.List.{List}
 use mathlib.Core.Option
 use mathlib.Core.Option.{Option, none, some}
-use Prim.Native.Nat.{ℕ, suc, ◌+◌, ◌-◌, ◌*◌, ◌^◌, ◌≤◌, ◌<◌}
+use Prim.Native.Nat.{ℕ, suc, ◌+◌, ◌-◌, ◌^◌, ◌≤◌, ◌<◌}
 use native.Mathlib.Omega.{arith}
 use native.Mathlib.Numerals.{add-one}
 use lib.Dec.{leb}
@@ -32,8 +32,6 @@ use Rattle.matching.proofs.Matched.{step_for, matched-at}
 use Rattle.order_entries.specs.Entries.{try_stopped, is_kept, list_row, try_from}
 use Rattle.order_entries.specs.inner.Replayable.{Replayable}
 use Rattle.order_entries.specs.declared.Tried.{Tried}
-use mir.Syntax.{w64}
-use mir.Val.{Fits}
 use Rattle.order_entries.proofs.Row16.{Passed, passed-at, kept-range}
 use Rattle.order_entries.proofs.Row17.{positions, order-test}
 
@@ -60,9 +58,6 @@ module _ (o : List ℕ) (kept : ℕ) (rows : List ℕ) (steps : List Step) (from
     pub rest : (new l : List Step) → Replayable new l kept steps → rows ≡ table l
         → try_from new l m (i + 1) (positions (drop i o)) ≡ try_from new l from 1 (positions o)
 
-  pub placed-init : (list_row kept 0 1 o).number ≡ 0 → Placed 0 from 0
-  placed-init e = record { lists = e; rest = λ new l ready is. refl }
-
   pub placed-done : (placed i : ℕ) (m : Marking) → Placed placed m.tokens i → length o ≤ i
       → Answers (record { number = 0; second = 0; marking = m })
   unfolding try_from
@@ -83,9 +78,6 @@ module _ (o : List ℕ) (kept : ℕ) (rows : List ℕ) (steps : List Step) (from
 
       pub entry-below : k < 64
       entry-below = (kept-range kept (get_or o i 0) wide passed.entry).1
-
-      pub entry-offset : Fits w64 (k * 8)
-      entry-offset = omega (arith, entry-below)
 
       there : has kept k ≡ true
       unfolding is_kept

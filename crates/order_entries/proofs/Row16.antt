@@ -3,6 +3,7 @@
 use mathlib.Core.Path.{◌≡◌, refl, sym, ap, ap₂, ◌∙◌}
 use mathlib.Core.Bool.{Bool, true, false, not, cond, ◌&&◌, and-false}
 use mathlib.Core.List.{List, ◌∷◌}
+use mathlib.Core.Logic.{◌⊎◌, inl, inr}
 use Prim.Native.Nat.{ℕ, suc, ◌+◌, ◌-◌, ◌^◌, ◌≤◌, ◌<◌}
 use native.Mathlib.Omega.{arith}
 use native.Mathlib.Numerals.{add-one}
@@ -10,7 +11,7 @@ use lib.Dec.{eqb, leb}
 use lib.Bits.{bit_or}
 use lib.ListN.{length, drop, get_or, drop_of_length-le}
 use lib.Seq.{drop-cons}
-use borrow.Author.Tests.{eq-eqb, ne_eqb, leb-true, not-true, not-false}
+use borrow.Author.Tests.{eq-eqb, ne_eqb, leb-true, le-leb, lt-leb, not-true, not-false}
 use Rattle.mask.specs.Mask.{has, bit, without}
 use Rattle.mask.proofs.Laws.{has-without}
 use Rattle.mask.proofs.Cut.{has-high}
@@ -25,20 +26,16 @@ use Rattle.order_entries.specs.Entries.{is_kept, list_row}
 abbrev pub is_fresh : ℕ → ℕ → ℕ → Bool
 is_fresh kept seen b = is_kept kept b && not (has seen (b - 1))
 
-module _ (kept seen b : ℕ) where
-  pub fresh-low : leb 1 b ≡ false → false ≡ is_fresh kept seen b
+module _ (kept seen b : ℕ) (x : Bool) where
+  -- 0 and numbers over 64 are never kept
+  pub fresh-out : kept < 2 ^ 64 → (b < 1) ⊎ (64 < b) → x ≡ false → x ≡ is_fresh kept seen b
   unfolding is_kept
-  fresh-low e = ap (λ (t : Bool). (t && has kept (b - 1)) && not (has seen (b - 1))) (sym e)
+  fresh-out h (inl low) e = rw (lt-leb 1 b low) e
+  fresh-out h (inr high) e = rw (has-high 64 kept (b - 1) h (omega arith), and-false (leb 1 b)) e
 
-  pub fresh-high : kept < 2 ^ 64 → 64 < b → false ≡ is_fresh kept seen b
+  pub fresh-in : 1 ≤ b → (m : ℕ) → m ≡ without kept seen → x ≡ has m (b - 1) → x ≡ is_fresh kept seen b
   unfolding is_kept
-  fresh-high h k = ap (λ (t : Bool). t && not (has seen (b - 1)))
-      (sym (ap (λ (t : Bool). leb 1 b && t) (has-high 64 kept (b - 1) h (omega arith)) ∙ and-false (leb 1 b)))
-
-  pub fresh-is : leb 1 b ≡ true → has (without kept seen) (b - 1) ≡ is_fresh kept seen b
-  unfolding is_kept
-  fresh-is e = has-without kept seen (b - 1) ∙ ap (λ (t : Bool). (t && has kept (b - 1)) && not (has seen (b - 1)))
-      (sym e)
+  fresh-in low m m-is e = rw (le-leb 1 b low) (e ∙ ap (λ (n : ℕ). has n (b - 1)) m-is ∙ has-without kept seen (b - 1))
 
 -- where a kept entry lies
 pub kept-range : (kept b : ℕ) → kept < 2 ^ 64 → is_kept kept b ≡ true → (1 ≤ b) × (b - 1 < 64)
@@ -95,11 +92,14 @@ module _ (kept seen i : ℕ) (o : List ℕ) (whole : Outcome) (inv : list_row ke
   ends h t e = ap (λ (b : Bool). cond b pass (refuse 16 (i + 1))) (sym e)
       ∙ ap (list_row kept seen (i + 1)) (sym (drop_of_length-le o {i = i} h)) ∙ inv
 
-  pub list-missing : length o ≤ i → (seen ≡ kept → ⊥) → refuse 16 (i + 1) ≡ whole
-  list-missing h e = ends h false (ne_eqb seen kept e)
+  module _ (r : Outcome) (h : length o ≤ i) where
+    pub list-missing : i ≤ length o → (seen ≡ kept → ⊥) → r ≡ refuse 16 (length o + 1) → r ≡ whole
+    list-missing k e is =
+        let all : length o ≡ i = omega arith in
+        is ∙ ap (λ (n : ℕ). refuse 16 (n + 1)) all ∙ ends h false (ne_eqb seen kept e)
 
-  pub list-whole : length o ≤ i → seen ≡ kept → pass ≡ whole
-  list-whole h e = ends h true (eq-eqb seen kept e)
+    pub list-whole : seen ≡ kept → r ≡ pass → r ≡ whole
+    list-whole e is = is ∙ ends h true (eq-eqb seen kept e)
 
   module _ (h : i < length o) (t : Bool) (is : t ≡ is_fresh kept seen (get_or o i 0)) where
     on : cond t (list_row kept (bit_or seen (bit (get_or o i 0 - 1))) (i + 1 + 1) (drop (suc i) o)) (refuse 16 (i + 1))
@@ -108,8 +108,9 @@ module _ (kept seen i : ℕ) (o : List ℕ) (whole : Outcome) (inv : list_row ke
     on = ap (λ (b : Bool). cond b (list_row kept (bit_or seen (bit (get_or o i 0 - 1))) (i + 1 + 1) (drop (suc i) o))
         (refuse 16 (i + 1))) is ∙ ap (list_row kept seen (i + 1)) (sym (drop-cons o i 0 h)) ∙ inv
 
-    pub list-refused : t ≡ false → refuse 16 (i + 1) ≡ whole
-    list-refused e = ap (λ (b : Bool). cond b (list_row kept (bit_or seen (bit (get_or o i 0 - 1))) (i + 1 + 1)
+    pub list-refused : t ≡ false → (r : Outcome) → r ≡ refuse 16 (i + 1) → r ≡ whole
+    list-refused e r r-is = r-is
+        ∙ ap (λ (b : Bool). cond b (list_row kept (bit_or seen (bit (get_or o i 0 - 1))) (i + 1 + 1)
         (drop (suc i) o)) (refuse 16 (i + 1))) (sym e) ∙ on
 
     pub list_on : t ≡ true → (own : ℕ) → own ≡ bit (get_or o i 0 - 1)

@@ -39,31 +39,23 @@ impl Tried {
 fn fresh(kept: u64, seen: u64, b: usize) -> bool
     ensures { result ≡ (is_kept kept b && not (has seen (b - 1))) }
 {
-    if b < 1 {
-        return false;
-    }
-    if 64 < b {
-        return false;
-    }
-    kept.without(seen).holds(b - 1)
+    (1..=64).contains(&b) && kept.without(seen).holds(b - 1)
 }
 
 // Row 16 over the whole list.
 fn check_list(order: &[u8], kept: u64) -> Outcome
     ensures { result ≡ list_row kept 0 1 order.now }
 {
-    let mut seen = 0u64;
-    let mut i = 0;
-    while i < order.len() {
-        let b = order[i] as usize;
-        i += 1;
+    let mut seen = 0;
+    for (i, &b) in order.iter().enumerate() {
+        let b = b as usize;
         if !fresh(kept, seen, b) {
-            return Outcome::refuse(16, i as u64);
+            return Outcome::refuse(16, i as u64 + 1);
         }
         seen |= u64::bit(b - 1);
     }
     if seen != kept {
-        return Outcome::refuse(16, i as u64 + 1);
+        return Outcome::refuse(16, order.len() as u64 + 1);
     }
     Outcome::pass()
 }
@@ -76,18 +68,17 @@ fn fire_list(order: &[u8], kept: u64, rows: [u64; 64], matches: &[u64], from: Ma
     ensures { (new l : List Step) → Replayable new l kept (steps_in matches.now) → rows ≡ table l
         → result ≡ try_from new l from.tokens 1 (map (λ (b : ℕ). b - 1) order.now) }
 {
-    let mut placed = 0u64;
+    let mut placed = 0;
     let mut m = from;
-    let mut i = 0;
-    while i < order.len() {
-        let k = order[i] as usize - 1;
-        i += 1;
+    for (i, &b) in order.iter().enumerate() {
+        let at = i as u64 + 1;
+        let k = b as usize - 1;
         if !(rows[k] & kept).within(placed) {
-            return Tried::stop(17, i as u64);
+            return Tried::stop(17, at);
         }
         let s = flat::step_at(matches, k);
         if !m.enables(s) {
-            return Tried::stop(18, i as u64);
+            return Tried::stop(18, at);
         }
         m = m.next(s);
         placed |= u64::bit(k);

@@ -1,17 +1,11 @@
 -- `order_entries::fire_list`: the entries so far are placed, and the rows of those that are left answer for all.
 use borrow.Author.Rules.{rules}
-use Rattle.order_entries.proofs.Entry.{placed-init, placed-done, entry_first, entry-below}
-use Rattle.order_entries.proofs.Entry.{entry-offset, entry-step, placed-early, placed-stuck, placed-step}
+use Rattle.order_entries.proofs.Entry.{placed-done, entry_first, entry-below}
+use Rattle.order_entries.proofs.Entry.{entry-step, placed-early, placed-stuck, placed-step}
 use Rattle.order_entries.proofs.fire_list.Goals as goal
-
-pub loop-i-init : goal.loop-i-init
-loop-i-init c = (search rules, search (rules, placed-init))
 
 pub overflow_sub-k : goal.overflow_sub-k
 overflow_sub-k c = search (rules, entry_first)
-
-pub offset_bounds-rows-k : goal.offset_bounds-rows-k
-offset_bounds-rows-k c = search (rules, entry-offset)
 
 pub bounds-rows-k : goal.bounds-rows-k
 bounds-rows-k c = search (rules, entry-below)
@@ -29,7 +23,7 @@ pub bit-placed-requires : goal.bit-placed-requires
 bit-placed-requires c = search (rules, entry-below)
 
 pub loop-i-preserved : goal.loop-i-preserved
-loop-i-preserved c = (search rules, search (rules, placed-step))
+loop-i-preserved c = search (rules, placed-step)
 
 pub returns : goal.returns
 returns c = search (rules, placed-done)

@@ -1,13 +1,7 @@
 -- `order_entries::fire_list`: the entries so far are placed, and the rows of those that are left answer for all.
-use Prim.Native.Nat.{◌-◌, ◌≤◌}
-use lib.ListN.{length}
 use Rattle.flat.specs.Flat.{steps_in}
 use Rattle.order_entries.proofs.Entry.{Placed}
 use Rattle.order_entries.proofs.fire_list.Given as goal
 
 abbrev pub invariant-loop-i : goal.invariant-loop-i
-invariant-loop-i l =
-    (l.i ≤ length l.order) × Placed l.order l.kept l.rows (steps_in l.matches) l.initial.m.tokens l.placed l.m.tokens l.i
-
-abbrev pub decreases-loop-i : goal.decreases-loop-i
-decreases-loop-i l = length l.order - l.i
+invariant-loop-i l = Placed l.order l.kept l.rows (steps_in l.matches) l.initial.m.tokens l.placed l.m.tokens l.i

@@ -5,6 +5,3 @@ use Rattle.answering.proofs.answers.last_writers.Given as goal
 
 abbrev pub invariant-loop-i : goal.invariant-loop-i
 invariant-loop-i l = Wrote l.vars (steps_in l.occurrences) l.writers l.left l.i
-
-abbrev pub decreases-loop-i : goal.decreases-loop-i
-decreases-loop-i l = l.i

@@ -10,17 +10,16 @@ use Rattle.answering.proofs.Padded.{padded-is, turn-number}
 use Rattle.answering.proofs.answers.straight_order.Goals as goal
 
 pub loop-i-init : goal.loop-i-init
-loop-i-init c = (search rules, (refl, filled_none _ 64))
+loop-i-init c = (refl, filled_none _ 64)
 
 pub loop-i-preserved : goal.loop-i-preserved
-loop-i-preserved c = let l = c.loop-i in (
-  search rules,
-  (search rules, filled_more (λ (k : ℕ). k + 1) l.i _ l.order l.invariant.1.1 (omega arith) refl),
-)
+loop-i-preserved c =
+    let l = c.loop-i in
+    (search rules, filled_more (λ (k : ℕ). k + 1) l.i _ l.order l.invariant.1 (omega arith) refl)
 
 pub returns : goal.returns
 returns c =
     let l = c.loop-i in
     let all : l.i ≡ c.args.len = omega arith in
-    padded-is 64 _ l.order l.invariant.1.0
-    (λ k. l.invariant.1.1 k ∙ ap (λ (n : ℕ). cond (ltb k n) (k + 1) 0) all ∙ sym (turn-number _ k))
+    padded-is 64 _ l.order l.invariant.0
+    (λ k. l.invariant.1 k ∙ ap (λ (n : ℕ). cond (ltb k n) (k + 1) 0) all ∙ sym (turn-number _ k))
