@@ -20,37 +20,34 @@
 // second program says the same of scripts (reference/src/script.rs).
 #![tactic(auto)]
 
-use drive_script::{ends, numbers};
+use drive_load::Script;
+use drive_load::stop::Stop;
+use drive_out::Answer;
 use shelf::Shelf;
+use std::alloc::Global;
 use std::io;
+use std::io::{BufWriter, Write};
 
 mod operations;
 
-// Each operation in turn. One takes at least a number, so there are no more turns than numbers.
-fn answer_all(rt: &impl Print, nums: &[u64], o: &mut [u8; 65536]) -> io::Result<()> {
-    let mut at = 0;
-    let mut n = 0;
+// Each operation in turn. One takes at least a byte, so there are no more operations than bytes.
+fn answer_all(rt: &impl Print, alloc: Global, text: &[u8]) -> io::Result<()> {
+    let mut script = Script::new(alloc, text);
     let mut shelf = Shelf::empty();
-    let mut turns = nums.len();
-    while 0 < turns {
-        let end = ends::operation(nums, at);
-        if end == ends::STOP {
-            return drive_out::flush(rt, o, n);
+    let mut out = BufWriter::new(alloc, io::writer(rt))?;
+    for _ in text {
+        let mut answer = Answer::new(alloc);
+        match operations::answer(&mut script, &mut shelf, &mut answer) {
+            Ok(()) => writeln!(out, "{answer}")?,
+            Err(Stop::NotWhole) => break,
+            Err(Stop::OutOfMemory) => return Err(io::ErrorKind::OutOfMemory.into()),
         }
-        let t = operations::turn(rt, shelf, nums, at, o, n)?;
-        n = drive_out::end(o, t.n);
-        shelf = t.shelf;
-        at = end;
-        turns -= 1;
     }
-    drive_out::flush(rt, o, n)
+    out.flush()
 }
 
 fn main(rt: HostRuntime) -> io::Result<()> {
     let mut text = [0u8; 65536];
     let n = input::read_full(&mut rt.stdin(), &mut text)?;
-    let mut nums = [0u64; 32768];
-    let count = numbers::all(&text[..n], &mut nums);
-    let mut o = [0u8; 65536];
-    answer_all(&rt, &nums[..count], &mut o)
+    answer_all(&rt, rt.alloc(), &text[..n])
 }

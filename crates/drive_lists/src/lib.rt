@@ -1,114 +1,57 @@
-// The operations over lent lists, each on the arguments that begin at a number of the script.
+// A job whose routes are lent lists.
 #![tactic(auto)]
 
-ghost use Rattle.std.specs.Prelude.{◌≤◌};
+use answering::Judged;
+use drive_load::arguments::Argument;
+use drive_load::stop::Stop;
+use drive_load::{LENT, Script};
+use drive_routes::Job;
+use order_entries::Tried;
+use out_slice::Wrote;
+use route::Step;
+use running::Ran;
+use slicing::Sliced;
 
-use drive_load::Lent;
-use drive_script::ends;
-use std::io;
-
-fn run(rt: &impl Print, x: Lent, o: &mut [u8; 65536], n: usize) -> io::Result<usize>
-    requires { (x.n ≤ 100) × (x.m ≤ 100) }
-{
-    let a = x.a;
-    let b = x.b;
-    let done = x.done;
-    let k = counts::names(x.len, &done);
-    let r = arrays::run(x.p, a, x.n, x.q, b, x.m, &done[..k]);
-    drive_answers::marked(rt, o, n, r.number, r.second, r.marking)
+// Lent lists: `p` places and the records `a` for the old route, `q` and `b` for the new one, and the done names.
+#[derive(Drop)]
+pub struct Lists {
+    p: u64,
+    a: Vec<Step>,
+    q: u64,
+    b: Vec<Step>,
+    done: Vec<u32>,
 }
 
-fn slice(rt: &impl Print, x: Lent, o: &mut [u8; 65536], n: usize) -> io::Result<usize>
-    requires { (x.n ≤ 100) × (x.m ≤ 100) }
-{
-    let a = x.a;
-    let b = x.b;
-    let done = x.done;
-    let k = counts::names(x.len, &done);
-    let r = arrays::slice(x.p, a, x.n, x.q, b, x.m, &done[..k]);
-    drive_answers::sliced(rt, o, n, r)
-}
-
-fn try_order(
-    rt: &impl Print,
-    x: Lent,
-    order: &[u8],
-    o: &mut [u8; 65536],
-    n: usize,
-) -> io::Result<usize>
-    requires { (x.n ≤ 100) × (x.m ≤ 100) }
-{
-    let a = x.a;
-    let b = x.b;
-    let done = x.done;
-    let k = counts::names(x.len, &done);
-    let r = arrays::try_order(x.p, a, x.n, x.q, b, x.m, &done[..k], order);
-    drive_answers::marked(rt, o, n, r.number, r.second, r.marking)
-}
-
-fn judge(
-    rt: &impl Print,
-    x: Lent,
-    work: &mut [u8],
-    o: &mut [u8; 65536],
-    n: usize,
-) -> io::Result<usize>
-    requires { (x.n ≤ 100) × (x.m ≤ 100) }
-{
-    let a = x.a;
-    let b = x.b;
-    let done = x.done;
-    let k = counts::names(x.len, &done);
-    let r = arrays::judge(x.p, a, x.n, x.q, b, x.m, &done[..k], work);
-    drive_answers::judged(rt, o, n, r, work)
-}
-
-fn write(
-    rt: &impl Print,
-    x: Lent,
-    out: &mut [u8],
-    o: &mut [u8; 65536],
-    n: usize,
-) -> io::Result<usize>
-    requires { (x.n ≤ 100) × (x.m ≤ 100) }
-{
-    let a = x.a;
-    let b = x.b;
-    let done = x.done;
-    let k = counts::names(x.len, &done);
-    let r = arrays::write(x.p, a, x.n, x.q, b, x.m, &done[..k], out);
-    drive_answers::wrote(rt, o, n, r, out)
-}
-
-// With the order, the work or the out slice.
-fn with(
-    rt: &impl Print,
-    op: u64,
-    x: Lent,
-    s: &mut [u8],
-    o: &mut [u8; 65536],
-    n: usize,
-) -> io::Result<usize>
-    requires { (x.n ≤ 100) × (x.m ≤ 100) }
-{
-    match op {
-        12 => run(rt, x, o, n),
-        13 => slice(rt, x, o, n),
-        14 => try_order(rt, x, s, o, n),
-        15 => judge(rt, x, s, o, n),
-        _ => write(rt, x, s, o, n),
+impl Argument for Lists {
+    fn take(script: &mut Script<'_>) -> Result<Lists, Stop> {
+        Ok(Lists {
+            p: u64::from(u32::take(script)?),
+            a: script.list(LENT)?,
+            q: u64::from(u32::take(script)?),
+            b: script.list(LENT)?,
+            done: script.names()?,
+        })
     }
 }
 
-pub fn answer(
-    rt: &impl Print,
-    op: u64,
-    nums: &[u64],
-    at: usize,
-    o: &mut [u8; 65536],
-    n: usize,
-) -> io::Result<usize> {
-    let mut s = [0u8; 21000];
-    let k = drive_load::given(nums, ends::lists(nums, at), op < 14, op != 14, &mut s);
-    with(rt, op, drive_load::lists(nums, at), &mut s[..k], o, n)
+impl Job for Lists {
+    fn run(&self) -> Ran {
+        lent::run(self.p, &self.a, self.q, &self.b, &self.done)
+    }
+
+    fn slice(&self) -> Sliced {
+        lent::slice(self.p, &self.a, self.q, &self.b, &self.done)
+    }
+
+    fn try_order(&self, order: &[u8]) -> Tried {
+        lent::try_order(self.p, &self.a, self.q, &self.b, &self.done, order)
+    }
+
+    fn judge(&self, work: &mut [u8]) -> Judged {
+        lent::judge(self.p, &self.a, self.q, &self.b, &self.done, work)
+    }
+
+    fn write(&self, out: &mut [u8]) -> Wrote {
+        lent::write(self.p, &self.a, self.q, &self.b, &self.done, out)
+    }
 }

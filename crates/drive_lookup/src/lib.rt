@@ -1,51 +1,40 @@
-// Look-ups, each on the arguments that begin at a number of the script: a name among names, and how many names a job's
-// look-ups compare.
+// Look-ups: a name among names, and how many names a job's look-ups compare.
 #![tactic(auto)]
 
-use drive_script::{ends, numbers};
-use std::io;
+use drive_load::arguments::Argument;
+use drive_load::stop::Stop;
+use drive_load::{Routes, Script};
+use drive_out::Answer;
+use std::alloc::{AllocError, Global};
 
 // Steps of these names, with nothing else, as numbers.
-fn steps_named(list: [u32; 100]) -> [u64; 400] {
-    let mut steps = [0u64; 400];
-    for (i, &name) in list.iter().enumerate() {
-        steps[4 * i] = u64::from(name);
+fn steps_named(alloc: Global, names: &[u32]) -> Result<Vec<u64>, AllocError> {
+    let mut steps = Vec::new(alloc);
+    for name in names {
+        steps.extend_from_slice(&[u64::from(*name), 0, 0, 0])?;
     }
-    steps
+    Ok(steps)
 }
 
 // The place counted from 1, and 0 for none.
 fn place(found: Option<usize>) -> u64 {
-    found.map_or(0, |k| (k as u64).wrapping_add(1))
+    found.map_or(0, |k| (k as u64).saturating_add(1))
 }
 
-pub fn find(
-    rt: &impl Print,
-    nums: &[u64],
-    at: usize,
-    o: &mut [u8; 65536],
-    n: usize,
-) -> io::Result<usize> {
-    let steps = steps_named(drive_load::names(nums, at));
-    let len = drive_load::length(nums, at, 100);
-    let rest = ends::names(nums, at);
-    let from = numbers::at(nums, rest, 0) as usize;
-    let l = lookup::find(&steps[..4 * len], from, drive_load::word(nums, rest, 1));
-    let answer = [place(l.found), l.compared as u64, l.next as u64];
-    drive_out::numbers(rt, o, n, &answer)
+pub fn find(script: &mut Script<'_>, out: &mut Answer) -> Result<(), Stop> {
+    let steps = steps_named(script.alloc, &script.names()?)?;
+    let from = u64::take(script)? as usize;
+    let l = lookup::find(&steps, from, u32::take(script)?);
+    Ok(out.list(&[place(l.found), l.compared as u64, l.next as u64])?)
 }
 
-pub fn compare(
-    rt: &impl Print,
-    nums: &[u64],
-    at: usize,
-    o: &mut [u8; 65536],
-    n: usize,
-) -> io::Result<usize> {
-    let f = drive_load::facts(nums, at);
-    let done = f.done;
-    let k = counts::names(f.len, &done);
-    let r = finding::routes::compare(f.old, f.new, &done[..k]);
-    let totals = [r.number as u64, r.second, r.run as u64, r.matched as u64];
-    drive_out::numbers(rt, o, n, &totals)
+pub fn compare(script: &mut Script<'_>, out: &mut Answer) -> Result<(), Stop> {
+    let job = Routes::take(script)?;
+    let r = finding::routes::compare(job.old, job.new, &job.done);
+    Ok(out.list(&[
+        u64::from(r.number),
+        r.second,
+        r.run as u64,
+        r.matched as u64,
+    ])?)
 }

@@ -1,105 +1,82 @@
-// The operations over records by value, each on the arguments that begin at a number of the script.
+// The operations over a job, whichever way its routes are lent, and over records by value.
 #![tactic(auto)]
 
-use drive_load::Routes;
-use drive_script::{ends, numbers};
-use route::Marking;
-use std::io;
+use answering::Judged;
+use drive_load::arguments::Argument;
+use drive_load::stop::Stop;
+use drive_load::{Routes, Script};
+use drive_out::Answer;
+use drive_script::operations::OverJob;
+use order_entries::Tried;
+use out_slice::Wrote;
+use route::{Marking, Step};
+use running::Ran;
+use slicing::Sliced;
 
-pub fn fire(
-    rt: &impl Print,
-    nums: &[u64],
-    at: usize,
-    o: &mut [u8; 65536],
-    n: usize,
-) -> io::Result<usize> {
-    let m = Marking {
-        tokens: numbers::at(nums, at, 0),
-    };
-    let r = route::firing::fire(m, drive_load::record(nums, at, 1));
-    drive_answers::marked(rt, o, n, r.number, r.second, r.marking)
+pub trait Job: Argument {
+    fn run(&self) -> Ran;
+
+    fn slice(&self) -> Sliced;
+
+    fn try_order(&self, order: &[u8]) -> Tried;
+
+    fn judge(&self, work: &mut [u8]) -> Judged;
+
+    fn write(&self, out: &mut [u8]) -> Wrote;
 }
 
-fn run(rt: &impl Print, f: Routes, o: &mut [u8; 65536], n: usize) -> io::Result<usize> {
-    let done = f.done;
-    let k = counts::names(f.len, &done);
-    let r = running::routes::run(f.old, f.new, &done[..k]);
-    drive_answers::marked(rt, o, n, r.number, r.second, r.marking)
-}
+impl Job for Routes {
+    fn run(&self) -> Ran {
+        running::routes::run(self.old, self.new, &self.done)
+    }
 
-fn slice(rt: &impl Print, f: Routes, o: &mut [u8; 65536], n: usize) -> io::Result<usize> {
-    let done = f.done;
-    let k = counts::names(f.len, &done);
-    let r = slicing::slice(f.old, f.new, &done[..k]);
-    drive_answers::sliced(rt, o, n, r)
-}
+    fn slice(&self) -> Sliced {
+        slicing::slice(self.old, self.new, &self.done)
+    }
 
-fn try_order(
-    rt: &impl Print,
-    f: Routes,
-    order: &[u8],
-    o: &mut [u8; 65536],
-    n: usize,
-) -> io::Result<usize> {
-    let done = f.done;
-    let k = counts::names(f.len, &done);
-    let r = trying::trying::try_order(f.old, f.new, &done[..k], order);
-    drive_answers::marked(rt, o, n, r.number, r.second, r.marking)
-}
+    fn try_order(&self, order: &[u8]) -> Tried {
+        trying::trying::try_order(self.old, self.new, &self.done, order)
+    }
 
-fn judge(
-    rt: &impl Print,
-    f: Routes,
-    work: &mut [u8],
-    o: &mut [u8; 65536],
-    n: usize,
-) -> io::Result<usize> {
-    let done = f.done;
-    let k = counts::names(f.len, &done);
-    let r = judging::judging::judge(f.old, f.new, &done[..k], work);
-    drive_answers::judged(rt, o, n, r, work)
-}
+    fn judge(&self, work: &mut [u8]) -> Judged {
+        judging::judging::judge(self.old, self.new, &self.done, work)
+    }
 
-fn write(
-    rt: &impl Print,
-    f: Routes,
-    out: &mut [u8],
-    o: &mut [u8; 65536],
-    n: usize,
-) -> io::Result<usize> {
-    let done = f.done;
-    let k = counts::names(f.len, &done);
-    let r = writer::writes::write(f.old, f.new, &done[..k], out);
-    drive_answers::wrote(rt, o, n, r, out)
-}
-
-// With the order, the work or the out slice.
-fn with(
-    rt: &impl Print,
-    op: u64,
-    f: Routes,
-    s: &mut [u8],
-    o: &mut [u8; 65536],
-    n: usize,
-) -> io::Result<usize> {
-    match op {
-        2 => run(rt, f, o, n),
-        3 => slice(rt, f, o, n),
-        4 => try_order(rt, f, s, o, n),
-        5 => judge(rt, f, s, o, n),
-        _ => write(rt, f, s, o, n),
+    fn write(&self, out: &mut [u8]) -> Wrote {
+        writer::writes::write(self.old, self.new, &self.done, out)
     }
 }
 
-pub fn answer(
-    rt: &impl Print,
-    op: u64,
-    nums: &[u64],
-    at: usize,
-    o: &mut [u8; 65536],
-    n: usize,
-) -> io::Result<usize> {
-    let mut s = [0u8; 21000];
-    let k = drive_load::given(nums, ends::facts(nums, at), op < 4, op != 4, &mut s);
-    with(rt, op, drive_load::facts(nums, at), &mut s[..k], o, n)
+// The job, then the order, the work or the out slice.
+pub fn answer<J: Job>(op: OverJob, script: &mut Script<'_>, out: &mut Answer) -> Result<(), Stop> {
+    let job = J::take(script)?;
+    match op {
+        OverJob::Run => {
+            let r = job.run();
+            drive_answers::marked(out, r.number, r.second, r.marking)?;
+        }
+        OverJob::Slice => drive_answers::sliced(out, &job.slice())?,
+        OverJob::Try => {
+            let r = job.try_order(&script.bytes()?);
+            drive_answers::marked(out, r.number, r.second, r.marking)?;
+        }
+        OverJob::Judge => {
+            let mut work = script.fill()?;
+            let r = job.judge(&mut work);
+            drive_answers::judged(out, &r, &work)?;
+        }
+        OverJob::Write => {
+            let mut text = script.fill()?;
+            let r = job.write(&mut text);
+            drive_answers::wrote(out, &r, &text)?;
+        }
+    }
+    Ok(())
+}
+
+pub fn fire(script: &mut Script<'_>, out: &mut Answer) -> Result<(), Stop> {
+    let tokens = u64::take(script)?;
+    let step = Step::take(script)?;
+    let r = route::firing::fire(Marking { tokens }, step);
+    Ok(drive_answers::marked(out, r.number, r.second, r.marking)?)
 }

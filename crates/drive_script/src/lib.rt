@@ -1,5 +1,5 @@
-// A script of operations: its numbers, and where an operation's arguments end.
+// A script of operations: its numbers, taken one after another, and the operations by their numbers.
 #![tactic(auto)]
 
-pub mod ends;
 pub mod numbers;
+pub mod operations;

@@ -1,100 +1,46 @@
-// The numbers of a script.
-ghost use Rattle.counts.specs.Counts.{IsPrefixLen};
+// The numbers of a script: base ten, with spaces or LFs between.
 
-// A number and where it ends, or a word that is none.
-#[derive(Clone, Copy)]
-struct Parsed {
-    good: bool,
-    value: u64,
-    end: usize,
+// The numbers not yet taken.
+#[derive(Drop)]
+pub struct Numbers<'a> {
+    text: &'a [u8],
 }
 
-fn between(b: u8) -> bool {
+fn stands_between(b: u8) -> bool {
     b == b' ' || b == b'\n'
 }
 
-// The next byte that stands in a word.
-fn skip(text: &[u8], at: usize) -> usize {
-    let mut i = at;
-    while i < text.len() {
-        if !between(text[i]) {
-            return i;
-        }
-        i += 1;
+// The number with one digit more, where the byte is a digit and the number stays below 2^64.
+fn longer(number: u64, b: u8) -> Option<u64> {
+    if !b.is_ascii_digit() {
+        return None;
     }
-    i
+    number.checked_mul(10)?.checked_add(u64::from(b - b'0'))
 }
 
-// One digit more, where the byte is a digit and the number stays below 2^64.
-fn longer(w: Parsed, b: u8) -> Parsed {
-    if b < b'0' || b'9' < b {
-        return Parsed {
-            good: false,
-            value: 0,
-            end: w.end,
-        };
+impl<'a> Numbers<'a> {
+    pub fn of(text: &'a [u8]) -> Numbers<'a> {
+        Numbers { text }
     }
-    let d = (b - b'0') as u64;
-    if (18446744073709551615 - d) / 10 < w.value {
-        return Parsed {
-            good: false,
-            value: 0,
-            end: w.end,
-        };
-    }
-    Parsed {
-        good: true,
-        value: 10 * w.value + d,
-        end: std::num::wrapping_add_usize(w.end, 1),
+
+    // The next word; none at the end of the text.
+    fn word(&mut self) -> Option<&'a [u8]> {
+        let text = self.text;
+        let begin = text.iter().position(|b| !stands_between(*b))?;
+        let rest = &text[begin..];
+        let end = rest.iter().position(|b| stands_between(*b));
+        let (word, left) = rest.split_at(end.unwrap_or(rest.len()));
+        self.text = left;
+        Some(word)
     }
 }
 
-// The word that begins here; none at the end of the text.
-fn word(text: &[u8], at: usize) -> Parsed {
-    let mut w = Parsed {
-        good: false,
-        value: 0,
-        end: at,
-    };
-    let mut i = at;
-    while i < text.len() {
-        let b = text[i];
-        if between(b) {
-            return w;
-        }
-        w = longer(w, b);
-        if !w.good {
-            return w;
-        }
-        i += 1;
-    }
-    w
-}
+impl Iterator for Numbers<'_> {
+    type Item = u64;
 
-// The k-th number from this one on, and 0 past the end.
-pub fn at(nums: &[u64], from: usize, k: usize) -> u64 {
-    if from < nums.len() {
-        if k < nums.len() - from {
-            return nums[from + k];
-        }
+    // The next number; none at the end of the text, or at a word that is none.
+    fn next(&mut self) -> Option<u64> {
+        let word = self.word()?;
+        word.iter().try_fold(0, |number, b| longer(number, *b))
     }
-    0
-}
-
-// All numbers up to the first word that is none, and how many there are.
-pub fn all(text: &[u8], nums: &mut [u64]) -> usize
-    ensures { IsPrefixLen result nums.new }
-{
-    let mut at = 0;
-    let mut count = 0;
-    while count < nums.len() {
-        let w = word(text, skip(text, at));
-        if !w.good {
-            return count;
-        }
-        nums[count] = w.value;
-        at = w.end;
-        count += 1;
-    }
-    count
 }

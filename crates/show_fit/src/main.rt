@@ -11,7 +11,7 @@ mod searches;
 
 fn judge_in(x: Sample, work: &mut [u8]) -> Judged {
     let done = x.done;
-    let k = counts::names(x.len, &done);
+    let k = counts::within(x.len, &done);
     judging::judging::judge(x.old, x.new, &done[..k], work)
 }
 

@@ -17,7 +17,7 @@ fn say(rt: &impl Print, label: &[u8], old: Route, new: Route, done: &[u32]) -> i
 // The first n of the chain's names are done.
 fn say_chains(rt: &impl Print, label: &[u8], old: Route, new: Route, n: usize) -> io::Result<()> {
     let done = chains::names();
-    let k = counts::names(n, &done);
+    let k = counts::within(n, &done);
     say(rt, label, old, new, &done[..k])
 }
 

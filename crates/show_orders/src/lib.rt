@@ -12,7 +12,7 @@ fn say(rt: &impl Print, label: &[u8], t: Tried) -> io::Result<()> {
 
 fn try_list(rt: &impl Print, label: &[u8], x: Sample, order: &[u8]) -> io::Result<()> {
     let done = x.done;
-    let k = counts::names(x.len, &done);
+    let k = counts::within(x.len, &done);
     say(
         rt,
         label,

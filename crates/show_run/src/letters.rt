@@ -6,7 +6,7 @@ use std::io;
 
 fn say_sample(rt: &impl Print, label: &[u8], x: Sample) -> io::Result<()> {
     let done = x.done;
-    let k = counts::names(x.len, &done);
+    let k = counts::within(x.len, &done);
     say(rt, label, x.old, x.new, &done[..k])
 }
 

@@ -27,7 +27,7 @@ fn judge(rt: &impl Print, s: Shelf, edition: u32, target: u32) -> io::Result<()>
     number(rt, b"judge ", edition as u64)?;
     number(rt, b" against ", target as u64)?;
     rt.write_all(b":\n")?;
-    let k = counts::bytes(w.written as usize, &out);
+    let k = counts::within(w.written as usize, &out);
     rt.write_all(&out[..k])
 }
 

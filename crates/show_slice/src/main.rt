@@ -34,7 +34,7 @@ fn say(rt: &impl Print, label: &[u8], old: Route, new: Route, done: &[u32]) -> i
 
 fn say_sample(rt: &impl Print, label: &[u8], x: Sample) -> io::Result<()> {
     let done = x.done;
-    let k = counts::names(x.len, &done);
+    let k = counts::within(x.len, &done);
     say(rt, label, x.old, x.new, &done[..k])
 }
 

@@ -53,7 +53,7 @@ fn room(
     room: usize,
 ) -> io::Result<()> {
     let mut out = [46u8; 512];
-    let k = counts::bytes(room, &out);
+    let k = counts::within(room, &out);
     show(rt, s, old, new, done, &mut out[..k])
 }
 
@@ -110,7 +110,7 @@ fn show_records(rt: &impl Print, s: &[u8], old: Route, new: Route, done: &[u32])
 fn show_sheet(rt: &impl Print, s: &[u8]) -> io::Result<()> {
     let x = reader::reads::read(s);
     let done = x.done;
-    let k = counts::names(x.done_len, &done);
+    let k = counts::within(x.done_len, &done);
     show_records(rt, s, x.old, x.new, &done[..k])
 }
 

@@ -6,38 +6,29 @@
 //     2   judge in the same job from a full shelf, from the first edition to the last
 //     3   put of the eighth edition, the usual job's new route
 //     4   put on the same shelf, refused by 20
-//     5   judge from the full shelf, refused by 19
+//     5   judge from the full shelf, refused by 19; and so each number above 5
 #![tactic(auto)]
 
-use drive_script::numbers;
-use samples::lines;
+use drive_script::numbers::Numbers;
+use rounds::Kind;
 use std::io;
 
 mod rounds;
 mod usual;
 
-// So many rounds of a kind.
-fn sum(kind: u64, n: u64) -> u64 {
-    match kind {
-        0 => rounds::nothing(n),
-        1 => rounds::judge_routes(n),
-        2 => rounds::judge_between(n, 80),
-        3 => rounds::put(n, 80),
-        4 => rounds::put(n, 60),
-        _ => rounds::judge_between(n, 90),
-    }
+// A kind, and how many rounds of it.
+fn pair(numbers: &mut Numbers<'_>) -> Option<(Kind, u64)> {
+    Some((Kind::from(numbers.next()?), numbers.next()?))
 }
 
 // A line for each pair.
-fn print_all(rt: &impl Print, nums: &[u64]) -> io::Result<()> {
-    let mut at = 0;
-    let mut left = nums.len() / 2;
-    while 0 < left {
-        let kind = numbers::at(nums, at, 0);
-        rt.print(sum(kind, numbers::at(nums, at, 1)))?;
-        lines::end(rt)?;
-        at = std::num::wrapping_add_usize(at, 2);
-        left -= 1;
+fn print_all(rt: &impl Print, text: &[u8]) -> io::Result<()> {
+    let mut numbers = Numbers::of(text);
+    for _ in 0..8 {
+        let Some((kind, n)) = pair(&mut numbers) else {
+            break;
+        };
+        println!(rt; "{}", kind.sum(n))?;
     }
     Ok(())
 }
@@ -45,7 +36,5 @@ fn print_all(rt: &impl Print, nums: &[u64]) -> io::Result<()> {
 fn main(rt: HostRuntime) -> io::Result<()> {
     let mut text = [0u8; 4096];
     let n = input::read_full(&mut rt.stdin(), &mut text)?;
-    let mut nums = [0u64; 16];
-    let count = numbers::all(&text[..n], &mut nums);
-    print_all(&rt, &nums[..count])
+    print_all(&rt, &text[..n])
 }

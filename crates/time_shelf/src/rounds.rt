@@ -4,86 +4,101 @@ use crate::usual;
 use answering::Judged;
 use shelf::Stored;
 
-fn more(a: u64, b: u64) -> u64 {
-    std::num::wrapping_add_u64(a, b)
+#[derive(Clone, Copy)]
+pub enum Kind {
+    Nothing,
+    JudgeRoutes,
+    JudgeBetween,
+    Put,
+    PutRefused,
+    JudgeRefused,
 }
 
-fn wide(x: u32) -> u64 {
-    x as u64
+impl From<u64> for Kind {
+    fn from(number: u64) -> Kind {
+        match number {
+            0 => Kind::Nothing,
+            1 => Kind::JudgeRoutes,
+            2 => Kind::JudgeBetween,
+            3 => Kind::Put,
+            4 => Kind::PutRefused,
+            5.. => Kind::JudgeRefused,
+        }
+    }
 }
 
-// A number, or one of the seven after it, by the round.
-fn near(number: u32, round: u64) -> u32 {
-    std::num::wrapping_add_u32(number, (round % 8) as u32)
+impl Kind {
+    // So many rounds.
+    pub fn sum(self, n: u64) -> u64 {
+        match self {
+            Kind::Nothing => rounds(n, |round| u64::from(usual::done(round)[9])),
+            Kind::JudgeRoutes => judge_routes(n),
+            Kind::JudgeBetween => judge_between(n, 80),
+            Kind::Put => put(n, 80),
+            Kind::PutRefused => put(n, 60),
+            Kind::JudgeRefused => judge_between(n, 90),
+        }
+    }
+}
+
+fn rounds<F: FnMut(u64) -> u64>(n: u64, mut round: F) -> u64
+    requires { F.IsAlwaysCallable round }
+{
+    let mut sum = 0u64;
+    for i in 0..n {
+        sum = sum.wrapping_add(round(n - i));
+    }
+    sum
+}
+
+fn total(numbers: &[u64]) -> u64 {
+    numbers.iter().fold(0, |sum, x| sum.wrapping_add(*x))
 }
 
 // What a judged job adds to the sum.
-fn judged(r: Judged) -> u64 {
-    let entries = more(r.after[9], r.order[8] as u64);
-    let end = more(r.marking.tokens, r.writers[8] as u64);
-    more(more(r.number as u64, r.kept), more(entries, end))
+fn judged(r: &Judged) -> u64 {
+    total(&[
+        u64::from(r.number),
+        r.kept,
+        r.after[9],
+        u64::from(r.order[8]),
+        r.marking.tokens,
+        u64::from(r.writers[8]),
+    ])
 }
 
 // What a put adds to the sum.
-fn stored(r: Stored) -> u64 {
-    let s = r.shelf;
-    let e = s.editions[7];
-    more(more(r.number as u64, r.second), e.number as u64)
+fn stored(r: &Stored) -> u64 {
+    let edition = &r.shelf.editions[7];
+    total(&[u64::from(r.number), r.second, u64::from(edition.number)])
 }
 
-pub fn nothing(rounds: u64) -> u64 {
-    let mut sum = 0;
-    let mut left = rounds;
-    while 0 < left {
-        let done = usual::done(left);
-        sum = more(sum, wide(done[9]));
-        left -= 1;
-    }
-    sum
-}
-
-pub fn judge_routes(rounds: u64) -> u64 {
+fn judge_routes(n: u64) -> u64 {
     let old = usual::old();
     let new = usual::new();
-    let mut bytes = [0u8; 8192];
-    let work: &mut [u8] = &mut bytes;
-    let mut sum = 0;
-    let mut left = rounds;
-    while 0 < left {
-        let done = usual::done(left);
-        let r = judging::judging::judge(old, new, &done, work);
-        sum = more(sum, judged(r));
-        left -= 1;
-    }
-    sum
+    let mut work = [0u8; 8192];
+    rounds(n, |round| {
+        let done = usual::done(round);
+        judged(&judging::judging::judge(old, new, &done, &mut work))
+    })
 }
 
 // From the first edition to this one.
-pub fn judge_between(rounds: u64, target: u32) -> u64 {
-    let s = usual::full();
-    let mut bytes = [0u8; 8192];
-    let work: &mut [u8] = &mut bytes;
-    let mut sum = 0;
-    let mut left = rounds;
-    while 0 < left {
-        let done = usual::done(left);
-        let r = shelf::between::judge(s, 10, target, &done, work);
-        sum = more(sum, judged(r));
-        left -= 1;
-    }
-    sum
+fn judge_between(n: u64, target: u32) -> u64 {
+    let shelf = usual::full();
+    let mut work = [0u8; 8192];
+    rounds(n, |round| {
+        let done = usual::done(round);
+        judged(&shelf::between::judge(shelf, 10, target, &done, &mut work))
+    })
 }
 
-// The eighth edition's number is this one or near it; 70 is stored before.
-pub fn put(rounds: u64, number: u32) -> u64 {
+// The eighth edition's number is this one, or one of the seven after it; 70 is stored before.
+fn put(n: u64, number: u32) -> u64 {
     let new = usual::new();
-    let s = usual::seven();
-    let mut sum = 0;
-    let mut left = rounds;
-    while 0 < left {
-        let r = shelf::storing::put(s, near(number, left), new);
-        sum = more(sum, stored(r));
-        left -= 1;
-    }
-    sum
+    let shelf = usual::seven();
+    rounds(n, |round| {
+        let near = number.wrapping_add((round % 8) as u32);
+        stored(&shelf::storing::put(shelf, near, new))
+    })
 }
