@@ -55,9 +55,7 @@ pub fn table_of(occurrences: &[u64]) -> [u64; 64]
     let mut writers = [0u64; 32];
     let mut readers = [0u64; 32];
     let mut cut = 0u64;
-    let n = flat::count(occurrences);
-    let mut i = 0;
-    while i < n {
+    for i in 0..flat::count(occurrences) {
         let s = flat::step_at(occurrences, i);
         let own = u64::bit(i);
         let users = after_writes(&readers, &mut writers, s.writes, own);
@@ -65,7 +63,6 @@ pub fn table_of(occurrences: &[u64]) -> [u64; 64]
         let cuts = only(s.cloth, cut);
         cut |= only(s.cloth, own);
         rows[i] = (users | sources | cuts) & (own - 1);
-        i += 1;
     }
     rows
 }
