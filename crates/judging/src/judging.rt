@@ -1,9 +1,8 @@
 // The operation judge: row 14, the lines, the rows to 12, then the straight list where there is one, else the first fit
 // list of the kept.
-ghost use Rattle.std.specs.Prelude.{◌≡◌, ◌≤◌, length};
+ghost use Rattle.std.specs.Prelude.{◌≡◌, ◌≤◌, length, None};
 ghost use Rattle.flat.specs.Flat.{steps_in};
 ghost use Rattle.precedence.specs.Table.{table};
-ghost use Rattle.matching.specs.declared.End.TheVariants.{Stuck};
 ghost use Rattle.work_slice.specs.WorkSlice.{cleared};
 ghost use Rattle.job.specs.Job.{job_of, flat_job};
 ghost use Rattle.job.specs.Lines.{LinesPass};
@@ -11,17 +10,15 @@ ghost use Rattle.judging.specs.Judge.{judged, work_after};
 ghost use Rattle.judging.specs.inner.Passing.{Passing};
 ghost use Rattle.judging.specs.inner.Answers.{AnswersStraight, AnswersFirst, AnswersRows, Works};
 
-use mask::Mask;
 use answering::answers::{answered, stop, straight_order};
 use answering::{Judged, Placed};
 use candidates::gathering::{columns, placed, search_columns};
 use flat::laying::lay;
 use job::checks::check_lines;
-use matching::End;
+use mask::Mask;
 use precedence::table_of;
 use preparing::{Prepared, prepare};
 use route::{Marking, Route};
-use search::Sequence;
 use work_slice::WORK;
 
 // The straight list, after which all count as kept.
@@ -49,7 +46,7 @@ fn judge_kept(
     work: &mut [u8],
 ) -> Judged
     requires passing { Passing p (steps_in occurrences.now) (steps_in matches.now) }
-    requires straight_value { p.straight ≡ Stuck }
+    requires straight_value { p.straight ≡ None }
     requires rows_value { rows ≡ table (steps_in occurrences.now) }
     requires in_bounds { 8192 ≤ length work.old }
     ensures answers_first { AnswersFirst p (steps_in occurrences.now) (steps_in matches.now) result }
@@ -57,14 +54,11 @@ fn judge_kept(
 {
     let start = p.start;
     let c = columns(p.kept, &rows, matches);
-    let found = search_columns(c, start, work);
-    match found {
-        Sequence::Of(order) => {
-            let list = placed(c, order, start);
-            answered(occurrences, &rows, p.vars, p.kept, list)
-        }
-        Sequence::Nothing => stop(13, p.line),
-    }
+    let Some(order) = search_columns(&c, start, work) else {
+        return stop(13, p.line);
+    };
+    let list = placed(&c, order, start);
+    answered(occurrences, &rows, p.vars, p.kept, list)
 }
 
 // What judge answers in a job that no row to 12 refuses.
@@ -76,10 +70,9 @@ fn judge_prepared(p: Prepared, occurrences: &[u64], matches: &[u64], work: &mut 
         work.new }
 {
     let rows = table_of(occurrences);
-    let straight = p.straight;
-    match straight {
-        End::At(m) => judge_straight(occurrences, rows, p.vars, m),
-        End::Stuck => judge_kept(p, occurrences, matches, rows, work),
+    match p.straight {
+        Some(m) => judge_straight(occurrences, rows, p.vars, m),
+        None => judge_kept(p, occurrences, matches, rows, work),
     }
 }
 
