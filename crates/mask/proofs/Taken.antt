@@ -7,6 +7,7 @@ use lib.Count.{count_trailing_zeros}
 use lib.ListN.{length}
 use Rattle.mask.specs.Mask.{count}
 use Rattle.mask.specs.Members.{Takes}
+use Rattle.mask.proofs.Lowest.{lowest-le}
 use Rattle.mask.proofs.FromLowest.{lowest-has, lowest-lt, lowest-rest, rest-less, members-lowest}
 
 -- there is a bit for each member
@@ -19,6 +20,7 @@ takes-lowest w m v m' some narrow is left = rw (is, left) record {
   first = members-lowest w m some narrow;
   held = lowest-has w m some narrow;
   low = lowest-lt w m some narrow;
+  least = lowest-le w m;
   rest = lowest-rest w m some narrow;
   less = rest-less w m some narrow;
 }

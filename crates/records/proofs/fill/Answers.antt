@@ -6,7 +6,7 @@ use Rattle.records.proofs.Overlaid.{overlaid-none, overlaid-on}
 use Rattle.records.proofs.fill.Goals as goal
 
 pub loop-k-init : goal.loop-k-init
-loop-k-init c = (search rules, sym (overlaid-none _ _))
+loop-k-init c = sym (overlaid-none _ _)
 
 pub loop-k-preserved : goal.loop-k-preserved
-loop-k-preserved c = (search rules, search (rules, overlaid-on blank))
+loop-k-preserved c = search (rules, overlaid-on blank)

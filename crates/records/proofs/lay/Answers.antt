@@ -15,7 +15,7 @@ loop-i-init c = search (rules, take_whole)
 pub loop-i-preserved : goal.loop-i-preserved
 loop-i-preserved c =
     let room : c.loop-i.i < length (steps_in c.loop-i.into) = omega (arith, c.requires, length-flat c.loop-i.into) in
-    ((search rules, search rules), (search rules, search (rules, laid_more)))
+    (search rules, (search rules, search (rules, laid_more)))
 
 pub returns : goal.returns
 returns c = search (rules, laid_done)

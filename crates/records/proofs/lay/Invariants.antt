@@ -7,5 +7,5 @@ use Rattle.records.proofs.lay.Given as goal
 
 abbrev pub invariant-loop-i : goal.invariant-loop-i
 invariant-loop-i l =
-    (((l.i ≤ l.n) × (l.n ≤ 65)) × ((l.n ≤ length l.steps) × (length l.into ≡ length l.initial.into)))
+    ((l.n ≤ 65) × ((l.n ≤ length l.steps) × (length l.into ≡ length l.initial.into)))
     × ((take l.n l.steps ≡ take 65 l.steps) × (take l.i (steps_in l.into) ≡ take l.i l.steps))
