@@ -3,23 +3,23 @@
 use mathlib.Core.Path.{◌≡◌, refl, sym, ◌∙◌, subst}
 use mathlib.Core.Bool.{Bool, true, false, ◌&&◌}
 use mathlib.Core.List.{List, [], ◌∷◌}
-use Prim.Native.Nat.{ℕ, ◌+◌, ◌<◌, ◌≤◌}
+use Prim.Native.Nat.{ℕ, ◌+◌, ◌<◌}
 use native.Mathlib.Omega.{arith}
 use lib.Dec.{eqb}
-use lib.ListN.{length, get_or}
+use lib.ListN.{get_or}
 use borrow.Author.Tests.{eqb-true}
 use Rattle.std.specs.Prelude.{Result, Ok, Err}
 use Rattle.mask.proofs.Truth.{both}
 use Rattle.version.specs.declared.Version.{Version}
 use Rattle.layout.specs.Text.{Form, Lines}
-use Rattle.layout.specs.Parse.{Line, no_line, with_num, stored, form_of, put_step, put_line}
+use Rattle.layout.specs.Parse.{Line, no_line, with_num, stored, put_step, put_line}
 use Rattle.layout.specs.inner.Entries.{with_entries}
 use Rattle.layout.specs.declared.Word.{Word}
 use Rattle.layout.specs.declared.Word.TheVariants.{Step, In, Out, Read, Write, Cloth}
 use Rattle.layout.specs.declared.Part.{Part}
 use Rattle.layout.specs.declared.Point.{Point}
-use Rattle.layout.specs.declared.Point.TheVariants.{Open, Digit, Digits, Past, Closed}
-use Rattle.layout.proofs.LineLists.{line_with, form_of-line_with}
+use Rattle.layout.specs.declared.Point.TheVariants.{Open, Digits, Past, Closed}
+use Rattle.layout.proofs.LineLists.{form_of-line_with}
 use Rattle.tokens.specs.inner.Tokens.{Reading, Spells, TextTo, TextBreaks, NumberTo, NumberBreaks, ListOn, list_word}
 use Rattle.tokens.specs.declared.Broken.{Broken}
 use Rattle.tokens.specs.declared.Numeral.{Numeral}

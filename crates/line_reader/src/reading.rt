@@ -46,6 +46,7 @@ fn marked(v: Version, s: &[u8], at: usize) -> bool
 }
 
 // Past the last list: the mark, where it stands, and the end.
+#[inline]
 fn line_end(v: Version, s: &[u8], from: usize) -> Result<Ending, Broken>
     requires { from ≤ length s.now }
     ensures { EndingOn v s.now from result }
@@ -62,6 +63,7 @@ fn line_end(v: Version, s: &[u8], from: usize) -> Result<Ending, Broken>
 }
 
 // A list: its text, and its entries.
+#[inline(always)]
 fn listed(v: Version, s: &[u8], from: usize, w: &[u8]) -> Result<Listed, Broken>
     requires limits { Limits v }
     requires from_in_bounds { from ≤ length s.now }

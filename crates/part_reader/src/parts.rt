@@ -67,13 +67,7 @@ pub fn job_head(s: &[u8], p: Pass, above: usize) -> Result<Pass, Broken>
 }
 
 // The steps below a head, put away in place.
-pub fn steps(
-    v: Version,
-    s: &[u8],
-    p: Pass,
-    places: u64,
-    list: &mut [u64],
-) -> Result<Filled, Broken>
+pub fn steps(v: Version, s: &[u8], p: Pass, places: u64, list: &mut [u64]) -> Result<Filled, Broken>
     requires limits { Limits v }
     requires placed { Placed s.now p }
     requires places_bound { p.outcome.number ≡ 0 → places ≤ 64 }

@@ -24,7 +24,6 @@ use Rattle.layout.specs.declared.Point.{Point}
 use Rattle.layout.specs.declared.Point.TheVariants.{Digit, Digits, Stuck}
 use Rattle.layout.proofs.PrefixStep.{digit-bounds}
 use Rattle.tokens.specs.inner.Tokens.{Reading, Breaks, NumberTo, NumberBreaks}
-use Rattle.tokens.specs.declared.Numeral.{Numeral}
 use Rattle.tokens.proofs.Bytes.{byte-on, byte-stuck, bytes-over}
 
 -- ---- digits

@@ -7,6 +7,8 @@ use crate::numbers::number;
 use crate::{Broken, Entries, Listed};
 use version::Version;
 
+// Inlined: a step's line reads faster so.
+#[inline(always)]
 pub fn list(v: Version, s: &[u8], from: usize) -> Result<Listed, Broken>
     requires limits { Limits v }
     requires from_in_bounds { from ≤ length s.now }

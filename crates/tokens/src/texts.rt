@@ -76,6 +76,8 @@ fn stands(s: &[u8], from: usize, w: &[u8]) -> bool
     true
 }
 
+// Inlined: where the text is known, it is compared as two numbers.
+#[inline(always)]
 pub fn text(s: &[u8], from: usize, w: &[u8]) -> Result<usize, Broken>
     requires { from ≤ length s.now }
     ensures { TextOn s.now from w.now result }

@@ -12,7 +12,7 @@ returns-then-left-eq0 c = record { within = search rules; rest = search (rules, 
 
 pub loop-i-preserved : goal.loop-i-preserved
 loop-i-preserved c = elim c.if-b-eq10.branch [
-  then-b-eq10 w ↦ search (rules, lines-lf)
+  | then-b-eq10 w ↦ search (rules, lines-lf)
   | else-b-eq10 w ↦ search (rules, lines-on)
 ]
 

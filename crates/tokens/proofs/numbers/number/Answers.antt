@@ -1,7 +1,6 @@
 -- `tokens::numbers::number`: digit by digit, reading goes on.
-use native.Mathlib.Omega.{arith}
 use borrow.Author.Rules.{rules}
-use Rattle.tokens.proofs.NumberBytes.{counts-init, counts-step, counts-other, counts-full, counts-over, counts-low}
+use Rattle.tokens.proofs.NumberBytes.{counts-init, counts-step, counts-other, counts-full, counts-over}
 use Rattle.tokens.proofs.NumberBytes.{number-zero, number-over, number-other}
 use Rattle.tokens.proofs.numbers.number.Goals.{then-not-is_ascii_digit-2-via-then-not-is_ascii_digit-2, then-not-is_ascii_digit-2-via-else-not-is_ascii_digit-2+then-left-eq0}
 use Rattle.tokens.proofs.numbers.number.Goals as goal
@@ -20,7 +19,7 @@ loop-i-init c = search (rules, counts-init)
 
 pub returns-then-not-is_ascii_digit-2 : goal.returns-then-not-is_ascii_digit-2
 returns-then-not-is_ascii_digit-2 c = elim c.then-not-is_ascii_digit-2.branch [
-  then-not-is_ascii_digit-2-via-then-not-is_ascii_digit-2 w ↦ search (rules, counts-other)
+  | then-not-is_ascii_digit-2-via-then-not-is_ascii_digit-2 w ↦ search (rules, counts-other)
   | then-not-is_ascii_digit-2-via-else-not-is_ascii_digit-2+then-left-eq0 w ↦ search (rules, counts-full)
 ]
 

@@ -9,7 +9,7 @@ loop-i-init c = search (rules, agreed-init)
 
 pub returns-then-s-from : goal.returns-then-s-from
 returns-then-s-from c = elim c.then-s-from.branch [
-  then-s-from-via-then-s-from w ↦ search (rules, text-over)
+  | then-s-from-via-then-s-from w ↦ search (rules, text-over)
   | then-s-from-via-else-s-from+then-s-from-2 w ↦ search (rules, text-other)
 ]
 
