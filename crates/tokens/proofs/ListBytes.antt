@@ -19,7 +19,8 @@ use Rattle.layout.specs.declared.Word.TheVariants.{Old, New, Job, Done, Step, In
 use Rattle.layout.specs.declared.Part.{Part}
 use Rattle.layout.specs.declared.Point.{Point}
 use Rattle.layout.specs.declared.Point.TheVariants.{Digit, Digits, Past, Closed, Stuck}
-use Rattle.tokens.specs.inner.Tokens.{Reading, NumberTo, NumberBreaks, list_word, no_entries, added, along, ListTo, ListBreaks}
+use Rattle.tokens.specs.inner.Tokens.{Reading, NumberTo, NumberBreaks, list_word, no_entries, added, along, ListTo}
+use Rattle.tokens.specs.inner.Tokens.{ListBreaks}
 use Rattle.tokens.specs.declared.Numeral.{Numeral}
 use Rattle.tokens.specs.declared.Entries.{Entries}
 use Rattle.tokens.proofs.Bytes.{byte-on, byte-stuck, bytes-over}

@@ -23,15 +23,19 @@ returns-in_err-o c = handed (StepOn c.args.v c.args.s.now c.args.from) _ _ c.fro
 
 pub returns-in_err-r : goal.returns-in_err-r
 returns-in_err-r c = handed (StepOn c.args.v c.args.s.now c.args.from) _ _ c.from_residual-in_err-r.ensures.1
-    (read-breaks _ _ _ _ c.in_ok-a.ensures _ c.in_ok-n.ensures _ c.in_ok-i.ensures _ c.in_ok-o.ensures _ c.in_err-r.ensures)
+    (read-breaks _ _ _ _ c.in_ok-a.ensures _ c.in_ok-n.ensures _ c.in_ok-i.ensures _ c.in_ok-o.ensures _
+    c.in_err-r.ensures)
 
 pub returns-in_err-w : goal.returns-in_err-w
 returns-in_err-w c = handed (StepOn c.args.v c.args.s.now c.args.from) _ _ c.from_residual-in_err-w.ensures.1
-    (write-breaks _ _ _ _ c.in_ok-a.ensures _ c.in_ok-n.ensures _ c.in_ok-i.ensures _ c.in_ok-o.ensures _ c.in_ok-r.ensures _ c.in_err-w.ensures)
+    (write-breaks _ _ _ _ c.in_ok-a.ensures _ c.in_ok-n.ensures _ c.in_ok-i.ensures _ c.in_ok-o.ensures _
+    c.in_ok-r.ensures _ c.in_err-w.ensures)
 
 pub returns-in_err-e : goal.returns-in_err-e
 returns-in_err-e c = handed (StepOn c.args.v c.args.s.now c.args.from) _ _ c.from_residual-in_err-e.ensures.1
-    (ending-breaks _ _ _ _ c.in_ok-a.ensures _ c.in_ok-n.ensures _ c.in_ok-i.ensures _ c.in_ok-o.ensures _ c.in_ok-r.ensures _ c.in_ok-w.ensures _ c.in_err-e.ensures)
+    (ending-breaks _ _ _ _ c.in_ok-a.ensures _ c.in_ok-n.ensures _ c.in_ok-i.ensures _ c.in_ok-o.ensures _
+    c.in_ok-r.ensures _ c.in_ok-w.ensures _ c.in_err-e.ensures)
 
 pub returns : goal.returns
-returns c = step-on _ _ _ _ c.in_ok-a.ensures _ c.in_ok-n.ensures _ c.in_ok-i.ensures _ c.in_ok-o.ensures _ c.in_ok-r.ensures _ c.in_ok-w.ensures _ c.in_ok-e.ensures
+returns c = step-on _ _ _ _ c.in_ok-a.ensures _ c.in_ok-n.ensures _ c.in_ok-i.ensures _ c.in_ok-o.ensures _
+    c.in_ok-r.ensures _ c.in_ok-w.ensures _ c.in_ok-e.ensures
