@@ -9,6 +9,7 @@ ghost use Rattle.precedence.specs.Table.{table};
 ghost use Rattle.answering.specs.Answer.{padded, after_of, writer_of, judge_stopped};
 ghost use Rattle.answering.specs.inner.Listed.{AnswersList};
 
+use mask::Mask;
 use crate::{Judged, Placed};
 use route::Marking;
 
@@ -59,7 +60,7 @@ fn last_writers(occurrences: &[u64], vars: u32) -> [u8; 32]
         i -= 1;
         let s = flat::step_at(occurrences, i);
         let hit = s.writes & left;
-        left = mask::without32(left, hit);
+        left = left.without(hit);
         mark_writers(&mut writers, hit, number);
     }
     writers
@@ -91,7 +92,7 @@ pub fn answered(occurrences: &[u64], rows: &[u64; 64], vars: u32, kept: u64, lis
     let after = after_rows(rows, kept);
     let writers = last_writers(occurrences, vars);
     let done = flat::count(occurrences) as u32;
-    let dropped = done - mask::count64(kept);
+    let dropped = done - kept.count();
     Judged {
         number: 0,
         second: 0,

@@ -4,6 +4,7 @@ ghost use Rattle.refusal.specs.Rows.{first};
 ghost use Rattle.version.specs.Limits.{present, name_fits};
 ghost use Rattle.job.specs.Lines.{places_fit, step_fits, place_list, variable_list, lists_fit, done_rows};
 
+use mask::Mask;
 use refusal::Outcome;
 use route::{Route, Step};
 use version::Version;
@@ -18,19 +19,19 @@ pub fn step_fits(places: u64, s: Step) -> bool
     requires { places ≤ 64 }
     ensures { result ≡ step_fits places s }
 {
-    name_fits(s.name) && mask::within64(s.ins | s.outs, mask::below64(places))
+    name_fits(s.name) && (s.ins | s.outs).within(u64::below(places))
 }
 
 fn place_list(m: u64) -> bool
     ensures { result ≡ place_list m }
 {
-    m != 0 && mask::count64(m) <= Route::ENTRIES
+    m != 0 && m.count() <= Route::ENTRIES
 }
 
-fn variable_list(m: u32) -> bool
-    ensures { result ≡ variable_list m }
+fn variable_list(vars: u32) -> bool
+    ensures { result ≡ variable_list vars }
 {
-    mask::count32(m) <= Route::ENTRIES
+    vars.count() <= Route::ENTRIES
 }
 
 pub fn lists_fit(s: Step) -> bool

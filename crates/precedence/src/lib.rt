@@ -7,6 +7,8 @@ ghost use Rattle.flat.specs.Flat.{steps_in};
 ghost use Rattle.precedence.specs.inner.ByVariable.{ByVariable, meeting, Gathers, Joins};
 ghost use Rattle.precedence.specs.Table.{table};
 
+use mask::Mask;
+
 // One more occurrence that writes the variables: the earlier readers and writers of these.
 fn after_writes(readers: &[u64; 32], writers: &mut [u64; 32], vars: u32, own: u64) -> u64
     ensures by_index { (f g : ℕ → ℕ) (n : ℕ) → ByVariable f n readers.now
@@ -63,7 +65,7 @@ pub fn table_of(occurrences: &[u64]) -> [u64; 64]
     let mut i = 0;
     while i < n {
         let s = flat::step_at(occurrences, i);
-        let own = mask::bit64(i);
+        let own = u64::bit(i);
         let users = after_writes(&readers, &mut writers, s.writes, own);
         let sources = after_reads(&writers, &mut readers, s.reads, own);
         let cuts = only(s.cloth, cut);

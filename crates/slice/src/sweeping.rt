@@ -3,6 +3,7 @@ ghost use Rattle.std.specs.Prelude.{◌≡◌, ◌≤◌, length};
 ghost use Rattle.flat.specs.Flat.{steps_in};
 ghost use Rattle.slice.specs.Slice.{Sweep, keeps, kept_mask};
 
+use mask::Mask;
 use route::Step;
 
 // The sweep keeps an occurrence of `s` where `live` is live after it.
@@ -12,7 +13,7 @@ fn stays(s: Step, live: u32) -> bool
     if s.cloth {
         return true;
     }
-    mask::meets32(s.writes, live)
+    s.writes.meets(live)
 }
 
 pub fn keep(occurrences: &[u64], vars: u32) -> u64
@@ -26,8 +27,8 @@ pub fn keep(occurrences: &[u64], vars: u32) -> u64
         i -= 1;
         let s = flat::step_at(occurrences, i);
         if stays(s, live) {
-            live = mask::without32(live, s.writes) | s.reads;
-            kept |= mask::bit64(i);
+            live = live.without(s.writes) | s.reads;
+            kept |= u64::bit(i);
         }
     }
     kept

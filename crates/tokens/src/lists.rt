@@ -5,6 +5,7 @@ ghost use Rattle.tokens.specs.inner.Tokens.{ListOn};
 
 use crate::numbers::number;
 use crate::{Broken, Entries, Listed};
+use mask::Mask;
 use version::Version;
 
 // Inlined: a step's line reads faster so.
@@ -39,7 +40,7 @@ pub fn list(v: Version, s: &[u8], from: usize) -> Result<Listed, Broken>
         let n = number(v, s, i + 1)?;
         i = n.at;
         let e = n.value;
-        mask |= mask::bit64((e % 64) as usize);
+        mask |= u64::bit((e % 64) as usize);
         count += 1;
         if e < top {
             falls = true;

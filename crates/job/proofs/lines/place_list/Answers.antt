@@ -10,7 +10,7 @@ use Rattle.job.proofs.lines.place_list.Goals as goal
 
 pub returns-then-m-ne0 : goal.returns-then-m-ne0
 unfolding place_list
-returns-then-m-ne0 c = and_yes refl (ap not (ne_eqb _ _ c.if-m-ne0.true)) (ap (λ (n : ℕ). leb n 8) c.count64.ensures)
+returns-then-m-ne0 c = and_yes refl (ap not (ne_eqb _ _ c.if-m-ne0.true)) (ap (λ (n : ℕ). leb n 8) c.count.ensures)
 
 pub returns-else-m-ne0 : goal.returns-else-m-ne0
 unfolding place_list

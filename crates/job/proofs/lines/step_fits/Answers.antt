@@ -14,7 +14,7 @@ returns-then-name_fits c =
     let start = c in
     let s = start.args.s in
     and_yes named.name_fits.ensures named.if-name_fits.true
-    (c.within64.ensures ∙ ap (λ (m : ℕ). within (bit_or s.ins s.outs) m) c.below64.ensures)
+    (c.within.ensures ∙ ap (λ (m : ℕ). within (bit_or s.ins s.outs) m) c.below.ensures)
 
 pub returns-else-name_fits : goal.returns-else-name_fits
 unfolding step_fits

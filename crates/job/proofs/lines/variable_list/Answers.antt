@@ -7,4 +7,4 @@ use Rattle.job.proofs.lines.variable_list.Goals as goal
 
 pub returns : goal.returns
 unfolding variable_list
-returns c = ap (λ (n : ℕ). leb n 8) c.count32.ensures
+returns c = ap (λ (n : ℕ). leb n 8) c.count.ensures
