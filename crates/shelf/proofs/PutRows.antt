@@ -77,15 +77,15 @@ module _ (s : Shelf) (n : ℕ) (r : Route) (o : Outcome) (is : o ≡ first (shel
   rows_of : eqb (first (shelf_rows s n)).number 0 ≡ t
   rows_of = ap (λ (x : Outcome). eqb x.number 0) (sym is) ∙ sym test
 
-  pub put-stops : not t ≡ true → o ≡ put_row s n r
+  pub put-stops : t ≡ false → o ≡ put_row s n r
   unfolding put_row
-  put-stops off = is ∙ sym (rows-refuse (shelf_rows s n) _ (rows_of ∙ not-true t off))
+  put-stops off = is ∙ sym (rows-refuse (shelf_rows s n) _ (rows_of ∙ off))
 
-  pub put-goes-on : not t ≡ false → (p : Outcome) → p ≡ first (alone_rows r.places (steps_of r)) → p ≡ put_row s n r
+  pub put-goes-on : t ≡ true → (p : Outcome) → p ≡ first (alone_rows r.places (steps_of r)) → p ≡ put_row s n r
   unfolding put_row
-  put-goes-on on p rows = rows ∙ sym (rows_pass (shelf_rows s n) _ (rows_of ∙ not-false t on))
+  put-goes-on on p rows = rows ∙ sym (rows_pass (shelf_rows s n) _ (rows_of ∙ on))
 
--- the answer, where all rows are in hand
+-- where all rows pass there is room
 module _ (s : Shelf) (n : ℕ) (r : Route) (o : Outcome) (is : o ≡ put_row s n r) (t : Bool)
     (test : t ≡ eqb o.number 0) where
   pub put-room : t ≡ true → s.len < 8
@@ -94,18 +94,19 @@ module _ (s : Shelf) (n : ℕ) (r : Route) (o : Outcome) (is : o ≡ put_row s n
       (shelf-passes s n
       (rows-passed (shelf_rows s n) _ (ap (λ (x : Outcome). eqb x.number 0) (sym is) ∙ sym test ∙ on)).0).1.1
 
-  put-answers : (b : Shelf) → b ≡ cond t (with_edition s n r) s
+-- the answer, by whether they pass
+module _ (s : Shelf) (n : ℕ) (r : Route) (o : Outcome) (is : o ≡ put_row s n r) where
+  put-answers : (b : Shelf) → b ≡ cond (eqb o.number 0) (with_edition s n r) s
       → record { number = o.number; second = o.second; shelf = b } ≡ stored s n r
   unfolding stored
   put-answers b more =
       let shelf-is : b ≡ cond (eqb (put_row s n r).number 0) (with_edition s n r) s =
-      more ∙ ap (λ (x : Bool). cond x (with_edition s n r) s)
-      (test ∙ ap (λ (x : Outcome). eqb x.number 0) is) in
+      more ∙ ap (λ (x : Outcome). cond (eqb x.number 0) (with_edition s n r) s) is in
       λ i. record { number = (is i).number; second = (is i).second; shelf = shelf-is i }
 
-  pub put-stored : t ≡ true → (b : Shelf) → b ≡ with_edition s n r
+  pub put-stored : eqb o.number 0 ≡ true → (b : Shelf) → b ≡ with_edition s n r
       → record { number = o.number; second = o.second; shelf = b } ≡ stored s n r
   put-stored on b more = put-answers b (more ∙ cond_yes _ _ refl on)
 
-  pub put-refused : t ≡ false → record { number = o.number; second = o.second; shelf = s } ≡ stored s n r
+  pub put-refused : eqb o.number 0 ≡ false → record { number = o.number; second = o.second; shelf = s } ≡ stored s n r
   put-refused off = put-answers s (cond_no _ _ refl off)

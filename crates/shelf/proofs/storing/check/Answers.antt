@@ -4,7 +4,9 @@ use Rattle.shelf.proofs.PutRows.{put-stops, put-goes-on}
 use Rattle.shelf.proofs.storing.check.Goals as goal
 
 pub returns-then-not-passed : goal.returns-then-not-passed
-returns-then-not-passed c = search (rules, put-stops)
+returns-then-not-passed c =
+    put-stops c.args.s.now c.args.number c.args.route _ (search rules) c.passed.result c.passed.ensures
+    c.if-not-passed.true
 
 pub returns : goal.returns
 returns c = search (rules, put-goes-on)
