@@ -7,6 +7,7 @@ use Prim.Native.Nat.{ℕ, suc, ◌≤◌, ◌<◌}
 use native.Mathlib.Omega.{arith}
 use lib.ListN.{length, take}
 use borrow.Author.Tests.{eq-eqb}
+use Rattle.std.specs.Prelude.{Option, Some, None}
 use Rattle.mask.specs.Mask.{has, below, count}
 use Rattle.mask.proofs.Members.{count-few}
 use Rattle.route.specs.Steps.{blank}
@@ -21,15 +22,11 @@ use Rattle.matching.specs.Straight.{fire_all, steps_on, runs_straight}
 use Rattle.matching.specs.Fit.{kept_of}
 use Rattle.matching.specs.KeptRows.{kept_rows}
 use Rattle.matching.specs.inner.Matched.{matched, straight_end}
-use Rattle.matching.specs.declared.End.{End}
-use Rattle.matching.specs.declared.End.TheVariants.{At, Stuck}
 use Rattle.preparing.specs.declared.Prepared.{Prepared}
 use Rattle.matching.proofs.Matched.{length-matched}
 use Rattle.matching.proofs.KeptRows.{limit-holds, members-same}
 use Rattle.answering.specs.Answer.{padded, judge_stopped, answer}
 use Rattle.search.specs.Candidates.{first_order, sequence}
-use Rattle.search.specs.declared.Sequence.{Sequence}
-use Rattle.search.specs.declared.Sequence.TheVariants.{Of, Nothing}
 use Rattle.candidates.specs.FirstFit.{first_fit}
 use Rattle.candidates.specs.inner.Columns.{ColumnsOf, Packed, positions, placed_by}
 use Rattle.candidates.specs.declared.Columns.{Columns}
@@ -38,7 +35,7 @@ use Rattle.answering.specs.inner.Listed.{placed_on, AnswersList}
 use Rattle.answering.specs.declared.Placed.{Placed}
 use Rattle.answering.specs.declared.Judged.{Judged}
 use Rattle.judging.specs.inner.Passing.{Passing}
-use Rattle.candidates.proofs.CandidateColumns.{Room, AllSame}
+use Rattle.candidates.proofs.CandidateColumns.{AllSame}
 use Rattle.candidates.proofs.FirstFit.{Found, none-fit, order-fit}
 
 -- all occurrences in turn, and where they end
@@ -61,27 +58,30 @@ straight-list from new l len order marking p q r =
 
 -- ---- where the straight list ends
 
-module _ (from : ℕ) (new l : List Step) (f : End) (is : f ≡ straight_end from new l) where
+module _ (from : ℕ) (new l : List Step) (f : Option Marking) (is : f ≡ straight_end from new l) where
   straight-at :
       (m : Marking)
-      → f ≡ At m
+      → f ≡ Some m
       → (runs_straight from new l ≡ true) × (m.tokens ≡ get_or (fire_all new from l) 0)
   unfolding straight_end
   straight-at m e = go (runs_straight from new l) (sym e ∙ is)
     where
       go :
           (t : Bool)
-          → At m ≡ cond t (At (record { tokens = get_or (fire_all new from l) 0 })) Stuck
+          → Some m ≡ cond t (Some (record { tokens = get_or (fire_all new from l) 0 })) None
           → (t ≡ true) × (m.tokens ≡ get_or (fire_all new from l) 0)
       go true h = let same : m ≡ record { tokens = get_or (fire_all new from l) 0 } =
           cc in (refl, ap (λ (x : Marking). x.tokens) same)
       go false h = (cc, cc)
 
-  straight-stuck : f ≡ Stuck → runs_straight from new l ≡ false
+  straight-stuck : f ≡ None → runs_straight from new l ≡ false
   unfolding straight_end
   straight-stuck e = go (runs_straight from new l) (sym e ∙ is)
     where
-      go : (t : Bool) → Stuck ≡ cond t (At (record { tokens = get_or (fire_all new from l) 0 })) Stuck → t ≡ false
+      go :
+          (t : Bool)
+          → ◌≡◌ {A = Option Marking} None (cond t (Some (record { tokens = get_or (fire_all new from l) 0 })) None)
+          → t ≡ false
       go true h = cc
       go false h = refl
 
@@ -139,12 +139,12 @@ module _ (line from : ℕ) (new l : List Step) where
 module _ {p : Prepared} {l t : List Step} (k : Passing p l t) where
   pub passing-straight :
       (m : Marking)
-      → p.straight ≡ At m
+      → p.straight ≡ Some m
       → (runs_straight p.start.tokens k.new l ≡ true)
       × (m.tokens ≡ get_or (fire_all k.new p.start.tokens l) 0)
   passing-straight = straight-at p.start.tokens k.new l p.straight k.straight-is
 
-  pub passing-stuck : p.straight ≡ Stuck → runs_straight p.start.tokens k.new l ≡ false
+  pub passing-stuck : p.straight ≡ None → runs_straight p.start.tokens k.new l ≡ false
   passing-stuck = straight-stuck p.start.tokens k.new l p.straight k.straight-is
 
   pub passing-below : (i : ℕ) → has p.kept i ≡ true → i < length l
@@ -158,7 +158,7 @@ module _ {p : Prepared} {l t : List Step} (k : Passing p l t) where
   pub passing-few : count 64 p.kept ≤ length l
   passing-few = count-few 64 p.kept (length l) passing-below
 
-  pub passing-limit : p.straight ≡ Stuck → count 64 p.kept ≤ 16
+  pub passing-limit : p.straight ≡ None → count 64 p.kept ≤ 16
   passing-limit e = rw k.kept-is (limit-holds p.line p.start.tokens k.new l k.passes (passing-stuck e))
 
   pub passing-same : AllSame k.new l p.kept
@@ -168,27 +168,24 @@ module _ {p : Prepared} {l t : List Step} (k : Passing p l t) where
 
 module _ {p : Prepared} {l t : List Step} (k : Passing p l t) (rows : List ℕ) (c : Columns)
     (cols : ColumnsOf p.kept rows t c) where
-  pub columns-few : p.straight ≡ Stuck → c.len ≤ 16
-  columns-few stuck = omega (arith, cols.length-is, passing-limit k stuck)
-
   columns-are : ColumnsOf p.kept rows (matched k.new l) c
   columns-are = subst (λ (x : List Step). ColumnsOf p.kept rows x c) k.matches-are cols
 
-  module _ (table_is : rows ≡ table l) (room : Room c) (r : Sequence)
-      (e : r ≡ sequence (first_order (take c.len c.ins) (take c.len c.outs) (take c.len c.before)
+  module _ (table_is : rows ≡ table l) (r : Option ℕ)
+      (e : r ≡ sequence (first_order (take c.candidates.len c.candidates.ins) (take c.candidates.len c.candidates.outs) (take c.candidates.len c.candidates.before)
       p.start.tokens)) where
-    pub none-judged : r ≡ Nothing → (z : Judged) → z ≡ judge_stopped 13 p.line
+    pub none-judged : r ≡ None → (z : Judged) → z ≡ judge_stopped 13 p.line
         → z ≡ judge_found p.line p.start.tokens k.new l (first_fit p.start.tokens k.new l)
     none-judged f z is =
         is
         ∙ none-answer p.line p.start.tokens k.new l
-        (none-fit k.new l p.kept rows c k.kept-is (passing-same k) table_is columns-are room p.start.tokens
+        (none-fit k.new l p.kept rows c k.kept-is (passing-same k) table_is columns-are p.start.tokens
         r e f)
 
-    module _ (x : ℕ) (of : r ≡ Of x) (q : Placed)
-        (placed : (o : List ℕ) → Packed x c.len o → q ≡ placed_by c p.start.tokens o) where
+    module _ (x : ℕ) (of : r ≡ Some x) (q : Placed)
+        (placed : (o : List ℕ) → Packed x c.candidates.len o → q ≡ placed_by c p.start.tokens o) where
       found : Found k.new l c p.start.tokens x
-      found = order-fit k.new l p.kept rows c k.kept-is (passing-same k) table_is columns-are room
+      found = order-fit k.new l p.kept rows c k.kept-is (passing-same k) table_is columns-are
           p.start.tokens r e x of
 
       pub order-short : q.len ≤ 64
@@ -196,7 +193,7 @@ module _ {p : Prepared} {l t : List Step} (k : Passing p l t) (rows : List ℕ) 
         arith,
         ap (λ (y : Placed). y.len) (placed found.order found.packed),
         found.packed.long,
-        room.few,
+        c.candidates.sixteen.few,
       )
 
       pub order-judged : (z : Judged) → AnswersList rows p.vars p.kept q l z

@@ -1,9 +1,8 @@
 // The operation judge: row 14, the lines, the rows to 12, then the straight list where there is one, else the first fit
 // list of the kept.
-ghost use Rattle.std.specs.Prelude.{◌≡◌, ◌≤◌, length};
+ghost use Rattle.std.specs.Prelude.{◌≡◌, ◌≤◌, length, None};
 ghost use Rattle.flat.specs.Flat.{steps_in};
 ghost use Rattle.precedence.specs.Table.{table};
-ghost use Rattle.matching.specs.declared.End.TheVariants.{Stuck};
 ghost use Rattle.work_slice.specs.WorkSlice.{cleared};
 ghost use Rattle.job.specs.Job.{job_of, flat_job};
 ghost use Rattle.job.specs.Lines.{LinesPass};
@@ -16,11 +15,10 @@ use answering::{Judged, Placed};
 use candidates::gathering::{columns, placed, search_columns};
 use flat::laying::lay;
 use job::checks::check_lines;
-use matching::End;
+use mask::Mask;
 use precedence::table_of;
 use preparing::{Prepared, prepare};
 use route::{Marking, Route};
-use search::Sequence;
 use work_slice::WORK;
 
 // The straight list, after which all count as kept.
@@ -29,7 +27,7 @@ fn judge_straight(occurrences: &[u64], rows: [u64; 64], vars: u32, marking: Mark
     ensures { AnswersStraight rows vars marking.tokens (steps_in occurrences.now) result }
 {
     let len = flat::count(occurrences);
-    let kept = mask::below64(len as u64);
+    let kept = u64::below(len as u64);
     let order = straight_order(len);
     let list = Placed {
         len,
@@ -48,7 +46,7 @@ fn judge_kept(
     work: &mut [u8],
 ) -> Judged
     requires passing { Passing p (steps_in occurrences.now) (steps_in matches.now) }
-    requires straight_value { p.straight ≡ Stuck }
+    requires straight_value { p.straight ≡ None }
     requires rows_value { rows ≡ table (steps_in occurrences.now) }
     requires in_bounds { 8192 ≤ length work.old }
     ensures answers_first { AnswersFirst p (steps_in occurrences.now) (steps_in matches.now) result }
@@ -56,14 +54,11 @@ fn judge_kept(
 {
     let start = p.start;
     let c = columns(p.kept, &rows, matches);
-    let found = search_columns(c, start, work);
-    match found {
-        Sequence::Of(order) => {
-            let list = placed(c, order, start);
-            answered(occurrences, &rows, p.vars, p.kept, list)
-        }
-        Sequence::Nothing => stop(13, p.line),
-    }
+    let Some(order) = search_columns(&c, start, work) else {
+        return stop(13, p.line);
+    };
+    let list = placed(&c, order, start);
+    answered(occurrences, &rows, p.vars, p.kept, list)
 }
 
 // What judge answers in a job that no row to 12 refuses.
@@ -75,10 +70,9 @@ fn judge_prepared(p: Prepared, occurrences: &[u64], matches: &[u64], work: &mut 
         work.new }
 {
     let rows = table_of(occurrences);
-    let straight = p.straight;
-    match straight {
-        End::At(m) => judge_straight(occurrences, rows, p.vars, m),
-        End::Stuck => judge_kept(p, occurrences, matches, rows, work),
+    match p.straight {
+        Some(m) => judge_straight(occurrences, rows, p.vars, m),
+        None => judge_kept(p, occurrences, matches, rows, work),
     }
 }
 

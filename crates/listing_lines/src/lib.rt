@@ -7,6 +7,7 @@ ghost use Rattle.emit.specs.Numbers.{over, entry as entry_text};
 ghost use Rattle.listing_lines.specs.Lines.{refused_line, moved_line, order_line, marking_line};
 
 use emit::{entries, entry, text};
+use mask::Mask;
 
 // A word and an entry.
 pub fn figure(out: &mut [u8], at: usize, w: &[u8], n: u64) -> usize
@@ -30,7 +31,7 @@ pub fn moved_line(out: &mut [u8], at: usize, kept: u64, dropped: u32) -> usize
     requires { Room (moved_line kept dropped) out.old at }
     ensures { Emits (moved_line kept dropped) out.old at out.new result }
 {
-    let n = mask::count64(kept);
+    let n = kept.count();
     let middle = figure(out, at, b"(moved (kept", n as u64);
     let last = figure(out, middle, b") (dropped", dropped as u64);
     text(out, last, b"))\n")

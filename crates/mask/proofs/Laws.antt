@@ -190,6 +190,22 @@ some-meets a b v ha hb = go (meets a b) refl
     go true e = refl
     go false e = let z : (has a v && has b v) ≡ false = meets-none a b e v in sym z ∙ ap₂ (λ (x y : Bool). x && y) ha hb
 
+-- to meet the set of v alone is to hold v
+pub meets_bit : (m v : ℕ) → meets m (bit v) ≡ has m v
+meets_bit m v = go (has m v) refl
+  where
+    at : (u : ℕ) → has m v ≡ false → (has m u && eqb u v) ≡ false
+    at u e = table (eqb u v) refl
+      where
+        table : (t : Bool) → eqb u v ≡ t → (has m u && t) ≡ false
+        table true s = and-true (has m u) ∙ ap (has m) (eqb-true u v s) ∙ e
+        table false s = and-false (has m u)
+
+    go : (t : Bool) → has m v ≡ t → meets m (bit v) ≡ t
+    go true e = some-meets m (bit v) v e (has-bit v v ∙ eq-eqb v v refl)
+    go false e = ap (λ (n : ℕ). not (eqb n 0)) (has-ext (bit_and m (bit v)) 0
+        (λ u. has-and m (bit v) u ∙ ap (λ (t : Bool). has m u && t) (has-bit v u) ∙ at u e ∙ sym (has-zero u)))
+
 pub meets-or : (a b c : ℕ) → meets a (bit_or b c) ≡ (meets a b || meets a c)
 meets-or a b c = go (meets a b) refl
   where

@@ -1,80 +1,191 @@
-// Sets of small numbers as bit masks of 32 and 64 bits. What each function means is said in specs/Mask.antt,
+// Sets of small numbers as bit masks. What each function means is said in specs/Mask.antt,
 // and the laws in proofs/ hold for any width.
 #![tactic(auto)]
 
-ghost use Rattle.std.specs.Prelude.{◌≡◌, ◌<◌, ◌≤◌};
+ghost use Rattle.std.specs.Prelude.{◌≡◌, ◌<◌, ◌≤◌, ◌-◌, ◌^◌, ℕ, eqb};
+ghost use Rattle.std.specs.Int.Count.{count_trailing_zeros};
+ghost use Rattle.std.specs.Int.Bits.{bit_and, bit_xor};
+ghost use Rattle.std.proofs.Common.{refl};
 ghost use Rattle.mask.specs.Mask.{has, bit, below, without, within, meets, count};
 
-pub fn within64(a: u64, b: u64) -> bool
-    ensures { result ≡ within a b }
-{
-    a & b == a
-}
+pub mod iter;
 
-pub fn meets64(a: u64, b: u64) -> bool
-    ensures { result ≡ meets a b }
-{
-    a & b != 0
-}
+use crate::iter::Members;
+use std::ops::{BitAnd, BitXor, Sub};
 
-pub fn meets32(a: u32, b: u32) -> bool
-    ensures { result ≡ meets a b }
-{
-    a & b != 0
-}
+// A number as the set of its bits. The operators of a width's numbers do what they do on numbers.
+pub trait Mask: Copy
+    + PartialEq
+    + BitAnd<Self, Output = Self>
+    + BitXor<Self, Output = Self>
+    + Sub<Self, Output = Self> {
+    ghost number: { Self → ℕ };
 
-pub fn without64(a: u64, b: u64) -> u64
-    ensures { result ≡ without a b }
-{
-    a ^ (a & b)
-}
+    ghost WIDTH: { ℕ };
 
-pub fn without32(a: u32, b: u32) -> u32
-    ensures { result ≡ without a b }
-{
-    a ^ (a & b)
-}
+    const WIDTH: u64;
 
-pub fn holds64(m: u64, v: usize) -> bool
-    requires { v < 64 }
-    ensures { result ≡ has m v }
-{
-    (m >> v) % 2 == 1
-}
+    fn empty() -> Self
+        ensures { number result ≡ 0 };
 
-pub fn count64(m: u64) -> u32
-    ensures { result ≡ count 64 m }
-{
-    u64::count_ones(m)
-}
+    fn all() -> Self
+        ensures { number result ≡ below WIDTH };
 
-pub fn count32(m: u32) -> u32
-    ensures { result ≡ count 32 m }
-{
-    u32::count_ones(m)
-}
+    fn bit(v: usize) -> Self
+        requires { v < WIDTH }
+        ensures { number result ≡ bit v };
 
-pub fn bit32(v: usize) -> u32
-    requires { v < 32 }
-    ensures { result ≡ bit v }
-{
-    1 << v
-}
+    fn count(self) -> u32
+        ensures { result ≡ count WIDTH (number self) };
 
-pub fn bit64(v: usize) -> u64
-    requires { v < 64 }
-    ensures { result ≡ bit v }
-{
-    1 << v
-}
+    // The lowest member, or the width where there is none.
+    fn lowest(self) -> usize
+        ensures is { result ≡ count_trailing_zeros WIDTH (number self) }
+        ensures fits { number self < 2 ^ WIDTH };
 
-pub fn below64(n: u64) -> u64
-    requires { n ≤ 64 }
-    ensures { result ≡ below n }
-{
-    if n < 64 {
-        (1 << n) - 1
-    } else {
-        18446744073709551615
+    ghost eq_law: { (a b : Self) → Self.eq a b ≡ eqb (number a) (number b) };
+
+    ghost can_bitand_law: { (a b : Self) → Self.can_bitand a b };
+
+    ghost bitand_law: { (a b r : Self) → Self.bitand_gives a b r
+        → number r ≡ bit_and (number a) (number b) };
+
+    ghost can_bitxor_law: { (a b : Self) → Self.can_bitxor a b };
+
+    ghost bitxor_law: { (a b r : Self) → Self.bitxor_gives a b r
+        → number r ≡ bit_xor (number a) (number b) };
+
+    ghost can_sub_law: { (a b : Self) → number b ≤ number a → Self.can_sub a b };
+
+    ghost sub_law: { (a b r : Self) → Self.sub_gives a b r → number r ≡ number a - number b };
+
+    final fn within(self, b: Self) -> bool
+        ensures { result ≡ within (number self) (number b) }
+    {
+        self & b == self
     }
+
+    final fn meets(self, b: Self) -> bool
+        ensures { result ≡ meets (number self) (number b) }
+    {
+        self & b != Self::empty()
+    }
+
+    final fn without(self, b: Self) -> Self
+        ensures { number result ≡ without (number self) (number b) }
+    {
+        self ^ (self & b)
+    }
+
+    #[tactic(auto, using(crate::proofs::Laws::meets_bit))]
+    final fn holds(self, v: usize) -> bool
+        requires { v < WIDTH }
+        ensures { result ≡ has (number self) v }
+    {
+        self.meets(Self::bit(v))
+    }
+
+    // The members in turn, rising.
+    final fn members(self) -> Members<Self>
+        ensures { result.left ≡ self }
+    {
+        Members { left: self }
+    }
+
+    final fn below(n: u64) -> Self
+        requires { n ≤ WIDTH }
+        ensures { number result ≡ below n }
+    {
+        if n < Self::WIDTH {
+            Self::bit(n as usize) - Self::bit(0)
+        } else {
+            Self::all()
+        }
+    }
+}
+
+impl Mask for u32 {
+    ghost number = { λ x. x };
+
+    ghost WIDTH = { 32 };
+
+    const WIDTH: u64 = 32;
+
+    fn empty() -> u32 {
+        u32::MIN
+    }
+
+    fn all() -> u32 {
+        u32::MAX
+    }
+
+    fn bit(v: usize) -> u32 {
+        1 << v
+    }
+
+    #[tactic(auto, using(crate::proofs::Laws::count_ones))]
+    fn count(self) -> u32 {
+        u32::count_ones(self)
+    }
+
+    fn lowest(self) -> usize {
+        u32::trailing_zeros(self) as usize
+    }
+
+    ghost eq_law = { λ a b. refl };
+
+    ghost can_bitand_law = { λ a b. tt };
+
+    ghost bitand_law = { λ a b r h. h };
+
+    ghost can_bitxor_law = { λ a b. tt };
+
+    ghost bitxor_law = { λ a b r h. h };
+
+    ghost can_sub_law = { λ a b h. h };
+
+    ghost sub_law = { λ a b r h. h };
+}
+
+impl Mask for u64 {
+    ghost number = { λ x. x };
+
+    ghost WIDTH = { 64 };
+
+    const WIDTH: u64 = 64;
+
+    fn empty() -> u64 {
+        u64::MIN
+    }
+
+    fn all() -> u64 {
+        u64::MAX
+    }
+
+    fn bit(v: usize) -> u64 {
+        1 << v
+    }
+
+    #[tactic(auto, using(crate::proofs::Laws::count_ones))]
+    fn count(self) -> u32 {
+        u64::count_ones(self)
+    }
+
+    fn lowest(self) -> usize {
+        u64::trailing_zeros(self) as usize
+    }
+
+    ghost eq_law = { λ a b. refl };
+
+    ghost can_bitand_law = { λ a b. tt };
+
+    ghost bitand_law = { λ a b r h. h };
+
+    ghost can_bitxor_law = { λ a b. tt };
+
+    ghost bitxor_law = { λ a b r h. h };
+
+    ghost can_sub_law = { λ a b h. h };
+
+    ghost sub_law = { λ a b r h. h };
 }

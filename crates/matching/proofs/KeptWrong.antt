@@ -63,14 +63,11 @@ module _
       none : (i : ℕ) → has wrong i ≡ false
       none i = ap (λ (n : ℕ). has n i) e ∙ has-zero i
 
-  module _ (some-wrong : wrong ≡ 0 → ⊥) where
-    abbrev lowest : ℕ
-    lowest = count_trailing_zeros 64 wrong
-
+  module _ (some-wrong : wrong ≡ 0 → ⊥) (lowest : ℕ) (lowest-is : lowest ≡ count_trailing_zeros 64 wrong) where
     lowest-wrong : has wrong lowest ≡ true
     lowest-wrong =
         let (v, there) = member_of wrong some-wrong in
-        lowest-in 64 wrong v (low v (both (has kept v) _ (sym (wrong-at v) ∙ there)).0).0 there
+        rw lowest-is (lowest-in 64 wrong v (low v (both (has kept v) _ (sym (wrong-at v) ∙ there)).0).0 there)
 
     lowest-kept : has kept lowest ≡ true
     lowest-kept = (both (has kept lowest) _ (sym (wrong-at lowest) ∙ lowest-wrong)).0

@@ -1,5 +1,5 @@
 // Rows 10, 11 and 12: what stops a job whose done list has run.
-ghost use Rattle.std.specs.Prelude.{◌≡◌, List, true, ◌||◌, ℕ, ◌≤◌, ◌<◌, leb, length};
+ghost use Rattle.std.specs.Prelude.{◌≡◌, List, true, ◌||◌, ℕ, ◌≤◌, ◌<◌, leb, length, is_some};
 ghost use Rattle.mask.specs.Mask.{has, members, count};
 ghost use Rattle.refusal.specs.Rows.{first};
 ghost use Rattle.route.specs.declared.Step.{Step};
@@ -7,20 +7,17 @@ ghost use Rattle.flat.specs.Flat.{steps_in};
 ghost use Rattle.matching.specs.Fit.{kept_of};
 ghost use Rattle.matching.specs.KeptRows.{kept_lines, kept_rows};
 ghost use Rattle.matching.specs.inner.Matched.{straight_end};
-ghost use Rattle.matching.specs.inner.Matches.{MatchesOf, same_mask, is_at};
+ghost use Rattle.matching.specs.inner.Matches.{MatchesOf, same_mask};
 
-use crate::End;
+use mask::Mask;
 use refusal::Outcome;
-use route::Route;
+use route::{Marking, Route};
 
 // At most 16 are kept, or the job is straight.
-fn limited(straight: End, kept: u64) -> bool
-    ensures { result ≡ (is_at straight || leb (count 64 kept) 16) }
+fn limited(straight: Option<Marking>, kept: u64) -> bool
+    ensures { result ≡ (is_some straight || leb (count 64 kept) 16) }
 {
-    match straight {
-        End::At(_) => true,
-        End::Stuck => mask::count64(kept) as usize <= Route::KEPT,
-    }
+    straight.is_some() || kept.count() as usize <= Route::KEPT
 }
 
 // Rows 11 and 12 at the first of the kept that isn't the same in the new route; `line` is that of the first done line.
@@ -30,11 +27,11 @@ fn kept_lines(kept: u64, same: u64, matches: &[u64], line: u64) -> Outcome
     ensures { (new l : List Step) → MatchesOf new l matches.now → same ≡ same_mask new l
         → result ≡ first (kept_lines new l line (members 64 kept)) }
 {
-    let wrong = mask::without64(kept, same);
+    let wrong = kept.without(same);
     if wrong == 0 {
         return Outcome::pass();
     }
-    let i = u64::trailing_zeros(wrong) as usize;
+    let i = wrong.lowest();
     if flat::name_at(matches, i) == 0 {
         return Outcome::refuse(11, line + i as u64);
     }
@@ -42,7 +39,13 @@ fn kept_lines(kept: u64, same: u64, matches: &[u64], line: u64) -> Outcome
 }
 
 // Row 10 at the job line, then 11 and 12.
-pub fn kept_rows(kept: u64, same: u64, matches: &[u64], straight: End, line: u64) -> Outcome
+pub fn kept_rows(
+    kept: u64,
+    same: u64,
+    matches: &[u64],
+    straight: Option<Marking>,
+    line: u64,
+) -> Outcome
     requires line_bound { line ≤ 900 }
     requires by_index { (i : ℕ) → has kept i ≡ true → (i < 64) × (i < length (steps_in matches.now)) }
     ensures { (from : ℕ) (new l : List Step) → MatchesOf new l matches.now → kept ≡ kept_of new l

@@ -5,22 +5,15 @@ ghost use Rattle.flat.specs.Flat.{steps_in};
 ghost use Rattle.matching.specs.Straight.{same_data};
 ghost use Rattle.matching.specs.inner.Matches.{MatchesOf, present, same_mask};
 
+use mask::Mask;
 use route::Step;
 
 // The match `t` is there, reads and writes what `s` does, and has its mark.
+#[tactic(auto, unfolding(crate::specs::Straight::same_data, crate::specs::Straight::same_mark, crate::specs::inner::Matches::present))]
 fn same_data(s: Step, t: Step) -> bool
     ensures { result ≡ same_data s (present t) }
 {
-    if t.name == 0 {
-        return false;
-    }
-    if t.reads != s.reads {
-        return false;
-    }
-    if t.writes != s.writes {
-        return false;
-    }
-    if t.cloth { s.cloth } else { !s.cloth }
+    t.name != 0 && t.reads == s.reads && t.writes == s.writes && t.cloth == s.cloth
 }
 
 // By one pass over both lists.
@@ -30,18 +23,11 @@ pub fn same_mask(occurrences: &[u64], matches: &[u64]) -> u64
     ensures { (new : List Step) → MatchesOf new (steps_in occurrences.now) matches.now
         → result ≡ same_mask new (steps_in occurrences.now) }
 {
-    let n = flat::count(occurrences);
-    let mut same = 0u64;
-    let mut i = 0;
-    while i < n {
-        let s = flat::step_at(occurrences, i);
-        let t = flat::step_at(matches, i);
-        if !same_data(s, t) {
-            i += 1;
-            continue;
+    let mut same = 0;
+    for i in 0..flat::count(occurrences) {
+        if same_data(flat::step_at(occurrences, i), flat::step_at(matches, i)) {
+            same |= u64::bit(i);
         }
-        same |= mask::bit64(i);
-        i += 1;
     }
     same
 }

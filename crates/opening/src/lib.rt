@@ -6,6 +6,7 @@ ghost use Rattle.flat.specs.Flat.{steps_in};
 ghost use Rattle.opening.specs.Net.{opened};
 ghost use Rattle.opening.specs.Ends.{EndsOf};
 
+use mask::Mask;
 use refusal::Outcome;
 use route::Marking;
 
@@ -27,15 +28,11 @@ pub struct Opened {
 fn ends_of(steps: &[u64]) -> Ends
     ensures { EndsOf (steps_in steps.now) result }
 {
-    let n = flat::count(steps);
     let mut ins = 0u64;
     let mut outs = 0u64;
-    let mut i = 0;
-    while i < n {
-        let s = flat::step_at(steps, i);
+    for s in flat::steps(steps) {
         ins |= s.ins;
         outs |= s.outs;
-        i += 1;
     }
     Ends { ins, outs }
 }
@@ -46,11 +43,11 @@ pub fn open(places: u64, steps: &[u64], line: u64) -> Opened
     ensures { result ≡ opened line places (steps_in steps.now) }
 {
     let e = ends_of(steps);
-    let all = mask::below64(places);
+    let all = u64::below(places);
     let marking = Marking {
-        tokens: mask::without64(all, e.outs),
+        tokens: all.without(e.outs),
     };
-    if !mask::within64(all, e.ins | e.outs) {
+    if !all.within(e.ins | e.outs) {
         return Opened {
             outcome: Outcome::refuse(6, line),
             marking,

@@ -9,6 +9,7 @@ ghost use Rattle.precedence.specs.Table.{table};
 ghost use Rattle.order_entries.specs.Entries.{try_stopped, is_kept, list_row, try_from, try_entries};
 ghost use Rattle.order_entries.specs.inner.Replayable.{Replayable};
 
+use mask::Mask;
 use precedence::table_of;
 use refusal::Outcome;
 use route::Marking;
@@ -44,7 +45,7 @@ fn fresh(kept: u64, seen: u64, b: usize) -> bool
     if 64 < b {
         return false;
     }
-    mask::holds64(mask::without64(kept, seen), b - 1)
+    kept.without(seen).holds(b - 1)
 }
 
 // Row 16 over the whole list.
@@ -59,7 +60,7 @@ fn check_list(order: &[u8], kept: u64) -> Outcome
         if !fresh(kept, seen, b) {
             return Outcome::refuse(16, i as u64);
         }
-        seen |= mask::bit64(b - 1);
+        seen |= u64::bit(b - 1);
     }
     if seen != kept {
         return Outcome::refuse(16, i as u64 + 1);
@@ -81,7 +82,7 @@ fn fire_list(order: &[u8], kept: u64, rows: [u64; 64], matches: &[u64], from: Ma
     while i < order.len() {
         let k = order[i] as usize - 1;
         i += 1;
-        if !mask::within64(rows[k] & kept, placed) {
+        if !(rows[k] & kept).within(placed) {
             return Tried::stop(17, i as u64);
         }
         let s = flat::step_at(matches, k);
@@ -89,7 +90,7 @@ fn fire_list(order: &[u8], kept: u64, rows: [u64; 64], matches: &[u64], from: Ma
             return Tried::stop(18, i as u64);
         }
         m = m.next(s);
-        placed |= mask::bit64(k);
+        placed |= u64::bit(k);
     }
     Tried {
         number: 0,

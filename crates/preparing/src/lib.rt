@@ -10,7 +10,6 @@ ghost use Rattle.preparing.specs.inner.Preparing.{Weighed, PreparedOf};
 
 use finding::lists::gather;
 use job::checks::job_line;
-use matching::End;
 use matching::rows::kept_rows;
 use matching::same::same_mask;
 use matching::straight::straight_end;
@@ -26,7 +25,7 @@ pub struct Prepared {
     pub outcome: Outcome,
     pub line: u64,
     pub start: Marking,
-    pub straight: End,
+    pub straight: Option<Marking>,
     pub kept: u64,
     pub vars: u32,
 }
@@ -39,7 +38,7 @@ fn refused(outcome: Outcome, line: u64) -> Prepared
         outcome,
         line,
         start: Marking { tokens: 0 },
-        straight: End::Stuck,
+        straight: None,
         kept: 0,
         vars: 0,
     }

@@ -2,6 +2,7 @@
 ghost use Rattle.std.specs.Prelude.{◌≤◌};
 
 use crate::step;
+use mask::Mask;
 use route::{Route, Step};
 
 fn moved(m: u64, down: bool) -> u64 {
@@ -43,7 +44,7 @@ pub fn chain() -> Route {
 pub fn full() -> Route {
     let mut r = chain();
     r.len = 64;
-    r.steps[63] = step(163, mask::bit64(63), mask::bit64(63), 0, 1);
+    r.steps[63] = step(163, u64::bit(63), u64::bit(63), 0, 1);
     r
 }
 
@@ -65,7 +66,7 @@ pub fn names() -> [u32; 17] {
 pub fn turned(n: usize) -> Route
     requires { n ≤ 32 }
 {
-    let last = mask::bit64(n);
+    let last = u64::bit(n);
     row(n, step(100, last >> 1, last, 0, 1), true)
 }
 

@@ -1,4 +1,5 @@
 // The loft's route as it was redrawn in one season. Each step leads from the place of the step before it to the next.
+use mask::Mask;
 use route::Route;
 
 // One step more, from the route's last place to the next. Variables are bits: 0 the cloth, 1 how far it shrinks, 2 the
@@ -7,7 +8,7 @@ fn then(r: Route, name: u32, cloth: bool, reads: u32, writes: u32) -> Route {
     let mut longer = r;
     let n = r.len;
     if n < 63 {
-        let mut s = samples::step(name, mask::bit64(n), mask::bit64(n + 1), reads, writes);
+        let mut s = samples::step(name, u64::bit(n), u64::bit(n + 1), reads, writes);
         s.cloth = cloth;
         longer.steps[n] = s;
         longer.len = n + 1;

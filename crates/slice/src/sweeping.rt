@@ -3,16 +3,15 @@ ghost use Rattle.std.specs.Prelude.{◌≡◌, ◌≤◌, length};
 ghost use Rattle.flat.specs.Flat.{steps_in};
 ghost use Rattle.slice.specs.Slice.{Sweep, keeps, kept_mask};
 
+use mask::Mask;
 use route::Step;
 
 // The sweep keeps an occurrence of `s` where `live` is live after it.
+#[tactic(auto, unfolding(crate::specs::Slice::keeps))]
 fn stays(s: Step, live: u32) -> bool
     ensures { (w : Sweep) → w.live ≡ live → result ≡ keeps s w }
 {
-    if s.cloth {
-        return true;
-    }
-    mask::meets32(s.writes, live)
+    s.cloth || s.writes.meets(live)
 }
 
 pub fn keep(occurrences: &[u64], vars: u32) -> u64
@@ -21,13 +20,11 @@ pub fn keep(occurrences: &[u64], vars: u32) -> u64
 {
     let mut live = vars;
     let mut kept = 0u64;
-    let mut i = flat::count(occurrences);
-    while 0 < i {
-        i -= 1;
+    for i in (0..flat::count(occurrences)).rev() {
         let s = flat::step_at(occurrences, i);
         if stays(s, live) {
-            live = mask::without32(live, s.writes) | s.reads;
-            kept |= mask::bit64(i);
+            live = live.without(s.writes) | s.reads;
+            kept |= u64::bit(i);
         }
     }
     kept

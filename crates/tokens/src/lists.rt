@@ -5,6 +5,7 @@ ghost use Rattle.tokens.specs.inner.Tokens.{no_entries, ListOn};
 
 use crate::numbers::digits;
 use crate::{Entries, Listed};
+use mask::Mask;
 use version::Version;
 
 fn none() -> Entries
@@ -59,7 +60,7 @@ fn entries(v: Version, s: &[u8], from: usize) -> Listed
             };
         }
         let e = n.value;
-        mask = mask | mask::bit64((e % 64) as usize);
+        mask = mask | u64::bit((e % 64) as usize);
         count += 1;
         if e < top {
             falls = true;

@@ -7,6 +7,7 @@ use Prim.Native.Nat.{ℕ, suc}
 use lib.Dec.{eqb}
 use lib.ListN.{length}
 use borrow.Author.Tests.{not-true, not-false}
+use Rattle.std.specs.Prelude.{Option, Some, None}
 use Rattle.refusal.specs.Rows.{refuse, first}
 use Rattle.flat.specs.Flat.{Laid}
 use Rattle.route.specs.declared.Step.{Step}
@@ -24,8 +25,6 @@ use Rattle.matching.specs.Straight.{fire_all, runs_straight}
 use Rattle.matching.specs.KeptRows.{kept_rows, rows_to12}
 use Rattle.matching.specs.inner.Matched.{straight_end}
 use Rattle.preparing.specs.declared.Prepared.{Prepared}
-use Rattle.matching.specs.declared.End.{End}
-use Rattle.matching.specs.declared.End.TheVariants.{At, Stuck}
 use Rattle.order_entries.specs.Entries.{try_stopped, try_entries}
 use Rattle.trying.specs.Try.{same_list, try_list, try_rows, tried}
 use Rattle.order_entries.specs.inner.Replayable.{Replayable}
@@ -34,8 +33,8 @@ use Rattle.order_entries.specs.declared.Tried.{Tried}
 
 -- ---- the straight list first
 
-module _ (l : List Step) (p : Prepared) (matches : List Step) (o : List ℕ) (n : ℕ) (count : n ≡ length l) (f : End)
-    (is : f ≡ cond (same_list o (map suc (in_turn 0 n))) p.straight Stuck) where
+module _ (l : List Step) (p : Prepared) (matches : List Step) (o : List ℕ) (n : ℕ) (count : n ≡ length l) (f : Option Marking)
+    (is : f ≡ cond (same_list o (map suc (in_turn 0 n))) p.straight None) where
   abbrev accepted : Marking → Tried
   accepted m = record { number = 0; second = 0; marking = m }
 
@@ -47,35 +46,35 @@ module _ (l : List Step) (p : Prepared) (matches : List Step) (o : List ℕ) (n 
     rows = try_entries new l from o
 
     -- by whether the new route runs straight, and whether the order is 1, 2, ..
-    end_is : f ≡ cond (same_list o (map suc (in_turn 0 (length l)))) (cond (runs_straight from new l) (At end) Stuck) Stuck
+    end_is : f ≡ cond (same_list o (map suc (in_turn 0 (length l)))) (cond (runs_straight from new l) (Some end) None) None
     unfolding straight_end
-    end_is = is ∙ ap₂ (λ (k : ℕ) (e : End). cond (same_list o (map suc (in_turn 0 k))) e Stuck) count ready.straight-is
+    end_is = is ∙ ap₂ (λ (k : ℕ) (e : Option Marking). cond (same_list o (map suc (in_turn 0 k))) e None) count ready.straight-is
 
-    at-end : (m : Marking) → f ≡ At m → accepted m ≡ try_list from new l o
+    at-end : (m : Marking) → f ≡ Some m → accepted m ≡ try_list from new l o
     unfolding try_list
     at-end m e = go (runs_straight from new l) (same_list o (map suc (in_turn 0 (length l)))) (sym end_is ∙ e)
       where
-        go : (s t : Bool) → cond t (cond s (At end) Stuck) Stuck ≡ At m → accepted m ≡ cond (s && t) (accepted end) rows
+        go : (s t : Bool) → cond t (cond s (Some end) None) None ≡ Some m → accepted m ≡ cond (s && t) (accepted end) rows
         go true true q = let same : end ≡ m = cc in ap accepted (sym same)
         go true false q = cc
         go false true q = cc
         go false false q = cc
 
-    at_rows : f ≡ Stuck → rows ≡ try_list from new l o
+    at_rows : f ≡ None → rows ≡ try_list from new l o
     unfolding try_list
     at_rows e = go (runs_straight from new l) (same_list o (map suc (in_turn 0 (length l)))) (sym end_is ∙ e)
       where
-        go : (s t : Bool) → cond t (cond s (At end) Stuck) Stuck ≡ Stuck → rows ≡ cond (s && t) (accepted end) rows
+        go : (s t : Bool) → cond t (cond s (Some end) None) None ≡ None → rows ≡ cond (s && t) (accepted end) rows
         go true true q = cc
         go true false q = refl
         go false true q = refl
         go false false q = refl
 
-  pub list-straight : (m : Marking) → f ≡ At m → (from : ℕ) (new : List Step) → TryPrepared from new l p matches
+  pub list-straight : (m : Marking) → f ≡ Some m → (from : ℕ) (new : List Step) → TryPrepared from new l p matches
       → accepted m ≡ try_list from new l o
   list-straight m e from new ready = at-end from new ready m e
 
-  pub list-rows : (r : Tried) → f ≡ Stuck → ((new : List Step) → Replayable new l p.kept matches
+  pub list-rows : (r : Tried) → f ≡ None → ((new : List Step) → Replayable new l p.kept matches
       → r ≡ try_entries new l p.start.tokens o) → (from : ℕ) (new : List Step) → TryPrepared from new l p matches
       → r ≡ try_list from new l o
   list-rows r e by from new ready = by new ready.kept-are ∙ ap (λ (m : ℕ). try_entries new l m o) ready.start_is

@@ -1,47 +1,36 @@
 // The operation try: an order that somebody hands in.
-ghost use Rattle.std.specs.Prelude.{◌≡◌, true, cond, List, map, ℕ, suc, ◌≤◌, ◌<◌, length};
+ghost use Rattle.std.specs.Prelude.{◌≡◌, true, cond, List, map, ℕ, suc, ◌≤◌, ◌<◌, length, None};
 ghost use Rattle.mask.specs.Mask.{has};
 ghost use Rattle.flat.specs.Flat.{steps_in};
 ghost use Rattle.route.specs.declared.Step.{Step};
 ghost use Rattle.job.specs.Job.{job_of, flat_job};
 ghost use Rattle.job.specs.Lines.{LinesPass};
 ghost use Rattle.precedence.specs.Order.{in_turn};
-ghost use Rattle.matching.specs.declared.End.TheVariants as ends;
 ghost use Rattle.trying.specs.Try.{same_list, try_list, tried};
 ghost use Rattle.trying.specs.inner.TryPrepared.{TryPrepared};
 
 use flat::laying::lay;
 use job::checks::check_lines;
-use matching::End;
 use order_entries::{Tried, by_rows};
 use preparing::{Prepared, prepare};
-use route::Route;
+use route::{Marking, Route};
 
 // The order is 1, 2, .., len.
 fn in_turn(order: &[u8], len: usize) -> bool
     ensures { result ≡ same_list order.now (map suc (in_turn 0 len)) }
 {
-    if order.len() != len {
-        return false;
-    }
-    let mut i = 0;
-    while i < order.len() {
-        if order[i] as usize != i + 1 {
-            return false;
-        }
-        i += 1;
-    }
-    true
+    order.len() == len
+        && order
+            .iter()
+            .enumerate()
+            .all(|(i, b)| usize::from(*b) == i + 1)
 }
 
 // Where the straight list ends, if the order is the straight list.
-fn straight_end(straight: End, order: &[u8], len: usize) -> End
-    ensures { result ≡ cond (same_list order.now (map suc (in_turn 0 len))) straight ends.Stuck }
+fn straight_end(straight: Option<Marking>, order: &[u8], len: usize) -> Option<Marking>
+    ensures { result ≡ cond (same_list order.now (map suc (in_turn 0 len))) straight None }
 {
-    if !in_turn(order, len) {
-        return End::Stuck;
-    }
-    straight
+    if in_turn(order, len) { straight } else { None }
 }
 
 // After row 12: the straight list first, and then the rows.
@@ -53,7 +42,7 @@ fn try_prepared(p: Prepared, occurrences: &[u64], matches: &[u64], order: &[u8])
         → result ≡ try_list from new (steps_in occurrences.now) order.now }
 {
     let straight = p.straight;
-    let End::At(marking) = straight_end(straight, order, flat::count(occurrences)) else {
+    let Some(marking) = straight_end(straight, order, flat::count(occurrences)) else {
         let start = p.start;
         return by_rows(order, p.kept, occurrences, matches, start);
     };

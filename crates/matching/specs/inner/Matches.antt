@@ -1,6 +1,6 @@
 -- An inner promise: the occurrences l against the new route's steps for them, as numbers: what rows 10 to 12 and
 -- straight replay are found from.
-use Rattle.std.specs.Prelude.{◌≡◌, Bool, true, false, cond, List, ℕ, eqb, length, get_or}
+use Rattle.std.specs.Prelude.{◌≡◌, cond, List, ℕ, eqb, length, get_or}
 use Rattle.std.proofs.Math.Option.{Option, none, some}
 use Rattle.mask.specs.Mask.{collect}
 use Rattle.route.specs.Steps.{blank, names}
@@ -9,8 +9,6 @@ use Rattle.route.specs.declared.Step.{Step}
 use Rattle.job.specs.Lines.{AllNamed}
 use Rattle.matching.specs.Straight.{same_step}
 use Rattle.matching.specs.inner.Matched.{matched}
-use Rattle.matching.specs.declared.End.{End}
-use Rattle.matching.specs.declared.End.TheVariants.{At, Stuck}
 
 -- the numbers are those of the new route's steps for l. No occurrence has the name 0, so a match that has it isn't
 -- there
@@ -25,8 +23,3 @@ present t = cond (eqb t.name 0) none (some t)
 -- the occurrences that are in the new route with the same reads, writes and mark
 unfoldable pub same_mask : List Step → List Step → ℕ
 same_mask new l = collect (λ (i : ℕ). same_step new (get_or l i blank)) (length l)
-
--- there is an end
-unfoldable pub is_at : End → Bool
-is_at (At m) = true
-is_at Stuck = false

@@ -16,14 +16,14 @@ returns-then-not-fresh c =
 pub overflow_sub-b : goal.overflow_sub-b
 overflow_sub-b c = search (rules, fresh-first)
 
-pub bit64-seen-requires : goal.bit64-seen-requires
-bit64-seen-requires c = search (rules, fresh-below)
+pub bit-seen-requires : goal.bit-seen-requires
+bit-seen-requires c = search (rules, fresh-below)
 
 pub loop-i-preserved : goal.loop-i-preserved
 loop-i-preserved c = (
   omega arith,
   list_on _ _ c.loop-i.i _ _ c.loop-i.invariant.1 (omega arith) _ c.fresh.ensures
-      c.if-not-fresh.false _ c.bit64-seen.ensures,
+      c.if-not-fresh.false _ c.bit-seen.ensures,
 )
 
 pub returns-then-seen-kept : goal.returns-then-seen-kept

@@ -16,8 +16,8 @@ offset_bounds-rows-k c = search (rules, entry-offset)
 pub bounds-rows-k : goal.bounds-rows-k
 bounds-rows-k c = search (rules, entry-below)
 
-pub returns-then-not-within64 : goal.returns-then-not-within64
-returns-then-not-within64 c = search (rules, placed-early)
+pub returns-then-not-within : goal.returns-then-not-within
+returns-then-not-within c = search (rules, placed-early)
 
 pub step_at-s-requires : goal.step_at-s-requires
 step_at-s-requires c = search (rules, entry-step)
@@ -25,8 +25,8 @@ step_at-s-requires c = search (rules, entry-step)
 pub returns-then-not-enables : goal.returns-then-not-enables
 returns-then-not-enables c = search (rules, placed-stuck)
 
-pub bit64-placed-requires : goal.bit64-placed-requires
-bit64-placed-requires c = search (rules, entry-below)
+pub bit-placed-requires : goal.bit-placed-requires
+bit-placed-requires c = search (rules, entry-below)
 
 pub loop-i-preserved : goal.loop-i-preserved
 loop-i-preserved c = (search rules, search (rules, placed-step))

@@ -18,5 +18,5 @@ returns-then-b-gt64 c =
 pub returns : goal.returns
 returns c =
     let a = c.args in
-    c.holds64.ensures ∙ ap (λ (m : ℕ). has m (a.b - 1)) c.without64.ensures
+    c.holds.ensures ∙ ap (λ (m : ℕ). has m (a.b - 1)) c.without.ensures
     ∙ fresh-is a.kept a.seen a.b (le-leb 1 a.b (omega arith))

@@ -3,7 +3,7 @@ use mathlib.Core.Path.{ap}
 use mathlib.Core.Bool.{not}
 use borrow.Author.Rules.{rules}
 use Rattle.job.proofs.Rows.{lists-fit}
-use Rattle.running.proofs.Performed.{holds_fits, holds-room, holds-count}
+use Rattle.running.proofs.Performed.{holds-room, holds-count}
 use Rattle.preparing.proofs.Preparation.{prepared-refused, prepared-weighed, lent-few, lent_alike}
 use Rattle.preparing.proofs.prepare.Goals as goal
 
@@ -12,9 +12,6 @@ job_line-line-requires c = search lists-fit
 
 pub returns-then-not-passed : goal.returns-then-not-passed
 returns-then-not-passed c = search (rules, prepared-refused)
-
-pub overflow_mul-end : goal.overflow_mul-end
-overflow_mul-end c = record { fits = search (lists-fit, holds_fits) }
 
 pub slice_bounds-weigh-end : goal.slice_bounds-weigh-end
 slice_bounds-weigh-end c = search (lists-fit, holds-room)

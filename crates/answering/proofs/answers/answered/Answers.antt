@@ -7,6 +7,6 @@ use Rattle.answering.proofs.answers.answered.Goals as goal
 pub returns : goal.returns
 returns c from new o rows vars list =
     let n = c in
-    answer-is from new _ _ o _ _ _ _ (ap₂ (λ (a b : ℕ). a - b) n.count-done.ensures c.count64.ensures) list
+    answer-is from new _ _ o _ _ _ _ (ap₂ (λ (a b : ℕ). a - b) n.count-done.ensures c.count.ensures) list
     (n.after_rows-after.ensures _ rows)
     (n.last_writers-writers.ensures new vars)

@@ -6,33 +6,28 @@ use Rattle.mask.proofs.Truth.{cond_yes, cond_no}
 use Rattle.judging.proofs.judging.judge_prepared.Goals as goal
 
 pub table_of-rows-requires : goal.table_of-rows-requires
-table_of-rows-requires c = let start = c in start.requires.passing.short
+table_of-rows-requires c = c.requires.passing.short
 
 pub judge_straight-requires : goal.judge_straight-requires
-judge_straight-requires c = let start = c in start.requires.passing.short
+judge_straight-requires c = c.requires.passing.short
 
 pub judge_kept-requires : goal.judge_kept-requires
-judge_kept-requires c = let start = c in search rules
+judge_kept-requires c = search rules
 
-pub returns-in-At : goal.returns-in-At
-returns-in-At c =
-    let end = c in
-    let rows = c in
+pub returns-in-Some : goal.returns-in-Some
+returns-in-Some c =
     record {
       answers_rows = λ k.
-          c.judge_straight.ensures _ k.new rows.table_of-rows.ensures k.vars-are
-          (passing-straight k _ c.in-At.is).1
-          ∙ rows-straight _ _ _ _ k.passes (passing-straight k _ c.in-At.is).0;
-      works = λ k. cond_yes _ _ refl (passing-straight k _ c.in-At.is).0;
+          c.judge_straight.ensures _ k.new c.table_of-rows.ensures k.vars-are
+          (passing-straight k _ c.in-Some.is).1
+          ∙ rows-straight _ _ _ _ k.passes (passing-straight k _ c.in-Some.is).0;
+      works = λ k. cond_yes _ _ refl (passing-straight k _ c.in-Some.is).0;
     }
 
-pub returns-in-Stuck : goal.returns-in-Stuck
-returns-in-Stuck c =
-    let kept = c in
-    let stuck = c in
-    let judged = kept.judge_kept.ensures in
-    let end = c.in-Stuck.is in
+pub returns-in-None : goal.returns-in-None
+returns-in-None c =
+    let judged = c.judge_kept.ensures in
     record {
-      answers_rows = λ k. judged.answers_first k ∙ rows-search _ _ _ _ k.passes (passing-stuck k end);
-      works = λ k. judged.work_after ∙ cond_no _ _ refl (passing-stuck k end);
+      answers_rows = λ k. judged.answers_first k ∙ rows-search _ _ _ _ k.passes (passing-stuck k c.in-None.is);
+      works = λ k. judged.work_after ∙ cond_no _ _ refl (passing-stuck k c.in-None.is);
     }

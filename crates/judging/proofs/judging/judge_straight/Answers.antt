@@ -16,13 +16,9 @@ answered-requires c = search (rules, below-few)
 
 pub returns : goal.returns
 returns c from new rows vars m =
-    let order = c in
-    let kept = c in
-    let count = c in
-    let start = c in
-    let done = steps_in start.args.occurrences.now in
-    let n = count.count-len.ensures in
+    let done = steps_in c.args.occurrences.now in
+    let n = c.count-len.ensures in
     c.answered.ensures from new (in_turn 0 (length done)) rows vars
-    (straight-list from new done _ _ _ n order.straight_order-order.ensures m)
+    (straight-list from new done _ _ _ n c.straight_order-order.ensures m)
     ∙ ap (λ (k : ℕ). answer from new done k (in_turn 0 (length done)))
-    (kept.below64-kept.ensures ∙ ap (λ (k : ℕ). below k) n)
+    (c.below-kept.ensures ∙ ap (λ (k : ℕ). below k) n)

@@ -1,11 +1,7 @@
 -- `matching::same::same_mask`: what has been gathered is the mask of those passed.
-use Prim.Native.Nat.{◌-◌, ◌≤◌}
 use Rattle.flat.specs.Flat.{steps_in}
 use Rattle.matching.proofs.SameMask.{SameSoFar}
 use Rattle.matching.proofs.same.same_mask.Given as goal
 
 abbrev pub invariant-loop-i : goal.invariant-loop-i
-invariant-loop-i l = (l.i ≤ l.n) × SameSoFar (steps_in l.occurrences) l.matches l.i l.same
-
-abbrev pub decreases-loop-i : goal.decreases-loop-i
-decreases-loop-i l = l.n - l.i
+invariant-loop-i l = SameSoFar (steps_in l.occurrences) l.matches l.i l.same
