@@ -31,7 +31,7 @@ impl Kind {
     // So many rounds.
     pub fn sum(self, n: u64) -> u64 {
         match self {
-            Kind::Nothing => rounds(n, |round| u64::from(usual::done(round)[9])),
+            Kind::Nothing => rounds(n, (), |(), round| u64::from(usual::done(round)[9])),
             Kind::JudgeRoutes => judge_routes(n),
             Kind::JudgeBetween => judge_between(n, 80),
             Kind::Put => put(n, 80),
@@ -41,12 +41,14 @@ impl Kind {
     }
 }
 
-fn rounds<F: FnMut(u64) -> u64>(n: u64, mut round: F) -> u64
+// The sum of what n rounds answer. What they share is handed to each by value: a closure that holds it copies it in each
+// round.
+fn rounds<C: Copy, F: FnMut(C, u64) -> u64>(n: u64, shared: C, mut round: F) -> u64
     requires { F.IsAlwaysCallable round }
 {
     let mut sum = 0u64;
     for i in 0..n {
-        sum = sum.wrapping_add(round(n - i));
+        sum = sum.wrapping_add(round(shared, n - i));
     }
     sum
 }
@@ -74,10 +76,8 @@ fn stored(r: &Stored) -> u64 {
 }
 
 fn judge_routes(n: u64) -> u64 {
-    let old = usual::old();
-    let new = usual::new();
     let mut work = [0u8; 8192];
-    rounds(n, |round| {
+    rounds(n, (usual::old(), usual::new()), |(old, new), round| {
         let done = usual::done(round);
         judged(&judging::judging::judge(old, new, &done, &mut work))
     })
@@ -85,20 +85,23 @@ fn judge_routes(n: u64) -> u64 {
 
 // From the first edition to this one.
 fn judge_between(n: u64, target: u32) -> u64 {
-    let shelf = usual::full();
     let mut work = [0u8; 8192];
-    rounds(n, |round| {
+    rounds(n, usual::full(), |shelf, round| {
         let done = usual::done(round);
         judged(&shelf::between::judge(shelf, 10, target, &done, &mut work))
     })
 }
 
-// The eighth edition's number is this one, or one of the seven after it; 70 is stored before.
+// The eighth edition's number is this one, or one of the seven after it; 70 is stored before. Its own loop: a closure
+// clears the room for the shelf that it answers in each round, a tenth of the round's time.
 fn put(n: u64, number: u32) -> u64 {
     let new = usual::new();
     let shelf = usual::seven();
-    rounds(n, |round| {
-        let near = number.wrapping_add((round % 8) as u32);
-        stored(&shelf::storing::put(shelf, near, new))
-    })
+    let mut sum = 0u64;
+    for i in 0..n {
+        let near = number.wrapping_add(((n - i) % 8) as u32);
+        let r = shelf::storing::put(shelf, near, new);
+        sum = sum.wrapping_add(stored(&r));
+    }
+    sum
 }
