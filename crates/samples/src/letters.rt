@@ -2,41 +2,16 @@
 use crate::{one, step, three, two};
 use route::{Route, Step};
 
-// Both routes, and the first `len` of the names are done.
+// Both routes and the names done.
 #[derive(Clone, Copy)]
 pub struct Sample {
     pub old: Route,
     pub new: Route,
-    pub len: usize,
-    pub done: [u32; 3],
+    pub done: &'static [u32],
 }
 
-fn none(old: Route, new: Route) -> Sample {
-    Sample {
-        old,
-        new,
-        len: 0,
-        done: [0; 3],
-    }
-}
-
-fn one_done(old: Route, new: Route, name: u32) -> Sample {
-    Sample {
-        old,
-        new,
-        len: 1,
-        done: [name, 0, 0],
-    }
-}
-
-// 10 and 20 are done, and perhaps a third.
-fn done(old: Route, new: Route, len: usize, last: u32) -> Sample {
-    Sample {
-        old,
-        new,
-        len,
-        done: [10, 20, last],
-    }
+fn job(old: Route, new: Route, done: &'static [u32]) -> Sample {
+    Sample { old, new, done }
 }
 
 // Two steps, and 30, which reads what they write.
@@ -73,57 +48,57 @@ fn g_new() -> Route {
 }
 
 pub fn a() -> Sample {
-    done(a_old(), a_new(), 3, 30)
+    job(a_old(), a_new(), &[10, 20, 30])
 }
 
 // A, and the new route is the old one.
 pub fn straight() -> Sample {
-    done(a_old(), a_old(), 3, 30)
+    job(a_old(), a_old(), &[10, 20, 30])
 }
 
 pub fn b() -> Sample {
-    none(a_old(), a_new())
+    job(a_old(), a_new(), &[])
 }
 
 pub fn c() -> Sample {
-    one_done(a_old(), a_new(), 10)
+    job(a_old(), a_new(), &[10])
 }
 
 pub fn d() -> Sample {
-    done(d_old(), d_new(), 2, 0)
+    job(d_old(), d_new(), &[10, 20])
 }
 
 pub fn e() -> Sample {
-    done(a_old(), e_new(), 2, 0)
+    job(a_old(), e_new(), &[10, 20])
 }
 
 pub fn f() -> Sample {
-    done(a_old(), f_new(), 2, 0)
+    job(a_old(), f_new(), &[10, 20])
 }
 
 pub fn g() -> Sample {
-    one_done(a_old(), g_new(), 10)
+    job(a_old(), g_new(), &[10])
 }
 
 pub fn h() -> Sample {
-    one_done(a_old(), a_new(), 40)
+    job(a_old(), a_new(), &[40])
 }
 
 pub fn i() -> Sample {
-    one_done(a_old(), a_new(), 30)
+    job(a_old(), a_new(), &[30])
 }
 
 pub fn j() -> Sample {
     let r = two(3, step(10, 1, 4, 0, 0), step(20, 2, 4, 0, 0));
-    done(r, r, 2, 0)
+    job(r, r, &[10, 20])
 }
 
 pub fn k() -> Sample {
     let r = two(2, step(10, 1, 2, 0, 0), step(20, 2, 2, 0, 1));
-    done(r, r, 3, 20)
+    job(r, r, &[10, 20, 20])
 }
 
 pub fn l() -> Sample {
     let r = one(2, step(10, 1, 3, 0, 0));
-    none(r, r)
+    job(r, r, &[])
 }

@@ -10,9 +10,7 @@ mod letters;
 mod searches;
 
 fn judge_in(x: Sample, work: &mut [u8]) -> Judged {
-    let done = x.done;
-    let k = counts::within(x.len, &done);
-    judging::judging::judge(x.old, x.new, &done[..k], work)
+    judging::judging::judge(x.old, x.new, x.done, work)
 }
 
 fn main(rt: HostRuntime) -> io::Result<()> {

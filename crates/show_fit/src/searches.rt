@@ -34,13 +34,7 @@ pub fn show(rt: &impl Print) -> io::Result<()> {
 
 // How many bytes of a work slice are 7, as all were before.
 fn sevens(work: &[u8]) -> u64 {
-    let mut n = 0;
-    for i in 0..work.len() {
-        if work[i] == 7 {
-            n += 1;
-        }
-    }
-    n
+    work.iter().filter(|b| **b == 7).count() as u64
 }
 
 fn say_work(rt: &impl Print, label: &[u8], x: Sample, work: &mut [u8]) -> io::Result<()> {

@@ -16,8 +16,8 @@ fn say_entry(rt: &impl Print, x: u8) -> io::Result<()> {
 
 fn say_order(rt: &impl Print, order: [u8; 64], len: u32) -> io::Result<()> {
     rt.write_all(b"  order")?;
-    for i in 0..64 {
-        say_entry(rt, order[i])?;
+    for x in &order {
+        say_entry(rt, *x)?;
     }
     number(rt, b" length ", len as u64)?;
     lines::end(rt)
@@ -33,8 +33,8 @@ fn say_mask(rt: &impl Print, i: u64, mask: u64) -> io::Result<()> {
 }
 
 fn say_after(rt: &impl Print, after: [u64; 64]) -> io::Result<()> {
-    for i in 0..64 {
-        say_mask(rt, i as u64 + 1, after[i])?;
+    for (i, mask) in after.iter().enumerate() {
+        say_mask(rt, i as u64 + 1, *mask)?;
     }
     Ok(())
 }
@@ -49,8 +49,8 @@ fn say_writer(rt: &impl Print, v: u64, x: u8) -> io::Result<()> {
 }
 
 fn say_writers(rt: &impl Print, writers: [u8; 32]) -> io::Result<()> {
-    for v in 0..32 {
-        say_writer(rt, v as u64, writers[v])?;
+    for (v, x) in writers.iter().enumerate() {
+        say_writer(rt, v as u64, *x)?;
     }
     Ok(())
 }

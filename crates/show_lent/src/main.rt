@@ -15,20 +15,14 @@ use std::io;
 fn hundred() -> [Step; 100] {
     let full = samples::chains::full();
     let mut a = [samples::step(0, 0, 0, 0, 0); 100];
-    for i in 0..64 {
-        a[i] = full.steps[i];
-    }
+    a[..64].copy_from_slice(&full.steps);
     a
-}
-
-fn wide(b: u8) -> u64 {
-    b as u64
 }
 
 // The first byte.
 fn begins(rt: &impl Print, s: &[u8]) -> io::Result<()> {
-    if 0 < s.len() {
-        number(rt, wide(s[0]))?;
+    if let Some(b) = s.first() {
+        number(rt, u64::from(*b))?;
     }
     Ok(())
 }

@@ -11,12 +11,10 @@ fn say(rt: &impl Print, label: &[u8], t: Tried) -> io::Result<()> {
 }
 
 fn try_list(rt: &impl Print, label: &[u8], x: Sample, order: &[u8]) -> io::Result<()> {
-    let done = x.done;
-    let k = counts::within(x.len, &done);
     say(
         rt,
         label,
-        trying::trying::try_order(x.old, x.new, &done[..k], order),
+        trying::trying::try_order(x.old, x.new, x.done, order),
     )
 }
 

@@ -5,9 +5,7 @@ use show_ran::say;
 use std::io;
 
 fn say_sample(rt: &impl Print, label: &[u8], x: Sample) -> io::Result<()> {
-    let done = x.done;
-    let k = counts::within(x.len, &done);
-    say(rt, label, x.old, x.new, &done[..k])
+    say(rt, label, x.old, x.new, x.done)
 }
 
 pub fn show(rt: &impl Print) -> io::Result<()> {

@@ -3,6 +3,8 @@
 // cut off at every length.
 #![tactic(auto)]
 
+ghost use Rattle.std.specs.Prelude.{◌<◌, length, IfSome};
+
 use std::io;
 
 fn number(rt: &impl Print, n: u64) -> io::Result<()> {
@@ -26,38 +28,33 @@ fn show(rt: &impl Print, s: &[u8]) -> io::Result<()> {
 
 // Every beginning.
 fn show_cuts(rt: &impl Print, s: &[u8]) -> io::Result<()> {
-    let mut k = 0;
-    while k < s.len() {
+    for k in 0..s.len() {
         show(rt, &s[..k])?;
-        k += 1;
     }
     Ok(())
 }
 
+// Where the first sheet ends.
+fn end(s: &[u8]) -> Option<usize>
+    ensures { IfSome result (λ i. i < length s.now) }
+{
+    s.iter().position(|b| *b == b'%')
+}
+
 // The first sheet, cut off.
 fn show_first(rt: &impl Print, s: &[u8]) -> io::Result<()> {
-    let mut i = 0;
-    while i < s.len() {
-        if s[i] == 37 {
-            return show_cuts(rt, &s[..i]);
-        }
-        i += 1;
+    if let Some(i) = end(s) {
+        show_cuts(rt, &s[..i])?;
     }
     Ok(())
 }
 
 // The sheets in turn.
 fn show_all(rt: &impl Print, s: &[u8]) -> io::Result<()> {
-    let mut start = 0;
-    let mut i = 0;
-    while i < s.len() {
-        if s[i] != 37 {
-            i += 1;
-            continue;
-        }
-        show(rt, &s[start..i])?;
-        i += 1;
-        start = i;
+    let mut rest = s;
+    while let Some(i) = end(rest) {
+        show(rt, &rest[..i])?;
+        rest = &rest[i + 1..];
     }
     Ok(())
 }

@@ -17,8 +17,8 @@ fn say_row(rt: &impl Print, i: usize, row: u64) -> io::Result<()> {
 }
 
 fn say_table(rt: &impl Print, table: [u64; 64]) -> io::Result<()> {
-    for i in 0..64 {
-        say_row(rt, i, table[i])?;
+    for (i, row) in table.iter().enumerate() {
+        say_row(rt, i, *row)?;
     }
     Ok(())
 }
@@ -33,9 +33,7 @@ fn say(rt: &impl Print, label: &[u8], old: Route, new: Route, done: &[u32]) -> i
 }
 
 fn say_sample(rt: &impl Print, label: &[u8], x: Sample) -> io::Result<()> {
-    let done = x.done;
-    let k = counts::within(x.len, &done);
-    say(rt, label, x.old, x.new, &done[..k])
+    say(rt, label, x.old, x.new, x.done)
 }
 
 // A step that reads what its last run wrote, done three times: the middle run feeds the last.

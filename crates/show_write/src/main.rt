@@ -13,17 +13,7 @@ fn number(rt: &impl Print, n: u64) -> io::Result<()> {
 
 // How many bytes agree.
 fn agree(a: &[u8], b: &[u8]) -> u64 {
-    let mut i = 0;
-    while i < a.len() {
-        if i >= b.len() {
-            return i as u64;
-        }
-        if a[i] != b[i] {
-            return i as u64;
-        }
-        i += 1;
-    }
-    i as u64
+    a.iter().zip(b).take_while(|(x, y)| x == y).count() as u64
 }
 
 fn show(

@@ -1,9 +1,0 @@
--- `show_sheet::show_first`: as far as the first end.
-use Rattle.std.proofs.Common.{◌-◌, ◌≤◌, length}
-use Rattle.show_sheet.proofs.show_first.Given as goal
-
-abbrev pub invariant-loop-i : goal.invariant-loop-i
-invariant-loop-i g l = l.i ≤ length l.s
-
-abbrev pub decreases-loop-i : goal.decreases-loop-i
-decreases-loop-i g l = length l.s - l.i
