@@ -10,8 +10,11 @@ pub returns-in_default : goal.returns-in_default
 returns-in_default c = number-over _ _ _ c.requires.from_in_bounds c.in_default.ensures.lookup.3
 
 pub returns-then-not-is_ascii_digit : goal.returns-then-not-is_ascii_digit
-returns-then-not-is_ascii_digit c = search (rules, number-other c.args.v c.args.s.now c.args.from
-    c.requires.from_in_bounds c.in-Some.field-0.now)
+returns-then-not-is_ascii_digit c = search (
+  rules,
+  number-other c.args.v c.args.s.now c.args.from
+      c.requires.from_in_bounds c.in-Some.field-0.now,
+)
 
 pub returns-then-b-eq48 : goal.returns-then-b-eq48
 returns-then-b-eq48 c = search (rules, number-zero)
