@@ -20,7 +20,7 @@ pub fn put(out: &mut [u8], at: usize, b: u8) -> usize
     at + 1
 }
 
-// Given bytes.
+// Given bytes, one by one: texts are short, and a call of a copy for each is slower.
 pub fn text(out: &mut [u8], at: usize, t: &[u8]) -> usize
     requires { Room t.now out.old at }
     ensures { Emits t.now out.old at out.new result }
