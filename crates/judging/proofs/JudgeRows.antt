@@ -27,8 +27,6 @@ use Rattle.matching.proofs.Matched.{length-matched}
 use Rattle.matching.proofs.KeptRows.{limit-holds, members-same}
 use Rattle.answering.specs.Answer.{padded, judge_stopped, answer}
 use Rattle.search.specs.Candidates.{first_order, sequence}
-use Rattle.std.specs.Prelude
-use Rattle.std.specs.Prelude.{Some, None}
 use Rattle.candidates.specs.FirstFit.{first_fit}
 use Rattle.candidates.specs.inner.Columns.{ColumnsOf, Packed, positions, placed_by}
 use Rattle.candidates.specs.declared.Columns.{Columns}
@@ -37,7 +35,7 @@ use Rattle.answering.specs.inner.Listed.{placed_on, AnswersList}
 use Rattle.answering.specs.declared.Placed.{Placed}
 use Rattle.answering.specs.declared.Judged.{Judged}
 use Rattle.judging.specs.inner.Passing.{Passing}
-use Rattle.candidates.proofs.CandidateColumns.{Room, AllSame}
+use Rattle.candidates.proofs.CandidateColumns.{AllSame}
 use Rattle.candidates.proofs.FirstFit.{Found, none-fit, order-fit}
 
 -- all occurrences in turn, and where they end
@@ -170,27 +168,24 @@ module _ {p : Prepared} {l t : List Step} (k : Passing p l t) where
 
 module _ {p : Prepared} {l t : List Step} (k : Passing p l t) (rows : List ℕ) (c : Columns)
     (cols : ColumnsOf p.kept rows t c) where
-  pub columns-few : p.straight ≡ None → c.len ≤ 16
-  columns-few stuck = omega (arith, cols.length-is, passing-limit k stuck)
-
   columns-are : ColumnsOf p.kept rows (matched k.new l) c
   columns-are = subst (λ (x : List Step). ColumnsOf p.kept rows x c) k.matches-are cols
 
-  module _ (table_is : rows ≡ table l) (room : Room c) (r : Prelude.Option ℕ)
-      (e : r ≡ sequence (first_order (take c.len c.ins) (take c.len c.outs) (take c.len c.before)
+  module _ (table_is : rows ≡ table l) (r : Option ℕ)
+      (e : r ≡ sequence (first_order (take c.candidates.len c.candidates.ins) (take c.candidates.len c.candidates.outs) (take c.candidates.len c.candidates.before)
       p.start.tokens)) where
     pub none-judged : r ≡ None → (z : Judged) → z ≡ judge_stopped 13 p.line
         → z ≡ judge_found p.line p.start.tokens k.new l (first_fit p.start.tokens k.new l)
     none-judged f z is =
         is
         ∙ none-answer p.line p.start.tokens k.new l
-        (none-fit k.new l p.kept rows c k.kept-is (passing-same k) table_is columns-are room p.start.tokens
+        (none-fit k.new l p.kept rows c k.kept-is (passing-same k) table_is columns-are p.start.tokens
         r e f)
 
     module _ (x : ℕ) (of : r ≡ Some x) (q : Placed)
-        (placed : (o : List ℕ) → Packed x c.len o → q ≡ placed_by c p.start.tokens o) where
+        (placed : (o : List ℕ) → Packed x c.candidates.len o → q ≡ placed_by c p.start.tokens o) where
       found : Found k.new l c p.start.tokens x
-      found = order-fit k.new l p.kept rows c k.kept-is (passing-same k) table_is columns-are room
+      found = order-fit k.new l p.kept rows c k.kept-is (passing-same k) table_is columns-are
           p.start.tokens r e x of
 
       pub order-short : q.len ≤ 64
@@ -198,7 +193,7 @@ module _ {p : Prepared} {l t : List Step} (k : Passing p l t) (rows : List ℕ) 
         arith,
         ap (λ (y : Placed). y.len) (placed found.order found.packed),
         found.packed.long,
-        room.few,
+        c.candidates.sixteen.few,
       )
 
       pub order-judged : (z : Judged) → AnswersList rows p.vars p.kept q l z

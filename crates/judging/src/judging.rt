@@ -54,10 +54,10 @@ fn judge_kept(
 {
     let start = p.start;
     let c = columns(p.kept, &rows, matches);
-    let Some(order) = search_columns(c, start, work) else {
+    let Some(order) = search_columns(&c, start, work) else {
         return stop(13, p.line);
     };
-    let list = placed(c, order, start);
+    let list = placed(&c, order, start);
     answered(occurrences, &rows, p.vars, p.kept, list)
 }
 

@@ -3,9 +3,9 @@ ghost use Rattle.std.specs.Prelude.{◌≡◌, true, ◌≤◌, length};
 ghost use Rattle.version.specs.Limits.{Limits};
 ghost use Rattle.tokens.specs.inner.Tokens.{no_entries, ListOn};
 
-use mask::Mask;
 use crate::numbers::digits;
 use crate::{Entries, Listed};
+use mask::Mask;
 use version::Version;
 
 fn none() -> Entries
