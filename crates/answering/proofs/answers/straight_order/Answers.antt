@@ -3,19 +3,13 @@ use mathlib.Core.Path.{◌≡◌, refl, sym, ap, ◌∙◌}
 use mathlib.Core.Bool.{cond}
 use Prim.Native.Nat.{ℕ, ◌+◌}
 use native.Mathlib.Omega.{arith}
-use borrow.Author.Rules.{rules}
 use lib.Dec.{ltb}
-use Rattle.precedence.proofs.Filled.{filled_none, filled_more}
+use Rattle.precedence.proofs.Filled.{filled_none}
 use Rattle.answering.proofs.Padded.{padded-is, turn-number}
 use Rattle.answering.proofs.answers.straight_order.Goals as goal
 
 pub loop-i-init : goal.loop-i-init
 loop-i-init c = (refl, filled_none _ 64)
-
-pub loop-i-preserved : goal.loop-i-preserved
-loop-i-preserved c =
-    let l = c.loop-i in
-    (search rules, filled_more (λ (k : ℕ). k + 1) l.i _ l.order l.invariant.1 (omega arith) refl)
 
 pub returns : goal.returns
 returns c =

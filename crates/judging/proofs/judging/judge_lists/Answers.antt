@@ -1,6 +1,5 @@
 -- `judging::judging::judge_lists`: row 14, then the lines, and where they pass the rest.
 use borrow.Author.Rules.{rules}
-use Rattle.running.proofs.RunLine.{lines-pass}
 use Rattle.judging.proofs.JudgeOperation.{judged-short, work-short, judged-line, work-line}
 use Rattle.judging.proofs.judging.judge_lists.Goals as goal
 
@@ -14,10 +13,4 @@ pub returns-then-not-passed : goal.returns-then-not-passed
 returns-then-not-passed c = record {
   value = search (rules, judged-line);
   work_after = search (rules, work-line);
-}
-
-pub judge_checked-requires : goal.judge_checked-requires
-judge_checked-requires c = record {
-  lines_pass = search (rules, lines-pass);
-  in_bounds = search rules;
 }

@@ -1,18 +1,8 @@
 -- `judging::judging::judge_prepared`: the straight list where there is one, else the first fit list of the kept.
 use mathlib.Core.Path.{refl, ◌∙◌}
-use borrow.Author.Rules.{rules}
 use Rattle.judging.proofs.JudgeRows.{rows-straight, rows-search, passing-straight, passing-stuck}
 use Rattle.mask.proofs.Truth.{cond_yes, cond_no}
 use Rattle.judging.proofs.judging.judge_prepared.Goals as goal
-
-pub table_of-rows-requires : goal.table_of-rows-requires
-table_of-rows-requires c = c.requires.passing.short
-
-pub judge_straight-requires : goal.judge_straight-requires
-judge_straight-requires c = c.requires.passing.short
-
-pub judge_kept-requires : goal.judge_kept-requires
-judge_kept-requires c = search rules
 
 pub returns-in-Some : goal.returns-in-Some
 returns-in-Some c =

@@ -1,11 +1,7 @@
 -- `trying::trying::try_lists`: the lines, and where they pass the rest.
 use borrow.Author.Rules.{rules}
-use Rattle.running.proofs.RunLine.{lines-pass}
 use Rattle.trying.proofs.TryRows.{tried-line}
 use Rattle.trying.proofs.trying.try_lists.Goals as goal
 
 pub returns-then-not-passed : goal.returns-then-not-passed
 returns-then-not-passed c = search (rules, tried-line)
-
-pub try_checked-requires : goal.try_checked-requires
-try_checked-requires c = search (rules, lines-pass)
