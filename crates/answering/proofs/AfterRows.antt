@@ -2,13 +2,13 @@
 use mathlib.Core.Path.{◌≡◌, refl, ap, ◌∙◌}
 use mathlib.Core.Bool.{cond}
 use mathlib.Core.List.{List, map}
-use Prim.Native.Nat.{ℕ, ◌-◌, ◌^◌, ◌<◌}
+use Prim.Native.Nat.{ℕ}
 use native.Mathlib.Omega.{arith}
 use lib.Bits.{bit_and}
-use lib.Count.{count_trailing_zeros}
 use lib.ListN.{length, get_or, set, replicate, length-set}
 use Rattle.mask.specs.Mask.{has}
-use Rattle.mask.proofs.FromLowest.{rest-less, set_at, set-lowest, set-none}
+use Rattle.mask.specs.Members.{Takes}
+use Rattle.mask.proofs.FromLowest.{set_at, set-taken, set-none}
 use Rattle.route.specs.declared.Step.{Step}
 use Rattle.precedence.proofs.Filled.{zeros-at}
 use Rattle.precedence.specs.Precedence.{row}
@@ -25,21 +25,16 @@ kept_row rows kept i = bit_and (get_or rows i 0) kept
 -- once the members of `left` are filled too, all kept are
 pub record Rows (rows : List ℕ) (kept : ℕ) (after : List ℕ) (left : ℕ) : Type 0 where
   pub room : length after ≡ 64
-  pub narrow : left < 2 ^ 64
   pub filled : (v : ℕ) → set_at (kept_row rows kept) left after v ≡ set_at (kept_row rows kept) kept (replicate 64 0) v
 
-pub rows-init : (rows : List ℕ) (kept : ℕ) → kept < 2 ^ 64 → Rows rows kept (replicate 64 0) kept
-rows-init rows kept h = record { room = refl; narrow = h; filled = λ v. refl }
+pub rows-init : (rows : List ℕ) (kept left : ℕ) → left ≡ kept → Rows rows kept (replicate 64 0) left
+rows-init rows kept left e = rw e record { room = refl; filled = λ v. refl }
 
 module _ (rows : List ℕ) (kept : ℕ) (after : List ℕ) (left : ℕ) (inv : Rows rows kept after left) where
-  pub rows_step :
-      (left ≡ 0 → ⊥)
-      → Rows rows kept (set after (count_trailing_zeros 64 left) (kept_row rows kept (count_trailing_zeros 64 left)))
-      (bit_and left (left - 1))
-  rows_step some = record {
-    room = length-set after (count_trailing_zeros 64 left) _ ∙ inv.room;
-    narrow = omega (arith, rest-less 64 left some inv.narrow, inv.narrow);
-    filled = λ v. set-lowest (kept_row rows kept) 64 left after some inv.narrow (omega (arith, inv.room)) v
+  pub rows_step : (i left' : ℕ) → Takes 64 left i left' → Rows rows kept (set after i (kept_row rows kept i)) left'
+  rows_step i left' took = record {
+    room = length-set after i _ ∙ inv.room;
+    filled = λ v. set-taken (kept_row rows kept) 64 left i left' after took (omega (arith, inv.room)) v
         ∙ inv.filled v;
   }
 

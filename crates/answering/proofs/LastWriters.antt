@@ -3,17 +3,17 @@
 use mathlib.Core.Path.{◌≡◌, refl, sym, ap, ap₂, ◌∙◌, subst}
 use mathlib.Core.Bool.{Bool, true, false, not, cond, ◌&&◌, and-true}
 use mathlib.Core.List.{List, [], map}
-use Prim.Native.Nat.{ℕ, zero, suc, ◌-◌, ◌^◌, ◌≤◌, ◌<◌}
+use Prim.Native.Nat.{ℕ, zero, suc, ◌-◌, ◌≤◌, ◌<◌}
 use native.Mathlib.Omega.{arith}
 use lib.Dec.{eqb, eqb-suc-zero}
 use lib.Bits.{bit_and}
-use lib.Count.{count_trailing_zeros}
 use lib.ListN.{length, get_or, drop, set, replicate, length-set, drop_of_length-le}
 use lib.Seq.{drop-cons}
 use borrow.Author.Tests.{eqb-true}
 use Rattle.mask.specs.Mask.{has, without}
+use Rattle.mask.specs.Members.{Takes}
 use Rattle.mask.proofs.Laws.{has-zero, has-and, has-without}
-use Rattle.mask.proofs.FromLowest.{rest-less, set_at, set-lowest, set-none}
+use Rattle.mask.proofs.FromLowest.{set_at, set-taken, set-none}
 use Rattle.route.specs.Steps.{blank}
 use Rattle.route.specs.declared.Step.{Step}
 use Rattle.precedence.proofs.Filled.{zeros-at}
@@ -27,20 +27,16 @@ use Rattle.answering.proofs.Filling.{filling-done}
 -- once the variables of `left` have the number too, all of `hit` have it
 pub record Marking (hit number : ℕ) (old writers : List ℕ) (left : ℕ) : Type 0 where
   pub room : length writers ≡ 32
-  pub narrow : left < 2 ^ 32
   pub marked : (v : ℕ) → set_at (λ u. number) left writers v ≡ set_at (λ u. number) hit old v
 
-pub marking-init : (hit number : ℕ) (old : List ℕ) → length old ≡ 32 → hit < 2 ^ 32 → Marking hit number old old hit
-marking-init hit number old room h = record { room = room; narrow = h; marked = λ v. refl }
+pub marking-init : (hit number left : ℕ) (old : List ℕ) → length old ≡ 32 → left ≡ hit → Marking hit number old old left
+marking-init hit number left old room e = rw e record { room = room; marked = λ v. refl }
 
 module _ (hit number : ℕ) (old writers : List ℕ) (left : ℕ) (inv : Marking hit number old writers left) where
-  pub marking_step :
-      (left ≡ 0 → ⊥)
-      → Marking hit number old (set writers (count_trailing_zeros 32 left) number) (bit_and left (left - 1))
-  marking_step some = record {
-    room = length-set writers (count_trailing_zeros 32 left) number ∙ inv.room;
-    narrow = omega (arith, rest-less 32 left some inv.narrow, inv.narrow);
-    marked = λ v. set-lowest (λ u. number) 32 left writers some inv.narrow (omega (arith, inv.room)) v
+  pub marking_step : (v left' : ℕ) → Takes 32 left v left' → Marking hit number old (set writers v number) left'
+  marking_step k left' took = record {
+    room = length-set writers k number ∙ inv.room;
+    marked = λ v. set-taken (λ u. number) 32 left k left' writers took (omega (arith, inv.room)) v
         ∙ inv.marked v;
   }
 

@@ -9,8 +9,8 @@ ghost use Rattle.precedence.specs.Table.{table};
 ghost use Rattle.answering.specs.Answer.{padded, after_of, writer_of, judge_stopped};
 ghost use Rattle.answering.specs.inner.Listed.{AnswersList};
 
-use mask::Mask;
 use crate::{Judged, Placed};
+use mask::Mask;
 use route::Marking;
 
 // The rows of the kept, with the kept alone.
@@ -18,10 +18,7 @@ fn after_rows(rows: &[u64; 64], kept: u64) -> [u64; 64]
     ensures { (l : List Step) → rows.now ≡ table l → result ≡ map (after_of l kept) (in_turn 0 64) }
 {
     let mut after = [0u64; 64];
-    let mut left = kept;
-    while left != 0 {
-        let i = u64::trailing_zeros(left) as usize;
-        left = left & (left - 1);
+    for i in kept.members() {
         after[i] = rows[i] & kept;
     }
     after
@@ -34,10 +31,7 @@ fn mark_writers(writers: &mut [u8; 32], hit: u32, number: u8)
     ensures by_index { (v : ℕ) → v < 32
         → get_or writers.new v 0 ≡ cond (has hit v) number (get_or writers.old v 0) }
 {
-    let mut left = hit;
-    while left != 0 {
-        let v = u32::trailing_zeros(left) as usize;
-        left = left & (left - 1);
+    for v in hit.members() {
         writers[v] = number;
     }
 }

@@ -2,15 +2,14 @@
 -- Assumes nothing.
 use mathlib.Core.Path.{◌≡◌, refl, sym, ap, ◌∙◌}
 use mathlib.Core.List.{List, [], ◌∷◌, ◌++◌}
-use Prim.Native.Nat.{ℕ, ◌+◌, ◌-◌, ◌^◌, ◌≤◌, ◌<◌}
+use Prim.Native.Nat.{ℕ, ◌+◌, ◌≤◌, ◌<◌}
 use native.Mathlib.Omega.{arith}
 use native.Mathlib.Numerals.{add-one}
-use lib.Bits.{bit_and}
-use lib.Count.{count_trailing_zeros}
 use lib.ListN.{length, get_or, drop, length-append, drop_of_length-le}
 use lib.Seq.{sets, drop-cons}
 use Rattle.mask.specs.Mask.{members}
-use Rattle.mask.proofs.FromLowest.{members-none, members-lowest}
+use Rattle.mask.specs.Members.{Takes}
+use Rattle.mask.proofs.FromLowest.{members-none}
 use Rattle.emit.specs.Emit.{Room, Emits}
 use Rattle.emit.specs.Numbers.{entry, over}
 use Rattle.emit.proofs.Chains.{emits-length, sets-append}
@@ -70,22 +69,15 @@ module _ (f : ℕ → List ℕ) where
       list-end h = left_end (left_as (over-nil (drop i l) (drop_of_length-le l {i = i} h)) left)
 
   -- a mask by what is left of it
-  module _ (m : ℕ) where
-    mask_next : m < 2 ^ 64 → (m ≡ 0 → ⊥) → over f (members 64 m)
-        ≡ f (count_trailing_zeros 64 m) ++ over f (members 64 (bit_and m (m - 1)))
-    mask_next h some = over-cons (count_trailing_zeros 64 m) (members 64 (bit_and m (m - 1))) (members 64 m)
-        (members-lowest 64 m some h)
+  module _ (m : ℕ) {o u o₀ : List ℕ} {n n₀ : ℕ} (left : Left (over f (members 64 m)) o n u o₀ n₀) where
+    pub mask-room : {v m' : ℕ} → Takes 64 m v m' → Room (f v) o n
+    mask-room {v} {m'} t = left-room _ _ (left_as (over-cons v (members 64 m') (members 64 m) t.first) left)
 
-    module _ {o u o₀ : List ℕ} {n n₀ : ℕ} (left : Left (over f (members 64 m)) o n u o₀ n₀) where
-      pub mask-room : m < 2 ^ 64 → (m ≡ 0 → ⊥) → Room (f (count_trailing_zeros 64 m)) o n
-      mask-room h some = left-room _ _ (left_as (mask_next h some) left)
+    pub mask-turn : {v m' k : ℕ} {p : List ℕ} → Takes 64 m v m' → Emits (f v) o n p k → Left (over f (members 64 m')) p k u o₀ n₀
+    mask-turn {v} {m'} t w = left-turn (left_as (over-cons v (members 64 m') (members 64 m) t.first) left) w
 
-      pub mask-turn : {p : List ℕ} {k : ℕ} → m < 2 ^ 64 → (m ≡ 0 → ⊥) → Emits (f (count_trailing_zeros 64 m)) o n p k
-          → Left (over f (members 64 (bit_and m (m - 1)))) p k u o₀ n₀
-      mask-turn h some w = left-turn (left_as (mask_next h some) left) w
-
-      pub mask_end : m ≡ 0 → Emits u o₀ n₀ o n
-      mask_end none = left_end (left_as (over-nil (members 64 m) (ap (members 64) none ∙ members-none 64)) left)
+    pub mask_end : m ≡ 0 → Emits u o₀ n₀ o n
+    mask_end none = left_end (left_as (over-nil (members 64 m) (ap (members 64) none ∙ members-none 64)) left)
 
 -- ---- the bytes of a slice
 

@@ -7,6 +7,8 @@ ghost use Rattle.mask.specs.Mask.{members};
 ghost use Rattle.emit.specs.Emit.{Room, Emits};
 ghost use Rattle.emit.specs.Numbers.{decimal, pair_text, over, entry as entry_text};
 
+use mask::Mask;
+
 pub fn put(out: &mut [u8], at: usize, b: u8) -> usize
     requires { Room (b ∷ []) out.old at }
     ensures { Emits (b ∷ []) out.old at out.new result }
@@ -83,11 +85,8 @@ pub fn entries(out: &mut [u8], at: usize, m: u64, first: u64) -> usize
         out.new result }
 {
     let mut end = at;
-    let mut left = m;
-    while left != 0 {
-        let z = u64::trailing_zeros(left);
-        left = left & (left - 1);
-        end = entry(out, end, first + z as u64);
+    for v in m.members() {
+        end = entry(out, end, first + v as u64);
     }
     end
 }

@@ -3,12 +3,12 @@
 use mathlib.Core.Path.{◌≡◌, refl, sym, ap, ◌∙◌}
 use mathlib.Core.Bool.{Bool, true, false}
 use mathlib.Core.List.{List, [], ◌∷◌}
-use Prim.Native.Nat.{ℕ, zero, suc, ◌+◌, ◌*◌, ◌/◌, ◌%◌, ◌≤◌, ◌<◌}
+use Prim.Native.Nat.{ℕ, zero, suc, ◌+◌, ◌-◌, ◌*◌, ◌/◌, ◌%◌, ◌≤◌, ◌<◌}
 use native.Mathlib.Omega.{arith}
 use borrow.Author.Tests.{le-leb, lt-leb}
 use lib.Dec.{leb}
-use lib.Seq.{length-take-le}
-use lib.ListN.{length, get_or, set, take, drop, replicate, length-take}
+use lib.Seq.{length-take-le, take_all}
+use lib.ListN.{length, get_or, set, take, drop, replicate, length-set, length-take}
 use Rattle.route.specs.Steps.{blank, names}
 use Rattle.flat.specs.Flat.{step_from, first_number, steps_in}
 use Rattle.route.specs.declared.Step.{Step}
@@ -22,9 +22,28 @@ length-flat (n ∷ i ∷ []) = refl
 length-flat (n ∷ i ∷ o ∷ []) = refl
 length-flat (n ∷ i ∷ o ∷ v ∷ w) = omega (arith, length-flat w)
 
--- the four numbers of a step are there
-pub flat-room : (w : List ℕ) (i : ℕ) → i < length (steps_in w) → 4 * i + 3 < length w
-flat-room w i h = omega (arith, length-flat w)
+-- what says of a step's four numbers that they are there
+pub ruleset flat_lengths = (length-flat, length-set)
+
+-- the steps one by one: of fewer than four numbers there is none, and of more the first four are the first
+pub flat-none : (w : List ℕ) → length w < 4 → steps_in w ≡ []
+unfolding steps_in
+flat-none [] h = refl
+flat-none (n ∷ []) h = refl
+flat-none (n ∷ a ∷ []) h = refl
+flat-none (n ∷ a ∷ b ∷ []) h = refl
+flat-none (n ∷ a ∷ b ∷ c ∷ w) h = absurd (omega arith)
+
+pub flat-first : (w : List ℕ) (s : Step) → 4 ≤ length w
+    → s ≡ step_from (get_or w 0 0) (get_or w 1 0) (get_or w 2 0) (get_or w 3 0)
+    → steps_in w ≡ s ∷ steps_in (take (length w - 4) (drop 4 w))
+unfolding steps_in
+flat-first [] s h e = absurd (omega arith)
+flat-first (n ∷ []) s h e = absurd (omega arith)
+flat-first (n ∷ a ∷ []) s h e = absurd (omega arith)
+flat-first (n ∷ a ∷ b ∷ []) s h e = absurd (omega arith)
+flat-first (n ∷ a ∷ b ∷ c ∷ w) s h e =
+    ap (λ (t : Step). t ∷ steps_in w) (sym e) ∙ ap (λ (v : List ℕ). s ∷ steps_in v) (sym (take_all _ w (omega arith)))
 
 four-more : (k : ℕ) → 4 * suc k ≡ suc (suc (suc (suc (4 * k))))
 four-more k = omega arith
@@ -145,23 +164,19 @@ first-mark n true h = le-leb 4294967296 (n + 4294967296) (omega arith)
 first-mark n false h = lt-leb 4294967296 n (omega arith)
 
 -- a step whose numbers have their width comes back as it was
-step-again : (s : Step) (x : ℕ) → x ≡ first_number s.name s.cloth → s.name < 4294967296
-    → s.reads < 4294967296 → s.writes < 4294967296
-    → step_from x s.ins s.outs (s.reads + s.writes * 4294967296) ≡ s
-step-again s x f n r w =
+step-again : (s : Step) (x v : ℕ) → x ≡ first_number s.name s.cloth → v ≡ s.reads + s.writes * 4294967296
+    → s.name < 4294967296 → s.reads < 4294967296 → s.writes < 4294967296 → step_from x s.ins s.outs v ≡ s
+step-again s x v f u n r w =
     let a : x % 4294967296 ≡ s.name = ap (λ (y : ℕ). y % 4294967296) f ∙ first-name s.name s.cloth n in
     let m : leb 4294967296 x ≡ s.cloth = ap (λ (y : ℕ). leb 4294967296 y) f ∙ first-mark s.name s.cloth n in
-    let b : (s.reads + s.writes * 4294967296) % 4294967296 ≡ s.reads = omega arith in
-    let d : (s.reads + s.writes * 4294967296) / 4294967296 ≡ s.writes = omega arith in
-    let e : s.writes % 4294967296 ≡ s.writes = omega arith in
-    let c : (s.reads + s.writes * 4294967296) / 4294967296 % 4294967296 ≡ s.writes =
-    ap (λ (y : ℕ). y % 4294967296) d ∙ e in
+    let b : v % 4294967296 ≡ s.reads = omega arith in
+    let c : v / 4294967296 % 4294967296 ≡ s.writes = omega arith in
     λ i. record { name = a i; cloth = m i; ins = s.ins; outs = s.outs; reads = b i; writes = c i }
 
 -- four numbers stored are one step stored
-pub flat-put-step : (w : List ℕ) (i : ℕ) (s : Step) (x : ℕ) → i < length (steps_in w)
-    → x ≡ first_number s.name s.cloth → s.name < 4294967296 → s.reads < 4294967296 → s.writes < 4294967296
-    → steps_in (put4 w (4 * i) x s.ins s.outs (s.reads + s.writes * 4294967296)) ≡ set (steps_in w) i s
-flat-put-step w i s x h f n r v =
-    flat-put w i x s.ins s.outs (s.reads + s.writes * 4294967296) h
-    ∙ ap (λ (t : Step). set (steps_in w) i t) (step-again s x f n r v)
+pub flat-put-step : (w : List ℕ) (i : ℕ) (s : Step) (x v : ℕ) → i < length (steps_in w)
+    → x ≡ first_number s.name s.cloth → v ≡ s.reads + s.writes * 4294967296
+    → s.name < 4294967296 → s.reads < 4294967296 → s.writes < 4294967296
+    → steps_in (put4 w (4 * i) x s.ins s.outs v) ≡ set (steps_in w) i s
+flat-put-step w i s x v h f u n r t =
+    flat-put w i x s.ins s.outs v h ∙ ap (set (steps_in w) i) (step-again s x v f u n r t)

@@ -26,12 +26,13 @@ laid_more l w v i s inv more room put is =
 
 module _ (r : Route) (full : length r.steps ≡ 64) (w : List ℕ) (i : ℕ)
     (inv : take i (steps_in w) ≡ take i (steps_of r)) where
-  pub lay-end : r.len ≤ i → i ≤ 64 → Laid (steps_of r) (4 * i) w
-  lay-end end few =
+  pub lay-end : i ≤ r.len → r.len ≤ i → i ≤ 64 → Laid (steps_of r) (4 * r.len) w
+  lay-end start end few =
+      let here : r.len ≡ i = omega arith in
       record {
         within = omega arith;
         steps-are =
-            flat-take w i ∙ inv
+            ap (λ (n : ℕ). steps_in (take (4 * n) w)) here ∙ flat-take w i ∙ inv
             ∙ take_all i (steps_of r) (omega (arith, length-steps r full))
             ∙ sym (take_all 65 (steps_of r) (omega (arith, length-steps r full)));
       }

@@ -3,6 +3,7 @@
 -- the upper 32.
 use Rattle.std.specs.Prelude.{◌≡◌, Bool, cond, List, [], ◌∷◌, ℕ, ◌+◌, ◌*◌, ◌/◌, ◌%◌, ◌≤◌, leb, length, take}
 use Rattle.route.specs.declared.Step.{Step}
+use Rattle.flat.specs.declared.Iter.{Iter}
 
 -- the step of four numbers
 abbrev pub step_from : ℕ → ℕ → ℕ → ℕ → Step
@@ -27,6 +28,10 @@ steps_in (n ∷ []) = []
 steps_in (n ∷ i ∷ []) = []
 steps_in (n ∷ i ∷ o ∷ []) = []
 steps_in (n ∷ i ∷ o ∷ v ∷ w) = step_from n i o v ∷ steps_in w
+
+-- the steps that an iterator has still to give
+abbrev pub steps_left : Iter → List Step
+steps_left i = steps_in i.0.now
 
 -- the numbers begin with those of the steps l
 pub record Holds (l : List Step) (w : List ℕ) : Type 0 where

@@ -7,19 +7,17 @@ use crate::put;
 use route::{Route, Step};
 
 // Lays the steps, at most 65 of them, since row 4 refuses the 65th; how many numbers there are.
+#[tactic(auto, using(crate::proofs::FlatSteps::flat_lengths))]
 pub fn lay(r: Route, into: &mut [u64]) -> usize
     requires { 260 ≤ length into.old }
     ensures { Laid (steps_of r) result into.new }
 {
-    let mut i = 0;
-    while i < r.len {
+    for i in 0..r.len {
         if Route::STEPS <= i {
             put(into, i, Step::blank());
             return 4 * i + 4;
         }
-        let s = r.steps[i];
-        put(into, i, s);
-        i += 1;
+        put(into, i, r.steps[i]);
     }
-    4 * i
+    4 * r.len
 }

@@ -53,10 +53,8 @@ fn check_steps(places: u64, steps: &[u64], line: u64) -> Outcome
     requires { (places ≤ 64) × (line ≤ 1000) }
     ensures { result ≡ first (step_rows line places [] (steps_in steps.now)) }
 {
-    let n = flat::count(steps);
     let mut hint = [0u8; 256];
-    let mut i = 0;
-    while i < n {
+    for i in 0..flat::count(steps) {
         if Route::STEPS <= i {
             return Outcome::refuse(4, line + 64);
         }
@@ -66,7 +64,6 @@ fn check_steps(places: u64, steps: &[u64], line: u64) -> Outcome
             return o;
         }
         name_set::add(&mut hint, s.name, i);
-        i += 1;
     }
     Outcome::pass()
 }

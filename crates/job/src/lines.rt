@@ -15,6 +15,7 @@ fn name_fits(n: u32) -> bool
     Version::PRESENT.name_fits(n as u64)
 }
 
+#[tactic(auto, unfolding(crate::specs::Lines::step_fits))]
 pub fn step_fits(places: u64, s: Step) -> bool
     requires { places ≤ 64 }
     ensures { result ≡ step_fits places s }
@@ -22,34 +23,32 @@ pub fn step_fits(places: u64, s: Step) -> bool
     name_fits(s.name) && (s.ins | s.outs).within(u64::below(places))
 }
 
+#[tactic(auto, unfolding(crate::specs::Lines::place_list))]
 fn place_list(m: u64) -> bool
     ensures { result ≡ place_list m }
 {
     m != 0 && m.count() <= Route::ENTRIES
 }
 
+#[tactic(auto, unfolding(crate::specs::Lines::variable_list))]
 fn variable_list(vars: u32) -> bool
     ensures { result ≡ variable_list vars }
 {
     vars.count() <= Route::ENTRIES
 }
 
+#[tactic(auto, unfolding(crate::specs::Lines::lists_fit))]
 pub fn lists_fit(s: Step) -> bool
     ensures { result ≡ lists_fit s }
 {
-    if !place_list(s.ins) {
-        return false;
-    }
-    if !place_list(s.outs) {
-        return false;
-    }
-    variable_list(s.reads) && variable_list(s.writes)
+    place_list(s.ins) && place_list(s.outs) && variable_list(s.reads) && variable_list(s.writes)
 }
 
+#[tactic(auto, unfolding(crate::specs::Lines::places_fit))]
 pub fn places_fit(n: u64) -> bool
     ensures { result ≡ places_fit n }
 {
-    1 <= n && n <= Route::PLACES
+    (1..=Route::PLACES).contains(&n)
 }
 
 // The done lines; the first is on `line`.
@@ -57,15 +56,13 @@ pub fn check_done(done: &[u32], line: u64) -> Outcome
     requires { line ≤ 1000 }
     ensures { result ≡ first (done_rows present line 0 done.now) }
 {
-    let mut i = 0;
-    while i < done.len() {
+    for (i, &name) in done.iter().enumerate() {
         if i >= Route::STEPS {
             return Outcome::refuse(4, line + 64);
         }
-        if !name_fits(done[i]) {
+        if !name_fits(name) {
             return Outcome::refuse(2, line + i as u64);
         }
-        i += 1;
     }
     Outcome::pass()
 }

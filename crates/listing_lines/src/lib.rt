@@ -6,8 +6,8 @@ ghost use Rattle.emit.specs.Emit.{Room, Emits};
 ghost use Rattle.emit.specs.Numbers.{over, entry as entry_text};
 ghost use Rattle.listing_lines.specs.Lines.{refused_line, moved_line, order_line, marking_line};
 
-use mask::Mask;
 use emit::{entries, entry, text};
+use mask::Mask;
 
 // A word and an entry.
 pub fn figure(out: &mut [u8], at: usize, w: &[u8], n: u64) -> usize

@@ -2,12 +2,11 @@
 -- Assumes nothing.
 use mathlib.Core.Path.{◌≡◌, ap, ◌∙◌}
 use mathlib.Core.List.{List, ◌++◌}
-use Prim.Native.Nat.{ℕ, suc, ◌+◌, ◌-◌, ◌^◌, ◌≤◌, ◌<◌}
+use Prim.Native.Nat.{ℕ, suc, ◌+◌, ◌-◌, ◌≤◌, ◌<◌}
 use native.Mathlib.Omega.{arith}
-use lib.Bits.{bit_and}
-use lib.Count.{count_trailing_zeros}
 use lib.ListN.{get_or}
 use Rattle.mask.specs.Mask.{members}
+use Rattle.mask.specs.Members.{Takes}
 use Rattle.precedence.specs.Order.{in_turn}
 use Rattle.emit.specs.Emit.{Room, Emits}
 use Rattle.emit.specs.Numbers.{over}
@@ -19,18 +18,18 @@ use Rattle.listing_lines.specs.Lines.{after_line, after_lines, value_line, value
 abbrev pub line_of : List ℕ → ℕ → List ℕ
 line_of rows i = after_line i (get_or rows i 0)
 
-pub after-start : (kept : ℕ) (rows : List ℕ) {o : List ℕ} {n : ℕ} → Room (after_lines kept rows) o n
-    → Left (over (line_of rows) (members 64 kept)) o n (after_lines kept rows) o n
+pub after-start : (kept left : ℕ) (rows : List ℕ) {o : List ℕ} {n : ℕ} → left ≡ kept → Room (after_lines kept rows) o n
+    → Left (over (line_of rows) (members 64 left)) o n (after_lines kept rows) o n
 unfolding after_lines
-after-start kept rows r = left-start r
+after-start kept left rows e r = rw e (left-start r)
 
 module _ (rows : List ℕ) (m : ℕ) {o u o₀ : List ℕ} {n n₀ : ℕ}
     (left : Left (over (line_of rows) (members 64 m)) o n u o₀ n₀) where
-  pub row_room : m < 2 ^ 64 → (m ≡ 0 → ⊥) → Room (line_of rows (count_trailing_zeros 64 m)) o n
+  pub row_room : {i m' : ℕ} → Takes 64 m i m' → Room (line_of rows i) o n
   row_room = mask-room (line_of rows) m left
 
-  pub row-turn : {p : List ℕ} {k : ℕ} → m < 2 ^ 64 → (m ≡ 0 → ⊥) → Emits (line_of rows (count_trailing_zeros 64 m)) o n p k
-      → Left (over (line_of rows) (members 64 (bit_and m (m - 1)))) p k u o₀ n₀
+  pub row-turn : {i m' k : ℕ} {p : List ℕ} → Takes 64 m i m' → Emits (line_of rows i) o n p k
+      → Left (over (line_of rows) (members 64 m')) p k u o₀ n₀
   row-turn = mask-turn (line_of rows) m left
 
 -- ---- variables

@@ -8,6 +8,7 @@ ghost use Rattle.listing_lines.specs.Lines.{after_line, after_lines, value_line,
 
 use emit::{entries, entry, text};
 use listing_lines::figure;
+use mask::Mask;
 
 // The line of the occurrence at bit i, where its row has a bit.
 fn after_line(out: &mut [u8], at: usize, i: u64, row: u64) -> usize
@@ -29,11 +30,8 @@ pub fn after_lines(out: &mut [u8], at: usize, kept: u64, rows: &[u64; 64]) -> us
     ensures { Emits (after_lines kept rows.now) out.old at out.new result }
 {
     let mut end = at;
-    let mut left = kept;
-    while left != 0 {
-        let z = u64::trailing_zeros(left);
-        left = left & (left - 1);
-        end = after_line(out, end, z as u64, rows[z as usize]);
+    for i in kept.members() {
+        end = after_line(out, end, i as u64, rows[i]);
     }
     end
 }

@@ -13,6 +13,7 @@ use lib.ListN.{length, get_or, set}
 use lib.Seq.{get_or-set_same, get_or-set_other}
 use borrow.Author.Tests.{eq-eqb, ne_eqb}
 use Rattle.mask.specs.Mask.{has, members_from, members}
+use Rattle.mask.specs.Members.{Takes}
 use Rattle.mask.proofs.Laws.{has-zero}
 use Rattle.mask.proofs.Cut.{has-high}
 use Rattle.mask.proofs.Lowest.{lowest-le, lowest-of, has-less-lowest}
@@ -118,24 +119,21 @@ members-lowest w m some narrow =
 abbrev pub set_at : (ℕ → ℕ) → ℕ → List ℕ → ℕ → ℕ
 set_at f m a v = cond (has m v) (f v) (get_or a v 0)
 
-pub set-lowest : (f : ℕ → ℕ) (w m : ℕ) (a : List ℕ) → (m ≡ 0 → ⊥) → m < 2 ^ w → w ≤ length a → (v : ℕ)
-    → set_at f (bit_and m (m - 1)) (set a (count_trailing_zeros w m) (f (count_trailing_zeros w m))) v ≡ set_at f m a v
-set-lowest f w m a some narrow room v = go (ℕ_discrete v k)
+pub set-taken : (f : ℕ → ℕ) (w m k m' : ℕ) (a : List ℕ) → Takes w m k m' → w ≤ length a → (v : ℕ)
+    → set_at f m' (set a k (f k)) v ≡ set_at f m a v
+set-taken f w m k m' a took room v = go (ℕ_discrete v k)
   where
-    k : ℕ
-    k = count_trailing_zeros w m
-
-    go : Dec (v ≡ k) → set_at f (bit_and m (m - 1)) (set a k (f k)) v ≡ set_at f m a v
+    go : Dec (v ≡ k) → set_at f m' (set a k (f k)) v ≡ set_at f m a v
     go (yes e) =
         ap (λ (t : Bool). cond t (f v) (get_or (set a k (f k)) v 0))
-        (lowest-rest w m some narrow v ∙ ap (λ (t : Bool). has m v && not t) (eq-eqb v k e) ∙ and-false (has m v))
+        (took.rest v ∙ ap (λ (t : Bool). has m v && not t) (eq-eqb v k e) ∙ and-false (has m v))
         ∙ ap (λ (u : ℕ). get_or (set a k (f k)) u 0) e
-        ∙ get_or-set_same a k (f k) 0 (omega (arith, lowest-lt w m some narrow))
+        ∙ get_or-set_same a k (f k) 0 (omega (arith, took.low))
         ∙ ap f (sym e)
-        ∙ ap (λ (t : Bool). cond t (f v) (get_or a v 0)) (sym (ap (has m) e ∙ lowest-has w m some narrow))
+        ∙ ap (λ (t : Bool). cond t (f v) (get_or a v 0)) (sym (ap (has m) e ∙ took.held))
     go (no n) =
         ap₂ (λ (t : Bool) (x : ℕ). cond t (f v) x)
-        (lowest-rest w m some narrow v ∙ ap (λ (t : Bool). has m v && not t) (ne_eqb v k n) ∙ and-true (has m v))
+        (took.rest v ∙ ap (λ (t : Bool). has m v && not t) (ne_eqb v k n) ∙ and-true (has m v))
         (get_or-set_other a k v (f k) 0 n)
 
 pub set-none : (f : ℕ → ℕ) (m : ℕ) (a : List ℕ) (v : ℕ) → m ≡ 0 → get_or a v 0 ≡ set_at f m a v

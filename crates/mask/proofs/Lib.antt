@@ -7,3 +7,4 @@ pub mod Members
 pub mod Cut
 pub mod Lowest
 pub mod FromLowest
+pub mod Taken

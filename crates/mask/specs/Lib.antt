@@ -1,2 +1,3 @@
 -- What a bit mask means.
 pub mod Mask
+pub mod Members

@@ -8,6 +8,9 @@ ghost use Rattle.std.specs.Int.Bits.{bit_and, bit_xor};
 ghost use Rattle.std.proofs.Common.{refl};
 ghost use Rattle.mask.specs.Mask.{has, bit, below, without, within, meets, count};
 
+pub mod iter;
+
+use crate::iter::Members;
 use std::ops::{BitAnd, BitXor, Sub};
 
 // A number as the set of its bits. The operators of a width's numbers do what they do on numbers.
@@ -80,6 +83,13 @@ pub trait Mask: Copy
         ensures { result ≡ has (number self) v }
     {
         self.meets(Self::bit(v))
+    }
+
+    // The members in turn, rising.
+    final fn members(self) -> Members<Self>
+        ensures { result.left ≡ self }
+    {
+        Members { left: self }
     }
 
     final fn below(n: u64) -> Self

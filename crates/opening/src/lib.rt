@@ -28,15 +28,11 @@ pub struct Opened {
 fn ends_of(steps: &[u64]) -> Ends
     ensures { EndsOf (steps_in steps.now) result }
 {
-    let n = flat::count(steps);
     let mut ins = 0u64;
     let mut outs = 0u64;
-    let mut i = 0;
-    while i < n {
-        let s = flat::step_at(steps, i);
+    for s in flat::steps(steps) {
         ins |= s.ins;
         outs |= s.outs;
-        i += 1;
     }
     Ends { ins, outs }
 }

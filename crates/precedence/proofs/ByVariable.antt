@@ -1,23 +1,20 @@
--- Loops over the variables of a mask, from the lowest up: the union of the entries there, and one more occurrence at
+-- Loops over the variables of a mask in turn: the union of the entries there, and one more occurrence at
 -- each.
 use mathlib.Core.Path.{◌≡◌, refl, sym, ap, ap₂, ◌∙◌}
 use mathlib.Core.Bool.{Bool, true, false, not, cond, ◌&&◌, ◌||◌, or-false, and-true, and-false, and-or_distrib_left}
 use mathlib.Core.List.{List}
-use Prim.Native.Nat.{ℕ, ◌+◌, ◌-◌, ◌*◌, ◌^◌, ◌<◌}
+use Prim.Native.Nat.{ℕ, ◌+◌, ◌<◌}
 use native.Mathlib.Omega.{arith}
-use borrow.Author.Rules.{rules}
-use mir.Syntax.{w64}
-use mir.Val.{Fits}
 use lib.Dec.{eqb, ltb}
-use lib.Bits.{bit_and, bit_or, and_zero_r, and_le_r}
-use lib.Count.{count_trailing_zeros}
+use lib.Bits.{bit_and, bit_or, and_zero_r}
 use lib.ListN.{length, get_or, set, replicate}
 use lib.Seq.{get_or-set_same, get_or-set_other}
 use borrow.Author.Tests.{eqb-true, eqb-false, not-true}
 use Rattle.mask.specs.Mask.{has, bit, meets, collect}
+use Rattle.mask.specs.Members.{Takes}
 use Rattle.mask.proofs.Laws.{has-or, has-zero, has-ext, has-collect, collect-hit, collect-miss}
 use Rattle.mask.proofs.Truth.{both}
-use Rattle.mask.proofs.Lowest.{lowest-of, has-less-lowest, meets-less}
+use Rattle.mask.proofs.Lowest.{meets-less}
 use Rattle.mask.proofs.Sets.{or-meets}
 use Rattle.precedence.specs.inner.ByVariable.{ByVariable, meeting, Gathers, Joins}
 use Rattle.precedence.proofs.Filled.{zeros-at}
@@ -40,11 +37,14 @@ Joining by₀ vars own left by =
 abbrev pub Untouched : ℕ → List ℕ → List ℕ → Type 0
 Untouched left by₀ by = (v : ℕ) → has left v ≡ true → get_or by v 0 ≡ get_or by₀ v 0
 
-pub gathering-init : (by : List ℕ) (vars : ℕ) → Gathering by vars vars 0
-gathering-init by vars = record {
-  union = λ f n is j.
-      ap (λ (t : Bool). t || (ltb j n && meets (f j) vars)) (has-zero j);
-}
+-- at first all are left
+module _ (vars left : ℕ) (all : left ≡ vars) where
+  pub gathering-init : (by : List ℕ) → Gathering by vars left 0
+  gathering-init by =
+      rw all record { union = λ f n is j. ap (λ (t : Bool). t || (ltb j n && meets (f j) vars)) (has-zero j) }
+
+  pub joining-init : (by : List ℕ) (own : ℕ) → Joining by vars own left by
+  joining-init by own room v h = rw all
 
 pub gathering-done : (by : List ℕ) (vars left m : ℕ) → left ≡ 0 → Gathering by vars left m → Gathers by vars m
 unfolding meeting
@@ -88,41 +88,14 @@ pub gathering-both :
 gathering-both by by' vars left a b r e p q is f g n x y =
     is ∙ ap₂ bit_or ((gathering-done by vars left a e p).union f n x) ((gathering-done by' vars left b e q).union g n y)
 
--- the lowest variable that is left
-module _ (left : ℕ) (some : left ≡ 0 → ⊥) (narrow : left < 2 ^ 32) where
-  abbrev lowest : ℕ
-  lowest = count_trailing_zeros 32 left
-
-  pub lowest-below : lowest < 32
-  lowest-below = (lowest-of 32 left (omega arith) narrow).1
-
-  in_left : has left lowest ≡ true
-  in_left = (lowest-of 32 left (omega arith) narrow).0
-
-  less-has : (v : ℕ) → has (bit_and left (left - 1)) v ≡ (has left v && not (eqb v lowest))
-  less-has v = has-less-lowest 32 left v (omega arith) narrow
-
-  -- it fits, and its entry's offset in an array of 8-byte numbers
-  pub lowest-wide : Fits w64 lowest
-  lowest-wide = omega (arith, lowest-below)
-
-  pub lowest-offset : Fits w64 (lowest * 8)
-  lowest-offset = omega (arith, lowest-below)
-
-  pub less-left : bit_and left (left - 1) < left
-  less-left = omega (arith, and_le_r left (left - 1))
-
-  pub less-narrow : bit_and left (left - 1) < 2 ^ 32
-  less-narrow = omega (arith, less-left)
-
+-- the variable k is taken of those that are left
+module _ (left k left' : ℕ) (took : Takes 32 left k left') where
   pub gathering-step : (by : List ℕ) (vars m : ℕ) → Gathering by vars left m
-      → Gathering by vars (bit_and left (left - 1)) (bit_or m (get_or by lowest 0))
+      → Gathering by vars left' (bit_or m (get_or by k 0))
   gathering-step by vars m inv = record { union = each }
     where
-      here : (f : ℕ → ℕ) (n : ℕ) → ByVariable f n by → (j : ℕ)
-          → has (get_or by lowest 0) j ≡ (ltb j n && has (f j) lowest)
-      here f n is j = ap (λ (x : ℕ). has x j) (is.entry lowest lowest-below)
-          ∙ has-collect (λ (j : ℕ). has (f j) lowest) n j
+      here : (f : ℕ → ℕ) (n : ℕ) → ByVariable f n by → (j : ℕ) → has (get_or by k 0) j ≡ (ltb j n && has (f j) k)
+      here f n is j = ap (λ (x : ℕ). has x j) (is.entry k took.low) ∙ has-collect (λ (j : ℕ). has (f j) k) n j
 
       table : (a t x y : Bool) → ((a || (t && x)) || (t && y)) ≡ (a || (t && (x || y)))
       table true t x y = refl
@@ -130,57 +103,52 @@ module _ (left : ℕ) (some : left ≡ 0 → ⊥) (narrow : left < 2 ^ 32) where
       table false false x y = refl
 
       each : (f : ℕ → ℕ) (n : ℕ) → ByVariable f n by → (j : ℕ)
-          → (has (bit_or m (get_or by lowest 0)) j || (ltb j n && meets (f j) (bit_and left (left - 1))))
-          ≡ (ltb j n && meets (f j) vars)
+          → (has (bit_or m (get_or by k 0)) j || (ltb j n && meets (f j) left')) ≡ (ltb j n && meets (f j) vars)
       each f n is j =
-          ap (λ (t : Bool). t || (ltb j n && meets (f j) (bit_and left (left - 1))))
-          (has-or m (get_or by lowest 0) j ∙ ap (λ (t : Bool). has m j || t) (here f n is j))
-          ∙ table (has m j) (ltb j n) (has (f j) lowest) (meets (f j) (bit_and left (left - 1)))
-          ∙ ap (λ (t : Bool). has m j || (ltb j n && t))
-          (sym (meets-less (f j) left (bit_and left (left - 1)) lowest in_left less-has))
+          ap (λ (t : Bool). t || (ltb j n && meets (f j) left'))
+          (has-or m (get_or by k 0) j ∙ ap (λ (t : Bool). has m j || t) (here f n is j))
+          ∙ table (has m j) (ltb j n) (has (f j) k) (meets (f j) left')
+          ∙ ap (λ (t : Bool). has m j || (ltb j n && t)) (sym (meets-less (f j) left left' k took.held took.rest))
           ∙ inv.union f n is j
 
   -- where the entries are joined as they are gathered, those at the variables that are left are as they were
   pub gathering-joined : (by₀ by : List ℕ) (vars m : ℕ) → Untouched left by₀ by → Gathering by₀ vars left m
-      → Gathering by₀ vars (bit_and left (left - 1)) (bit_or m (get_or by lowest 0))
-  gathering-joined by₀ by vars m same inv = rw (same lowest in_left) (gathering-step by₀ vars m inv)
+      → Gathering by₀ vars left' (bit_or m (get_or by k 0))
+  gathering-joined by₀ by vars m same inv = rw (same k took.held) (gathering-step by₀ vars m inv)
 
-  pub untouched-step : (by₀ by : List ℕ) (x : ℕ) → Untouched left by₀ by
-      → Untouched (bit_and left (left - 1)) by₀ (set by lowest x)
+  pub untouched-step : (by₀ by : List ℕ) (x : ℕ) → Untouched left by₀ by → Untouched left' by₀ (set by k x)
   untouched-step by₀ by x same v h =
-      let there : (has left v ≡ true) × (not (eqb v lowest) ≡ true) =
-      both (has left v) (not (eqb v lowest)) (sym (less-has v) ∙ h) in
-      get_or-set_other by lowest v x 0 (eqb-false v lowest (not-true (eqb v lowest) there.1)) ∙ same v there.0
+      let there : (has left v ≡ true) × (not (eqb v k) ≡ true) =
+      both (has left v) (not (eqb v k)) (sym (took.rest v) ∙ h) in
+      get_or-set_other by k v x 0 (eqb-false v k (not-true (eqb v k) there.1)) ∙ same v there.0
 
   pub joining-step :
       (by₀ by : List ℕ) (vars own : ℕ)
       → length by ≡ length by₀
       → Joining by₀ vars own left by
-      → Joining by₀ vars own (bit_and left (left - 1)) (set by lowest (bit_or (get_or by lowest 0) own))
-  joining-step by₀ by vars own same-room inv room v b = go (eqb v lowest) refl ∙ inv room v b
+      → Joining by₀ vars own left' (set by k (bit_or (get_or by k 0) own))
+  joining-step by₀ by vars own same-room inv room v b = go (eqb v k) refl ∙ inv room v b
     where
       by' : List ℕ
-      by' = set by lowest (bit_or (get_or by lowest 0) own)
+      by' = set by k (bit_or (get_or by k 0) own)
 
-      go : (t : Bool) → eqb v lowest ≡ t → cond (has (bit_and left (left - 1)) v) (bit_or (get_or by' v 0) own)
-          (get_or by' v 0) ≡ cond (has left v) (bit_or (get_or by v 0) own) (get_or by v 0)
+      go : (t : Bool) → eqb v k ≡ t → cond (has left' v) (bit_or (get_or by' v 0) own) (get_or by' v 0)
+          ≡ cond (has left v) (bit_or (get_or by v 0) own) (get_or by v 0)
       go true e =
-          let here : v ≡ lowest = eqb-true v lowest e in
-          let gone : has (bit_and left (left - 1)) v ≡ false =
-          less-has v ∙ ap (λ (t : Bool). has left v && not t) e ∙ and-false (has left v) in
-          let own_in : has left v ≡ true = ap (has left) here ∙ in_left in
+          let here : v ≡ k = eqb-true v k e in
+          let gone : has left' v ≡ false =
+          took.rest v ∙ ap (λ (t : Bool). has left v && not t) e ∙ and-false (has left v) in
+          let own_in : has left v ≡ true = ap (has left) here ∙ took.held in
           rw (gone, own_in)
           (ap (λ (u : ℕ). get_or by' u 0) here
-          ∙ get_or-set_same by lowest (bit_or (get_or by lowest 0) own) 0 (omega (arith, lowest-below))
+          ∙ get_or-set_same by k (bit_or (get_or by k 0) own) 0 (omega (arith, took.low))
           ∙ ap (λ (u : ℕ). bit_or (get_or by u 0) own) (sym here))
       go false e =
-          let same : has (bit_and left (left - 1)) v ≡ has left v =
-          less-has v ∙ ap (λ (t : Bool). has left v && not t) e ∙ and-true (has left v) in
+          let same : has left' v ≡ has left v =
+          took.rest v ∙ ap (λ (t : Bool). has left v && not t) e ∙ and-true (has left v) in
           let stays : get_or by' v 0 ≡ get_or by v 0 =
-          get_or-set_other by lowest v (bit_or (get_or by lowest 0) own) 0 (eqb-false v lowest e) in
+          get_or-set_other by k v (bit_or (get_or by k 0) own) 0 (eqb-false v k e) in
           rw (same, stays)
-
-pub ruleset at-lowest = (rules, lowest-below, lowest-wide, lowest-offset)
 
 joined :
     (by₀ by : List ℕ) (vars own left : ℕ)

@@ -15,12 +15,9 @@ fn after_writes(readers: &[u64; 32], writers: &mut [u64; 32], vars: u32, own: u6
         → ByVariable g n writers.old → result ≡ bit_or (meeting f vars n) (meeting g vars n) }
     ensures joins { Joins writers.old vars own writers.new }
 {
-    let mut left = vars;
     let mut read = 0u64;
     let mut wrote = 0u64;
-    while left != 0 {
-        let v = u32::trailing_zeros(left) as usize;
-        left = left & (left - 1);
+    for v in vars.members() {
         read |= readers[v];
         wrote |= writers[v];
         writers[v] |= own;
@@ -33,11 +30,8 @@ fn after_reads(writers: &[u64; 32], readers: &mut [u64; 32], vars: u32, own: u64
     ensures gathers { Gathers writers.now vars result }
     ensures joins { Joins readers.old vars own readers.new }
 {
-    let mut left = vars;
     let mut wrote = 0u64;
-    while left != 0 {
-        let v = u32::trailing_zeros(left) as usize;
-        left = left & (left - 1);
+    for v in vars.members() {
         wrote |= writers[v];
         readers[v] |= own;
     }
@@ -61,9 +55,7 @@ pub fn table_of(occurrences: &[u64]) -> [u64; 64]
     let mut writers = [0u64; 32];
     let mut readers = [0u64; 32];
     let mut cut = 0u64;
-    let n = flat::count(occurrences);
-    let mut i = 0;
-    while i < n {
+    for i in 0..flat::count(occurrences) {
         let s = flat::step_at(occurrences, i);
         let own = u64::bit(i);
         let users = after_writes(&readers, &mut writers, s.writes, own);
@@ -71,7 +63,6 @@ pub fn table_of(occurrences: &[u64]) -> [u64; 64]
         let cuts = only(s.cloth, cut);
         cut |= only(s.cloth, own);
         rows[i] = (users | sources | cuts) & (own - 1);
-        i += 1;
     }
     rows
 }

@@ -10,18 +10,14 @@ use flat::{put, step_at};
 use route::Step;
 
 // Lays a lent list's records as numbers, at most 65 of them, since row 4 refuses the 65th; how many numbers there are.
+#[tactic(auto, using(flat::proofs::FlatSteps::flat_lengths))]
 pub fn lay(steps: &[Step], into: &mut [u64]) -> usize
     requires { 260 ≤ length into.old }
     ensures { Laid steps.now result into.new }
 {
-    let mut n = steps.len();
-    if 65 < n {
-        n = 65;
-    }
-    let mut i = 0;
-    while i < n {
+    let n = steps.len().min(65);
+    for i in 0..n {
         put(into, i, record_at(steps, i));
-        i += 1;
     }
     4 * n
 }
@@ -31,10 +27,8 @@ pub fn fill(out: &mut [Step], n: usize, steps: &[u64])
     requires { (n ≤ length (steps_in steps.now)) × (n ≤ length out.old) }
     ensures { out.new ≡ overlaid n (steps_in steps.now) out.old }
 {
-    let mut k = 0;
-    while k < n {
+    for k in 0..n {
         out[k] = step_at(steps, k);
-        k += 1;
     }
 }
 
@@ -42,8 +36,5 @@ pub fn fill(out: &mut [Step], n: usize, steps: &[u64])
 fn record_at(steps: &[Step], i: usize) -> Step
     ensures { result ≡ get_or steps.now i blank }
 {
-    if i < steps.len() {
-        return steps[i];
-    }
-    Step::BLANK
+    steps.get(i).copied().unwrap_or(Step::BLANK)
 }

@@ -2,16 +2,18 @@
 -- below 64 the list and the array agree. Then the steps' names, and the step of a name.
 use mathlib.Core.Path.{◌≡◌, refl, sym, ap, ap₂, ◌∙◌}
 use mathlib.Core.Bool.{Bool, true, false, cond}
-use mathlib.Core.List.{List, [], ◌∷◌, ◌++◌}
+use mathlib.Core.List.{List, [], ◌∷◌}
 use mathlib.Core.Option.{some, none-ne-some, some-injective}
 use Prim.Native.Nat.{ℕ, zero, suc, ◌+◌, ◌-◌, ◌≤◌, ◌<◌, min}
 use native.Mathlib.Omega.{arith}
 use native.Mathlib.Numerals.{add-one}
 use lib.Dec.{eqb}
 use lib.ListN.{length, take, drop, get_or, replicate, length-append, length-take, length-replicate, length-map}
-use lib.ListN.{get_or-append, get_or-map, drop_of_length-le}
-use lib.Seq.{get_or-append-add, drop-cons, get_or-take}
-use lib.Bits.{bit_or, or_zero_r}
+use lib.ListN.{get_or-append, get_or-map}
+use lib.Seq.{get_or-append_right, drop-cons, get_or-take}
+use lib.Bits.{bit_or, or_zero_l, or_zero_r}
+use Rattle.std.specs.List.{fold}
+use Rattle.std.proofs.lemmas.List.{take-map, drop-map}
 use borrow.Author.Tests.{eqb-true}
 use Rattle.mask.proofs.Laws.{or_assoc}
 use Rattle.route.specs.Steps.{blank, steps_of, union, names, lookup}
@@ -22,11 +24,6 @@ blank-at : (n i : ℕ) → get_or (replicate n blank) i blank ≡ blank
 blank-at zero i = refl
 blank-at (suc n) zero = refl
 blank-at (suc n) (suc i) = blank-at n i
-
-get_d_past : {A : Type 0} (a b : List A) (i : ℕ) (d : A) → length a ≤ i → get_or (a ++ b) i d ≡ get_or b (i - length a) d
-get_d_past a b i d h =
-    let at : i ≡ length a + (i - length a) = omega arith in
-    ap (λ (n : ℕ). get_or (a ++ b) n d) at ∙ get_or-append-add a b (i - length a) d
 
 module _ (r : Route) (full : length r.steps ≡ 64) where
   pub length-steps : length (steps_of r) ≡ r.len
@@ -52,7 +49,7 @@ module _ (r : Route) (full : length r.steps ≡ 64) where
   unfolding steps_of
   steps-past i h =
       let stored : length (take r.len r.steps) ≤ i = omega (arith, length-take r.len r.steps, full) in
-      get_d_past (take r.len r.steps) (replicate (r.len - 64) blank) i blank stored ∙ blank-at (r.len - 64) _
+      get_or-append_right (take r.len r.steps) (replicate (r.len - 64) blank) i blank stored ∙ blank-at (r.len - 64) _
 
 -- any list of steps, of which there are `count`; `s` is the one at i, and the others follow
 pub list_on : (l : List Step) (i : ℕ) (s : Step) (count : ℕ) → count ≡ length l → i < count → s ≡ get_or l i blank
@@ -73,15 +70,14 @@ pub union-done : (f : Step → ℕ) (acc whole : ℕ) (l : List Step) → l ≡ 
 unfolding union
 union-done f acc whole l e h = sym (or_zero_r acc) ∙ ap (λ (x : List Step). bit_or acc (union f x)) (sym e) ∙ h
 
--- the turns of a pass over steps, of which there are `count`; `s` is the one at i
-module _ (f : Step → ℕ) (l : List Step) (i count acc whole : ℕ) (counted : count ≡ length l)
-    (inv : bit_or acc (union f (drop i l)) ≡ whole) where
-  pub union-on : (s : Step) → i < count → s ≡ get_or l i blank
-      → bit_or (bit_or acc (f s)) (union f (drop (i + 1) l)) ≡ whole
-  union-on s h is = union_more f acc whole s (drop i l) (drop (i + 1) l) (list_on l i s count counted h is) inv
+-- a fold over the steps
+onto : (f : Step → ℕ) (acc : ℕ) (l : List Step) → fold (λ (a : ℕ) (s : Step). bit_or a (f s)) acc l ≡ bit_or acc (union f l)
+unfolding union
+onto f acc [] = sym (or_zero_r acc)
+onto f acc (s ∷ l) = onto f (bit_or acc (f s)) l ∙ or_assoc acc (f s) (union f l)
 
-  pub union-all : count ≤ i → acc ≡ whole
-  union-all h = union-done f acc whole (drop i l) (drop_of_length-le l {i = i} (omega arith)) inv
+pub fold-union : (f : Step → ℕ) (l : List Step) → fold (λ (a : ℕ) (s : Step). bit_or a (f s)) 0 l ≡ union f l
+fold-union f l = onto f 0 l ∙ or_zero_l (union f l)
 
 pub length-names : (l : List Step) → length (names l) ≡ length l
 unfolding names
@@ -93,15 +89,11 @@ get_or-names l i = get_or-map (λ (s : Step). s.name) l i blank
 
 pub names-take : (n : ℕ) (l : List Step) → names (take n l) ≡ take n (names l)
 unfolding names
-names-take zero l = refl
-names-take (suc n) [] = refl
-names-take (suc n) (s ∷ l) = ap (λ (k : List ℕ). s.name ∷ k) (names-take n l)
+names-take n l = sym (take-map (λ (s : Step). s.name) n l)
 
 pub names-drop : (n : ℕ) (l : List Step) → names (drop n l) ≡ drop n (names l)
 unfolding names
-names-drop zero l = refl
-names-drop (suc n) [] = refl
-names-drop (suc n) (s ∷ l) = names-drop n l
+names-drop n l = sym (drop-map (λ (s : Step). s.name) n l)
 
 pub lookup-name : (n : ℕ) (l : List Step) (s : Step) → lookup n l ≡ some s → s.name ≡ n
 unfolding lookup

@@ -4,6 +4,13 @@ ghost use Rattle.route.specs.Steps.{blank, no_route};
 
 use crate::{Route, Step};
 
+// The lowest 32 bits.
+pub fn low(n: u64) -> u32
+    ensures { result ≡ n % 4294967296 }
+{
+    (n & 0xffff_ffff) as u32
+}
+
 impl Step {
     // The record with 0 in every field, and no mark.
     pub const BLANK: Step = Step {
@@ -33,12 +40,12 @@ impl Step {
         } }
     {
         Step {
-            name: (name % 4294967296) as u32,
+            name: low(name),
             cloth,
             ins,
             outs,
-            reads: (reads % 4294967296) as u32,
-            writes: (writes % 4294967296) as u32,
+            reads: low(reads),
+            writes: low(writes),
         }
     }
 }

@@ -1,8 +1,8 @@
 // Long routes.
 ghost use Rattle.std.specs.Prelude.{◌≤◌};
 
-use mask::Mask;
 use crate::step;
+use mask::Mask;
 use route::{Route, Step};
 
 fn moved(m: u64, down: bool) -> u64 {

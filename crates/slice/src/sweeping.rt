@@ -7,13 +7,11 @@ use mask::Mask;
 use route::Step;
 
 // The sweep keeps an occurrence of `s` where `live` is live after it.
+#[tactic(auto, unfolding(crate::specs::Slice::keeps))]
 fn stays(s: Step, live: u32) -> bool
     ensures { (w : Sweep) → w.live ≡ live → result ≡ keeps s w }
 {
-    if s.cloth {
-        return true;
-    }
-    s.writes.meets(live)
+    s.cloth || s.writes.meets(live)
 }
 
 pub fn keep(occurrences: &[u64], vars: u32) -> u64
@@ -22,9 +20,7 @@ pub fn keep(occurrences: &[u64], vars: u32) -> u64
 {
     let mut live = vars;
     let mut kept = 0u64;
-    let mut i = flat::count(occurrences);
-    while 0 < i {
-        i -= 1;
+    for i in (0..flat::count(occurrences)).rev() {
         let s = flat::step_at(occurrences, i);
         if stays(s, live) {
             live = live.without(s.writes) | s.reads;

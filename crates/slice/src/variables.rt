@@ -7,13 +7,5 @@ ghost use Rattle.slice.specs.Slice.{variables};
 pub fn variables_of(steps: &[u64]) -> u32
     ensures { result ≡ variables (steps_in steps.now) }
 {
-    let n = flat::count(steps);
-    let mut vars = 0u32;
-    let mut i = 0;
-    while i < n {
-        let s = flat::step_at(steps, i);
-        vars |= s.reads | s.writes;
-        i += 1;
-    }
-    vars
+    flat::steps(steps).fold(0, |vars, s| vars | (s.reads | s.writes))
 }

@@ -28,9 +28,10 @@ impl Version {
         cloth: true,
     };
 
+    #[tactic(auto, unfolding(crate::specs::Limits::name_fits))]
     pub fn name_fits(self, n: u64) -> bool
         ensures { result ≡ name_fits self n }
     {
-        1 <= n && n <= self.greatest
+        (1..=self.greatest).contains(&n)
     }
 }

@@ -73,7 +73,7 @@ unfolding collect
 none-cut l = refl
 
 pub loop-i-init : goal.loop-i-init
-loop-i-init c = (search rules, (refl, (filled_none _ 64, (by-none _, (by-none _, none-cut (steps_in _))))))
+loop-i-init c = (refl, (filled_none _ 64, (by-none _, (by-none _, none-cut (steps_in _)))))
 
 pub overflow_sub-rows : goal.overflow_sub-rows
 overflow_sub-rows c = search (rules, own-some)
@@ -82,11 +82,8 @@ pub loop-i-preserved : goal.loop-i-preserved
 loop-i-preserved c = (
   search rules,
   (
-    search rules,
-    (
-      search (rules, row_more),
-      (search (rules, writers-more), (search (rules, readers-more), search (rules, cut-more))),
-    ),
+    search (rules, row_more),
+    (search (rules, writers-more), (search (rules, readers-more), search (rules, cut-more))),
   ),
 )
 

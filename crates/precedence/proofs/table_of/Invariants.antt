@@ -1,7 +1,6 @@
 -- `precedence::table_of`: the rows so far are filled, and the readers and writers of each variable, and those that cut
 -- cloth, are those of the occurrences so far.
 use mathlib.Core.Path.{◌≡◌}
-use Prim.Native.Nat.{◌-◌, ◌≤◌}
 use lib.ListN.{length}
 use Rattle.mask.specs.Mask.{collect}
 use Rattle.flat.specs.Flat.{steps_in}
@@ -13,9 +12,8 @@ use Rattle.precedence.proofs.table_of.Given as goal
 
 abbrev pub invariant-loop-i : goal.invariant-loop-i
 invariant-loop-i l =
-    (l.i ≤ l.n) × ((length l.rows ≡ 64) × (Filled (row (steps_in l.occurrences)) l.i l.rows
-    × (ByVariable (written_by (steps_in l.occurrences)) l.i l.writers × (ByVariable (read_by (steps_in l.occurrences)) l.i l.readers
-    × (l.cut ≡ collect (cut_by (steps_in l.occurrences)) l.i)))))
-
-abbrev pub decreases-loop-i : goal.decreases-loop-i
-decreases-loop-i l = l.n - l.i
+    (length l.rows ≡ 64)
+    × (Filled (row (steps_in l.occurrences)) l.i l.rows
+    × (ByVariable (written_by (steps_in l.occurrences)) l.i l.writers
+    × (ByVariable (read_by (steps_in l.occurrences)) l.i l.readers
+    × (l.cut ≡ collect (cut_by (steps_in l.occurrences)) l.i))))

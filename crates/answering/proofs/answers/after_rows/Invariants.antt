@@ -2,8 +2,5 @@
 use Rattle.answering.proofs.AfterRows.{Rows}
 use Rattle.answering.proofs.answers.after_rows.Given as goal
 
-abbrev pub invariant-loop-left : goal.invariant-loop-left
-invariant-loop-left l = Rows l.rows l.kept l.after l.left
-
-abbrev pub decreases-loop-left : goal.decreases-loop-left
-decreases-loop-left l = l.left
+abbrev pub invariant-loop-i : goal.invariant-loop-i
+invariant-loop-i l = Rows l.rows l.kept l.after l.i-iterator.left

@@ -2,8 +2,5 @@
 use Rattle.answering.proofs.LastWriters.{Marking}
 use Rattle.answering.proofs.answers.mark_writers.Given as goal
 
-abbrev pub invariant-loop-left : goal.invariant-loop-left
-invariant-loop-left l = Marking l.hit l.number l.initial.writers l.writers l.left
-
-abbrev pub decreases-loop-left : goal.decreases-loop-left
-decreases-loop-left l = l.left
+abbrev pub invariant-loop-v : goal.invariant-loop-v
+invariant-loop-v l = Marking l.hit l.number l.initial.writers l.writers l.v-iterator.left

@@ -27,7 +27,7 @@ pub slice_bounds-check_step-end : goal.slice_bounds-check_step-end
 slice_bounds-check_step-end c =
     let at = c in
     let start = c in
-    flat-prefix start.args.steps.now at.loop-i.i (omega (arith, at.count-n.ensures))
+    flat-prefix start.args.steps.now at.loop-i.i (omega (arith, at.count-i-end.ensures))
 
 pub check_step-o-requires : goal.check_step-o-requires
 check_step-o-requires c =
@@ -43,7 +43,7 @@ loop-i-preserved c =
     let step = c in
     let at = c in
     let start = c in
-    let counted = at.count-n.ensures in (
+    let counted = at.count-i-end.ensures in (
       search rules,
       (
         hinted-on (steps_in start.args.steps.now) at.loop-i.hint at.loop-i.i _ counted at.loop-i.invariant.1.0 _ _

@@ -13,7 +13,7 @@ pub loop-i-init : goal.loop-i-init
 loop-i-init c =
     let a = c.args in
     let start : a.line + 0 ≡ a.line = omega arith in
-    (omega arith, (omega arith, ap (λ (n : ℕ). first (done_rows present n 0 a.done.now)) start))
+    (omega arith, ap (λ (n : ℕ). first (done_rows present n 0 a.done.now)) start)
 
 pub returns-then-i-ge-STEPS : goal.returns-then-i-ge-STEPS
 returns-then-i-ge-STEPS c = search (rules, done-over)
@@ -22,7 +22,7 @@ pub returns-then-not-name_fits : goal.returns-then-not-name_fits
 returns-then-not-name_fits c = search (rules, done_refused)
 
 pub loop-i-preserved : goal.loop-i-preserved
-loop-i-preserved c = (search rules, (search rules, search (rules, done-passed)))
+loop-i-preserved c = (search rules, search (rules, done-passed))
 
 pub returns : goal.returns
 returns c = search (rules, done_end)

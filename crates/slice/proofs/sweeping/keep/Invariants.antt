@@ -9,6 +9,3 @@ use Rattle.slice.proofs.sweeping.keep.Given as goal
 abbrev pub invariant-loop-i : goal.invariant-loop-i
 invariant-loop-i l =
     (l.i ≤ length (steps_in l.occurrences)) × (sweep_from (steps_in l.occurrences) l.vars l.i ≡ record { live = l.live; kept = l.kept })
-
-abbrev pub decreases-loop-i : goal.decreases-loop-i
-decreases-loop-i l = l.i
