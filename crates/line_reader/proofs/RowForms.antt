@@ -48,7 +48,7 @@ module _ (v : Version) (limits : Limits v) (line places above : ℕ) (earlier : 
       row-three q t f is = q ∙ sym (row-refuses (form_lists f) 3 line _
           (sym (lists-form l f is) ∙ sym lists ∙ not-true y t) refl) ∙ sym (two-on f is _)
 
-      module _ (fine : not y ≡ false) (known : Bool) (Known-is : known ≡ among (l.name % 4294967296) earlier) where
+      module _ (fine : not y ≡ false) (known : Bool) (known-is : known ≡ among (l.name % 4294967296) earlier) where
         three-on : (f : Form) → IsForm l f → (r : List Outcome)
             → first (unless (ltb above 64) 4 line ∷ unless (form_fits v places f) 2 line ∷ unless (form_lists f) 3 line
             ∷ r) ≡ first r
@@ -61,7 +61,7 @@ module _ (v : Version) (limits : Limits v) (line places above : ℕ) (earlier : 
 
         known-form : (f : Form) → IsForm l f → known ≡ among f.name earlier
         known-form f is = let same : l.name % 4294967296 ≡ f.name =
-            omega (arith, stored, is.name) in Known-is ∙ ap (λ (n : ℕ). among n earlier) same
+            omega (arith, stored, is.name) in known-is ∙ ap (λ (n : ℕ). among n earlier) same
 
         pub row-five : o ≡ refuse 5 line → known ≡ true → (f : Form) → IsForm l f
             → o ≡ form_row v line places above earlier f

@@ -6,20 +6,17 @@ use tokens::Entries;
 pub mod reading;
 pub mod rows;
 
-// The end of a step's line: how far reading came, whether the layout holds to there, and whether the mark stood.
+// The end of a step's line: the place past it, and whether the mark stood.
 #[derive(Clone, Copy)]
 pub struct Ending {
     pub at: usize,
-    pub ok: bool,
     pub cloth: bool,
 }
 
-// A step's line: how far reading came and whether the layout holds to there, the name, what is kept of its lists, and
-// whether it is marked.
+// A step's line: the place past it, the name, what is kept of its lists, and whether it is marked.
 #[derive(Clone, Copy)]
 pub struct StepLine {
     pub at: usize,
-    pub ok: bool,
     pub name: u64,
     pub ins: Entries,
     pub outs: Entries,

@@ -1,30 +1,26 @@
 // The lines, each made of its tokens.
 ghost use Rattle.std.specs.Prelude.{◌≡◌, ◌&&◌, ◌+◌, ◌≤◌, eqb, length, get_or};
 ghost use Rattle.version.specs.Limits.{Limits};
-ghost use Rattle.line_reader.specs.inner.Lines.{NumberedOn, EndingOn, StepOn};
+ghost use Rattle.line_reader.specs.inner.Lines.{NumberedOn, ListedOn, EndingOn, StepOn};
 
 use crate::{Ending, StepLine};
 use tokens::lists::list;
 use tokens::numbers::number;
 use tokens::texts::text;
-use tokens::{Numeral, texts};
+use tokens::{Broken, Listed, Numeral, texts};
 use version::Version;
 
 // A line of one word and one number: its first text, the number, and the end.
-pub fn numbered(v: Version, s: &[u8], from: usize, w: &[u8]) -> Numeral
+pub fn numbered(v: Version, s: &[u8], from: usize, w: &[u8]) -> Result<Numeral, Broken>
     requires limits { Limits v }
     requires from_in_bounds { from ≤ length s.now }
     ensures { NumberedOn v s.now from w.now result }
 {
     let end = texts::END;
-    let a = text(s, from, true, w);
-    let n = number(v, s, a.at, a.ok);
-    let e = text(s, n.at, n.ok, &end);
-    Numeral {
-        at: e.at,
-        ok: e.ok,
-        value: n.value,
-    }
+    let a = text(s, from, w)?;
+    let n = number(v, s, a)?;
+    let at = text(s, n.at, &end)?;
+    Ok(Numeral { at, value: n.value })
 }
 
 // The letter past a line's bracket is that of a step.
@@ -50,30 +46,34 @@ fn marked(v: Version, s: &[u8], at: usize) -> bool
 }
 
 // Past the last list: the mark, where it stands, and the end.
-fn line_end(v: Version, s: &[u8], from: usize, ok: bool) -> Ending
+#[inline]
+fn line_end(v: Version, s: &[u8], from: usize) -> Result<Ending, Broken>
     requires { from ≤ length s.now }
-    ensures { EndingOn v s.now from ok result }
+    ensures { EndingOn v s.now from result }
 {
     let end = texts::END;
     if marked(v, s, from) {
         let cloth = texts::CLOTH;
-        let m = text(s, from, ok, &cloth);
-        let t = text(s, m.at, m.ok, &end);
-        return Ending {
-            at: t.at,
-            ok: t.ok,
-            cloth: true,
-        };
+        let m = text(s, from, &cloth)?;
+        let at = text(s, m, &end)?;
+        return Ok(Ending { at, cloth: true });
     }
-    let t = text(s, from, ok, &end);
-    Ending {
-        at: t.at,
-        ok: t.ok,
-        cloth: false,
-    }
+    let at = text(s, from, &end)?;
+    Ok(Ending { at, cloth: false })
 }
 
-pub fn step(v: Version, s: &[u8], from: usize) -> StepLine
+// A list: its text, and its entries.
+#[inline(always)]
+fn listed(v: Version, s: &[u8], from: usize, w: &[u8]) -> Result<Listed, Broken>
+    requires limits { Limits v }
+    requires from_in_bounds { from ≤ length s.now }
+    ensures { ListedOn v s.now from w.now result }
+{
+    let at = text(s, from, w)?;
+    list(v, s, at)
+}
+
+pub fn step(v: Version, s: &[u8], from: usize) -> Result<StepLine, Broken>
     requires limits { Limits v }
     requires from_in_bounds { from ≤ length s.now }
     ensures { StepOn v s.now from result }
@@ -83,29 +83,20 @@ pub fn step(v: Version, s: &[u8], from: usize) -> StepLine
     let out = texts::OUT;
     let read = texts::READ;
     let write = texts::WRITE;
-    let a = text(s, from, true, &step);
-    let n = number(v, s, a.at, a.ok);
-    let b = text(s, n.at, n.ok, &inn);
-    let i = list(v, s, b.at, b.ok);
-    let c = text(s, i.at, i.ok, &out);
-    let o = list(v, s, c.at, c.ok);
-    let d = text(s, o.at, o.ok, &read);
-    let r = list(v, s, d.at, d.ok);
-    let e = text(s, r.at, r.ok, &write);
-    let w = list(v, s, e.at, e.ok);
-    let f = line_end(v, s, w.at, w.ok);
-    let ins = i.entries;
-    let outs = o.entries;
-    let reads = r.entries;
-    let writes = w.entries;
-    StepLine {
-        at: f.at,
-        ok: f.ok,
+    let a = text(s, from, &step)?;
+    let n = number(v, s, a)?;
+    let i = listed(v, s, n.at, &inn)?;
+    let o = listed(v, s, i.at, &out)?;
+    let r = listed(v, s, o.at, &read)?;
+    let w = listed(v, s, r.at, &write)?;
+    let e = line_end(v, s, w.at)?;
+    Ok(StepLine {
+        at: e.at,
         name: n.value,
-        ins,
-        outs,
-        reads,
-        writes,
-        cloth: f.cloth,
-    }
+        ins: i.entries,
+        outs: o.entries,
+        reads: r.entries,
+        writes: w.entries,
+        cloth: e.cloth,
+    })
 }

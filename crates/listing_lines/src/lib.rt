@@ -1,7 +1,7 @@
 // The lines that a listing has once, and what the lines of its tables begin with.
 #![tactic(auto)]
 
-ghost use Rattle.std.specs.Prelude.{◌≡◌, ◌++◌, ◌<◌, min};
+ghost use Rattle.std.specs.Prelude.{◌++◌};
 ghost use Rattle.emit.specs.Emit.{Room, Emits};
 ghost use Rattle.emit.specs.Numbers.{over, entry as entry_text};
 ghost use Rattle.listing_lines.specs.Lines.{refused_line, moved_line, order_line, marking_line};
@@ -43,29 +43,17 @@ fn list_entries(out: &mut [u8], at: usize, l: &[u8]) -> usize
     ensures { Emits (over entry_text l.now) out.old at out.new result }
 {
     let mut end = at;
-    let mut i = 0;
-    while i < l.len() {
-        end = entry(out, end, l[i] as u64);
-        i += 1;
+    for n in l {
+        end = entry(out, end, *n as u64);
     }
     end
-}
-
-// How many entries an order of `len` has.
-fn order_len(len: u32) -> usize
-    ensures { result ≡ min len 64 }
-{
-    if len < 64 {
-        return len as usize;
-    }
-    64
 }
 
 pub fn order_line(out: &mut [u8], at: usize, len: u32, order: [u8; 64]) -> usize
     requires { Room (order_line len order) out.old at }
     ensures { Emits (order_line len order) out.old at out.new result }
 {
-    let n = order_len(len);
+    let n = (len as usize).min(64);
     let first = text(out, at, b"(order");
     let last = list_entries(out, first, &order[..n]);
     text(out, last, b")\n")

@@ -54,10 +54,8 @@ pub fn value_lines(out: &mut [u8], at: usize, writers: &[u8; 32]) -> usize
     ensures { Emits (value_lines writers.now) out.old at out.new result }
 {
     let mut end = at;
-    let mut v = 0;
-    while v < 32 {
-        end = value_line(out, end, v as u64, writers[v]);
-        v += 1;
+    for (v, writer) in writers.iter().enumerate() {
+        end = value_line(out, end, v as u64, *writer);
     }
     end
 }

@@ -43,6 +43,6 @@ pub fn copy(text: &[u8], out: &mut [u8]) -> Wrote
     if out.len() < n {
         return Wrote::refuse(15, n as u64);
     }
-    let end = emit::text(out, 0, text);
-    Wrote::all(end)
+    out[..n].copy_from_slice(text);
+    Wrote::all(n)
 }

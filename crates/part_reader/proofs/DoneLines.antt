@@ -1,7 +1,7 @@
 -- The done lines, to the end of the bytes.
 -- Assumes nothing.
-use mathlib.Core.Path.{◌≡◌, refl, sym, ap, ◌∙◌, subst}
-use mathlib.Core.Bool.{true, false, not, false≢true}
+use mathlib.Core.Path.{◌≡◌, refl, sym, ap, ◌∙◌}
+use mathlib.Core.Bool.{true}
 use mathlib.Core.List.{List, [], ◌∷◌}
 use Prim.Native.Nat.{ℕ, ◌+◌, ◌-◌, ◌%◌, ◌^◌, ◌≤◌, ◌<◌}
 use native.Mathlib.Omega.{arith}
@@ -9,7 +9,7 @@ use mir.Syntax.{w64}
 use mir.Val.{Fits}
 use lib.Dec.{eqb, ltb}
 use lib.ListN.{length, set}
-use borrow.Author.Tests.{eq-eqb, ltb-true, not-false}
+use borrow.Author.Tests.{eq-eqb, ltb-true}
 use Rattle.refusal.specs.Rows.{unless}
 use Rattle.refusal.specs.declared.Outcome.{Outcome}
 use Rattle.job.specs.Lines.{done_row}
@@ -25,12 +25,12 @@ use Rattle.facts.specs.Facts.{State, settled, done_in, more}
 use Rattle.facts.specs.declared.Sheet.{Sheet}
 use Rattle.refusal.proofs.Rows.{head_passed, unless-elim}
 use Rattle.tokens.specs.declared.Numeral.{Numeral}
-use Rattle.line_reader.specs.inner.Lines.{head_word, NumberedOn}
-use Rattle.part_reader.specs.inner.Prefix.{back_dones, old_state, new_state, job_state, state_of, Prefix, Upto, passed}
-use Rattle.part_reader.specs.inner.Prefix.{broken_at, Placed, with_dones, DonesOn}
+use Rattle.line_reader.specs.inner.Lines.{head_word, NumberedTo, NumberedBreaks}
+use Rattle.part_reader.specs.inner.Prefix.{back_dones, old_state, new_state, job_state, state_of, Prefix, passed}
+use Rattle.part_reader.specs.inner.Prefix.{Placed, with_dones, DonesTo, DonesBreak}
 use Rattle.part_reader.specs.declared.Pass.{Pass}
 use Rattle.line_reader.proofs.LineTexts.{done-spells}
-use Rattle.part_reader.proofs.PrefixStep.{settled-no, more-on, more-refused, prefix-of, upto-held, upto-broken}
+use Rattle.part_reader.proofs.PrefixStep.{settled-no, more-on, more-refused, prefix-of}
 
 done-state : (v : Version) (t : Lines) (value : ℕ)
     → state_of v JobPart (put_line Done JobPart (stored Done (with_num value no_line)) t)
@@ -62,142 +62,114 @@ pub record Named (v : Version) (s : List ℕ) (list₀ list : List ℕ) (from li
   pub goes : (z : Sheet) → z.number ≡ 0 → Prefix v s from JobPart (passed lines₀ outcome₀ (with_dones 0 list₀ z))
       → Prefix v s at JobPart (passed lines outcome (with_dones len list z))
 
-pub named-init : (v : Version) (limits : Limits v) (s list : List ℕ) (p : Pass) → Placed s p → not p.ok ≡ false
+pub named-init : (v : Version) (limits : Limits v) (s list : List ℕ) (p : Pass) → Placed s p
     → Named v s list list p.at p.lines p.outcome p.outcome p.lines p.at 0
-named-init v limits s list p hp held = record {
+named-init v limits s list p hp = record {
   limits = limits;
   within = hp.within;
-  counted = hp.few (not-false p.ok held);
+  counted = hp.few;
   few = omega arith;
   goes = λ z zero pre. pre;
 }
 
 module _ (v : Version) (s list₀ list : List ℕ) (from lines₀ : ℕ) (outcome₀ outcome : Outcome) (lines at len : ℕ)
     (h : Named v s list₀ list from lines₀ outcome₀ outcome lines at len) (inside : at < length s) (n : Numeral)
-    (hn : NumberedOn v s at (40 ∷ 100 ∷ 111 ∷ 110 ∷ 101 ∷ 32 ∷ []) n) where
+    (hn : NumberedTo v s at (40 ∷ 100 ∷ 111 ∷ 110 ∷ 101 ∷ 32 ∷ []) n) where
   reads-done : (z : Sheet) → z.number ≡ 0 → Prefix v s from JobPart (passed lines₀ outcome₀ (with_dones 0 list₀ z))
       → (k : State) → more (λ i x. done_in v i n.value x) (passed lines outcome (with_dones len list z)) ≡ k
-      → Upto v s n.at n.ok JobPart k
+      → Prefix v s n.at JobPart k
   unfolding head_word
   reads-done z zero pre k e =
       let now = h.goes z zero pre in
-      prefix-of v s n.at n.ok JobPart _ k (hn.goes (Open JobPart) no_line now.lines Done JobPart refl
+      prefix-of v s n.at JobPart _ k (hn.goes (Open JobPart) no_line now.lines Done JobPart refl
       (done-spells v s at no_line now.lines inside) now.reading)
       (done-state v now.lines n.value ∙ ap (more (λ i x. done_in v i n.value x)) now.state ∙ e)
 
-  pub done-breaks : not n.ok ≡ true → (z : Sheet) (k : State) → z.number ≡ 0
-      → Prefix v s from JobPart (passed lines₀ outcome₀ (with_dones 0 list₀ z)) → Upto v s n.at false JobPart k
-  done-breaks bad z k zero pre = upto-broken v s n.at n.ok JobPart JobPart _ _ bad (reads-done z zero pre _ refl)
+  later : lines + 1 ≤ n.at
+  later = omega (arith, hn.past, h.counted)
 
-  module _ (good : not n.ok ≡ false) where
-    later : lines + 1 ≤ n.at
-    later = omega (arith, hn.past (not-false n.ok good), h.counted)
+  pub named_past : (outcome.number ≡ 0 → ⊥) → Named v s list₀ list from lines₀ outcome₀ outcome (lines + 1) n.at
+      len
+  named_past z₀ =
+      record {
+        limits = h.limits;
+        within = hn.within;
+        counted = later;
+        few = h.few;
+        goes = λ z zero pre. reads-done z zero pre _
+            (more-refused _ lines outcome (with_dones len list z) (with_dones len list z) z₀);
+      }
 
-    onto : (k : State) → Upto v s n.at n.ok JobPart k → Prefix v s n.at JobPart k
-    onto k u = upto-held v s n.at n.ok JobPart k good u
+  module _ (z₀ : outcome.number ≡ 0) (o : Outcome) (row : o ≡ done_row v (lines + 1) len n.value) where
+    done_more : (z : Sheet) → z.number ≡ 0 → more (λ i x. done_in v i n.value x)
+        (passed lines outcome (with_dones len list z))
+        ≡ passed (lines + 1) o (with_dones (len + 1) (set list len n.value) z)
+    done_more z zero =
+        more-on _ lines outcome (with_dones len list z) _ o z₀ zero
+        (done-settled v (lines + 1) n.value len list z
+        ∙ ap (λ (x : Outcome). settled x (with_dones (len + 1) (set list len n.value) z)) (sym row))
 
-    pub named_past : (outcome.number ≡ 0 → ⊥) → Named v s list₀ list from lines₀ outcome₀ outcome (lines + 1) n.at
-        len
-    named_past z₀ =
+    pub named-row : (o.number ≡ 0 → ⊥) → Named v s list₀ list from lines₀ outcome₀ o (lines + 1) n.at len
+    named-row bad =
         record {
           limits = h.limits;
           within = hn.within;
           counted = later;
           few = h.few;
-          goes = λ z zero pre. onto _ (reads-done z zero pre _
-              (more-refused _ lines outcome (with_dones len list z) (with_dones len list z) z₀));
+          goes = λ z zero pre. reads-done z zero pre _
+              (done_more z zero ∙ ap (λ (x : Sheet). record { lines = lines + 1; sheet = x })
+              (settled-no o _ bad ∙ sym (settled-no o (with_dones len list z) bad)));
         }
 
-    module _ (z₀ : outcome.number ≡ 0) (o : Outcome) (row : o ≡ done_row v (lines + 1) len n.value) where
-      done_more : (z : Sheet) → z.number ≡ 0 → more (λ i x. done_in v i n.value x)
-          (passed lines outcome (with_dones len list z))
-          ≡ passed (lines + 1) o (with_dones (len + 1) (set list len n.value) z)
-      done_more z zero =
-          more-on _ lines outcome (with_dones len list z) _ o z₀ zero
-          (done-settled v (lines + 1) n.value len list z
-          ∙ ap (λ (x : Outcome). settled x (with_dones (len + 1) (set list len n.value) z)) (sym row))
+    done-fits : o.number ≡ 0 → name_fits v n.value ≡ true
+    unfolding done_row
+    done-fits z₁ =
+        unless-elim (name_fits v n.value) 2 (lines + 1) refl
+        (head_passed _ [] (head_passed (unless (ltb len 64) 4 (lines + 1)) _
+        (ap (λ (x : Outcome). eqb x.number 0) (sym row) ∙ eq-eqb o.number 0 z₁)).1).0
 
-      pub named-row : (o.number ≡ 0 → ⊥) → Named v s list₀ list from lines₀ outcome₀ o (lines + 1) n.at len
-      named-row bad =
-          record {
-            limits = h.limits;
-            within = hn.within;
-            counted = later;
-            few = h.few;
-            goes = λ z zero pre. onto _ (reads-done z zero pre _
-                (done_more z zero ∙ ap (λ (x : Sheet). record { lines = lines + 1; sheet = x })
-                (settled-no o _ bad ∙ sym (settled-no o (with_dones len list z) bad))));
-          }
-
-      done-fits : o.number ≡ 0 → name_fits v n.value ≡ true
-      unfolding done_row
-      done-fits z₁ =
-          unless-elim (name_fits v n.value) 2 (lines + 1) refl
-          (head_passed _ [] (head_passed (unless (ltb len 64) 4 (lines + 1)) _
-          (ap (λ (x : Outcome). eqb x.number 0) (sym row) ∙ eq-eqb o.number 0 z₁)).1).0
-
-      pub named-name : o.number ≡ 0 → Named v s list₀ (set list len (n.value % 4294967296)) from lines₀ outcome₀ o
-          (lines + 1) n.at (len + 1)
-      named-name z₁ =
-          let same : n.value ≡ n.value % 4294967296 =
-          omega (arith, name-stored v h.limits n.value (done-fits z₁)) in
-          record {
-            limits = h.limits;
-            within = hn.within;
-            counted = later;
-            few = omega (arith, done-room v (lines + 1) len n.value o row z₁);
-            goes = λ z zero pre. onto _ (reads-done z zero pre _
-                (done_more z zero ∙ ap (λ (x : ℕ). passed (lines + 1) o (with_dones (len + 1) (set list len x) z))
-                same));
-          }
+    pub named-name : o.number ≡ 0 → Named v s list₀ (set list len (n.value % 4294967296)) from lines₀ outcome₀ o
+        (lines + 1) n.at (len + 1)
+    named-name z₁ =
+        let same : n.value ≡ n.value % 4294967296 =
+        omega (arith, name-stored v h.limits n.value (done-fits z₁)) in
+        record {
+          limits = h.limits;
+          within = hn.within;
+          counted = later;
+          few = omega (arith, done-room v (lines + 1) len n.value o row z₁);
+          goes = λ z zero pre. reads-done z zero pre _
+              (done_more z zero ∙ ap (λ (x : ℕ). passed (lines + 1) o (with_dones (len + 1) (set list len x) z))
+              same);
+        }
 
 -- ---- what the loop needs on its way
 
-module _ (v : Version) (s w : List ℕ) (at : ℕ) (n : Numeral) (hn : NumberedOn v s at w n)
-    (good : not n.ok ≡ false) where
+module _ (v : Version) (s w : List ℕ) (at : ℕ) (n : Numeral) (hn : NumberedTo v s at w n) where
   pub done-line-fits : (list₀ list : List ℕ) (from lines₀ : ℕ) (outcome₀ outcome : Outcome) (lines len : ℕ)
       → Named v s list₀ list from lines₀ outcome₀ outcome lines at len → length s < 2 ^ 64 → Fits w64 (lines + 1)
   done-line-fits list₀ list from lines₀ outcome₀ outcome lines len h wide =
-      omega (arith, hn.past (not-false n.ok good), hn.within, h.counted)
+      omega (arith, hn.past, hn.within, h.counted)
 
   pub done-later : length s - n.at < length s - at
-  done-later = omega (arith, hn.past (not-false n.ok good), hn.within)
+  done-later = omega (arith, hn.past, hn.within)
 
 -- ---- its ends
 
-pub dones-passes : (v : Version) (s : List ℕ) (p : Pass) (list : List ℕ) (b : Pass) → Placed s p → not p.ok ≡ true
-    → b ≡ broken_at p.at → DonesOn v s p (record { pass = b; len = 0 }) list list
-dones-passes v s p list b h e is =
-    subst (λ (x : Pass). DonesOn v s p (record { pass = x; len = 0 }) list list) (sym is)
-    (record {
-      within = h.within;
-      few = omega arith;
-      all = λ z. absurd (false≢true z);
-      goes = λ z zero u. upto-broken v s p.at p.ok JobPart JobPart _ _ e u;
-    })
-
 module _ (v : Version) (s : List ℕ) (p : Pass) (list₀ list : List ℕ) (outcome : Outcome) (lines at len : ℕ)
-    (h : Named v s list₀ list p.at p.lines p.outcome outcome lines at len) (held : not p.ok ≡ false) where
-  pub dones-break : (n : Numeral) (b : Pass) → at < length s
-      → NumberedOn v s at (40 ∷ 100 ∷ 111 ∷ 110 ∷ 101 ∷ 32 ∷ []) n → not n.ok ≡ true → b ≡ broken_at n.at
-      → DonesOn v s p (record { pass = b; len = 0 }) list₀ list
-  dones-break n b inside hn bad is =
-      subst (λ (x : Pass). DonesOn v s p (record { pass = x; len = 0 }) list₀ list) (sym is)
-      (record {
-        within = hn.within;
-        few = omega arith;
-        all = λ z. absurd (false≢true z);
-        goes = λ z zero u. done-breaks v s list₀ list p.at p.lines p.outcome outcome lines at len h inside n hn
-            bad z _ zero (upto-held v s p.at p.ok JobPart _ held u);
-      })
-
-  pub dones-done : length s ≤ at → DonesOn v s p (record
-      { pass = record { at = at; ok = true; lines = lines; outcome = outcome }; len = len }) list₀ list
-  unfolding Upto
-  dones-done over =
+    (h : Named v s list₀ list p.at p.lines p.outcome outcome lines at len) where
+  pub dones-break : (i : ℕ) → at < length s → NumberedBreaks v s at (40 ∷ 100 ∷ 111 ∷ 110 ∷ 101 ∷ 32 ∷ []) i
+      → DonesBreak v s p list₀ i
+  unfolding head_word
+  dones-break i inside no-done =
       record {
-        within = h.within;
-        few = h.few;
-        all = λ _. over;
-        goes = λ z zero u. h.goes z zero (upto-held v s p.at p.ok JobPart _ held u);
+        within = no-done.within;
+        goes = λ z zero pre.
+            let now = h.goes z zero pre in
+            no-done.goes (Open JobPart) no_line now.lines Done JobPart refl
+            (done-spells v s at no_line now.lines inside) now.reading;
       }
+
+  pub dones-done : length s ≤ at → DonesTo v s p (record
+      { pass = record { at = at; lines = lines; outcome = outcome }; len = len }) list₀ list
+  dones-done over = record { within = h.within; few = h.few; all = over; goes = h.goes }

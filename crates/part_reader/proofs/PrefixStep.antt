@@ -1,12 +1,11 @@
 -- One more line over the lines so far, and the lines so far at the end of the bytes.
 -- Assumes nothing.
 use mathlib.Core.Path.{◌≡◌, refl, sym, ap, ◌∙◌}
-use mathlib.Core.Bool.{Bool, true, false, not, cond, true≢false, false≢true}
+use mathlib.Core.Bool.{Bool, cond}
 use mathlib.Core.List.{List, [], ◌∷◌, reverse_aux}
 use Prim.Native.Nat.{ℕ, ◌+◌}
 use lib.Dec.{eqb}
 use borrow.Author.Tests.{eq-eqb, ne_eqb}
-use Rattle.refusal.specs.Rows.{pass}
 use Rattle.refusal.specs.declared.Outcome.{Outcome}
 use Rattle.version.specs.declared.Version.{Version}
 use Rattle.layout.specs.Text.{Form, Lines}
@@ -16,9 +15,9 @@ use Rattle.layout.specs.declared.Part.TheVariants.{OldRoute, NewRoute}
 use Rattle.layout.specs.declared.Point.TheVariants.{Open}
 use Rattle.facts.specs.Facts.{State, failed, settled, new_head, job_head, more, more_steps, more_dones, facts_of}
 use Rattle.facts.specs.declared.Sheet.{Sheet}
-use Rattle.tokens.specs.inner.Tokens.{Reached}
+use Rattle.tokens.specs.inner.Tokens.{Reading}
 use Rattle.part_reader.specs.inner.Prefix.{back_steps, back_dones, old_state, new_state, job_state, state_of, Prefix}
-use Rattle.part_reader.specs.inner.Prefix.{Upto, passed, broken_at}
+use Rattle.part_reader.specs.inner.Prefix.{passed}
 
 -- ---- an outcome over the facts
 
@@ -56,31 +55,9 @@ module _ (line : ℕ → Sheet → Sheet) (n : ℕ) (o : Outcome) (z z' : Sheet)
 
 -- ---- where reading stands
 
-pub broken-is : (i : ℕ) (o : Outcome) → o ≡ pass → record { at = i; ok = false; lines = 0; outcome = o } ≡ broken_at i
-broken-is i o e = ap (λ (x : Outcome). record { at = i; ok = false; lines = 0; outcome = x }) e
-
-pub prefix-of : (v : Version) (s : List ℕ) (i : ℕ) (ok : Bool) (q : Part) (t : Lines) (k : State)
-    → Reached v s i ok (Open q) no_line t → state_of v q t ≡ k → Upto v s i ok q k
-unfolding Reached Upto
-prefix-of v s i true q t k h e = record { lines = t; reading = h; state = e }
-prefix-of v s i false q t k h e = h
-
-pub upto-held : (v : Version) (s : List ℕ) (i : ℕ) (ok : Bool) (q : Part) (k : State) → not ok ≡ false
-    → Upto v s i ok q k → Prefix v s i q k
-unfolding Upto
-upto-held v s i true q k e h = h
-upto-held v s i false q k e h = absurd (true≢false e)
-
-pub upto-on : (v : Version) (s : List ℕ) (i : ℕ) (ok : Bool) (q : Part) (k : State) → not ok ≡ false → Upto v s i ok q k
-    → Upto v s i true q k
-upto-on v s i true q k e h = h
-upto-on v s i false q k e h = absurd (true≢false e)
-
-pub upto-broken : (v : Version) (s : List ℕ) (i : ℕ) (ok : Bool) (q q' : Part) (k k' : State) → not ok ≡ true
-    → Upto v s i ok q k → Upto v s i false q' k'
-unfolding Upto
-upto-broken v s i true q q' k k' e h = absurd (false≢true e)
-upto-broken v s i false q q' k k' e h = h
+pub prefix-of : (v : Version) (s : List ℕ) (i : ℕ) (q : Part) (t : Lines) (k : State)
+    → Reading v s i (Open q) no_line t → state_of v q t ≡ k → Prefix v s i q k
+prefix-of v s i q t k h e = record { lines = t; reading = h; state = e }
 
 -- ---- all lines
 

@@ -1,7 +1,7 @@
 -- The steps of a route, line by line.
 -- Assumes nothing.
 use mathlib.Core.Path.{◌≡◌, refl, sym, ap, ap₂, ◌∙◌, subst}
-use mathlib.Core.Bool.{Bool, true, false, not, cond, false≢true}
+use mathlib.Core.Bool.{Bool, true, false, cond, false≢true}
 use mathlib.Core.List.{List, [], ◌∷◌, ◌++◌, append-nil}
 use Prim.Native.Nat.{ℕ, zero, suc, ◌+◌, ◌-◌, ◌*◌, ◌^◌, ◌≤◌, ◌<◌}
 use native.Mathlib.Omega.{arith}
@@ -11,7 +11,7 @@ use mir.Val.{Fits}
 use lib.Dec.{eqb, ltb}
 use lib.ListN.{length, get_or, take, set, replicate, length-replicate}
 use lib.Seq.{length-take-le}
-use borrow.Author.Tests.{eq-eqb, eqb-true, eqb-false, ltb-true, lt-ltb, not-false}
+use borrow.Author.Tests.{eq-eqb, eqb-true, eqb-false, ltb-true, lt-ltb}
 use Rattle.refusal.specs.Rows.{unless}
 use Rattle.refusal.specs.declared.Outcome.{Outcome}
 use Rattle.route.specs.Steps.{blank, steps_of, names}
@@ -32,13 +32,12 @@ use Rattle.facts.specs.Forms.{form_fits, form_row, record_of}
 use Rattle.facts.specs.Facts.{State, settled, stepped, step_in, more}
 use Rattle.facts.specs.declared.Sheet.{Sheet}
 use Rattle.refusal.proofs.Rows.{head_passed, unless-elim}
-use Rattle.line_reader.specs.inner.Lines.{has_steps, IsForm, StepOn}
-use Rattle.part_reader.specs.inner.Prefix.{back_steps, old_state, new_state, state_of, Prefix, Upto, passed, broken_at}
-use Rattle.part_reader.specs.inner.Prefix.{Placed, bare, with_route, StepsOn}
+use Rattle.line_reader.specs.inner.Lines.{has_steps, IsForm, StepTo, StepBreaks}
+use Rattle.part_reader.specs.inner.Prefix.{back_steps, old_state, new_state, state_of, Prefix, passed}
+use Rattle.part_reader.specs.inner.Prefix.{Placed, bare, with_route, StepsTo, StepsBreak}
 use Rattle.line_reader.specs.declared.StepLine.{StepLine}
 use Rattle.part_reader.specs.declared.Pass.{Pass}
-use Rattle.part_reader.proofs.PrefixStep.{settled-no, more-on, more-refused, prefix-of, upto-held, upto-broken}
-use Rattle.part_reader.proofs.HeadLines.{broken-placed}
+use Rattle.part_reader.proofs.PrefixStep.{settled-no, more-on, more-refused, prefix-of}
 
 -- ---- a step's line in the facts
 
@@ -112,15 +111,15 @@ pub record Stepped (v : Version) (s : List ℕ) (places : ℕ) (list hint : List
       z))
 
 pub stepped-init : (v : Version) (limits : Limits v) (s : List ℕ) (places : ℕ) (list hint : List ℕ) (p : Pass)
-    → Placed s p → not p.ok ≡ false → (p.outcome.number ≡ 0 → places ≤ 64) → list ≡ replicate 256 0
+    → Placed s p → (p.outcome.number ≡ 0 → places ≤ 64) → list ≡ replicate 256 0
     → hint ≡ replicate 256 0 → Stepped v s places list hint p.at p.lines p.outcome p.outcome p.lines
     p.at 0
 unfolding names
-stepped-init v limits s places list hint p hp held fits is hs =
+stepped-init v limits s places list hint p hp fits is hs =
     record {
       limits = limits;
       within = hp.within;
-      counted = hp.few (not-false p.ok held);
+      counted = hp.few;
       few = omega arith;
       long = ap length is ∙ length-replicate {A = ℕ} 256 0;
       fits = fits;
@@ -132,19 +131,18 @@ stepped-init v limits s places list hint p hp held fits is hs =
 
 module _ (v : Version) (s : List ℕ) (places : ℕ) (list hint : List ℕ) (from lines₀ : ℕ) (outcome₀ outcome : Outcome)
     (lines at len : ℕ) (h : Stepped v s places list hint from lines₀ outcome₀ outcome lines at len) (l : StepLine)
-    (hl : StepOn v s at l) where
+    (hl : StepTo v s at l) where
   abbrev route : Route
   route = record { places = places; len = len; steps = steps_in list }
 
-  module _ (good : not l.ok ≡ false) where
-    later : lines + 1 ≤ l.at
-    later = omega (arith, hl.past (not-false l.ok good), h.counted)
+  later : lines + 1 ≤ l.at
+  later = omega (arith, hl.past, h.counted)
 
-    pub line-fits : length s < 2 ^ 64 → Fits w64 (lines + 1)
-    line-fits wide = omega (arith, hl.past (not-false l.ok good), hl.within, h.counted)
+  pub line-fits : length s < 2 ^ 64 → Fits w64 (lines + 1)
+  line-fits wide = omega (arith, hl.past, hl.within, h.counted)
 
-    pub line-later : length s - l.at < length s - at
-    line-later = omega (arith, hl.past (not-false l.ok good), hl.within)
+  pub line-later : length s - l.at < length s - at
+  line-later = omega (arith, hl.past, hl.within)
 
   abbrev RowIs : Outcome → Type 0
   RowIs o = (f : Form) → IsForm l f → o ≡ form_row v (lines + 1) places (length (steps_in (take (4 * len) list)))
@@ -181,109 +179,101 @@ module _ (v : Version) (s : List ℕ) (places : ℕ) (list hint : List ℕ) (fro
     reads-step : (q : Part) (z : Sheet) → has_steps q ≡ true → z.number ≡ 0
         → Prefix v s from q (passed lines₀ outcome₀ (with_route q (bare places) z)) → (k : State)
         → more (λ n y. step_in v q n hl.form y) (passed lines outcome (with_route q route z)) ≡ k
-        → Upto v s l.at l.ok q k
+        → Prefix v s l.at q k
     reads-step q z r nil pre k e =
         let now = h.goes q z r nil pre in
-        prefix-of v s l.at l.ok q _ k
+        prefix-of v s l.at q _ k
         (hl.goes q now.lines r (eqb-true (get_or s (at + 1) 0) 115 (sym test ∙ so)) now.reading)
         (step-state v q now.lines hl.form r ∙ ap (more (λ n y. step_in v q n hl.form y)) now.state ∙ e)
 
-    pub step-breaks : not l.ok ≡ true → (q : Part) (z : Sheet) (k : State) → has_steps q ≡ true → z.number ≡ 0
-        → Prefix v s from q (passed lines₀ outcome₀ (with_route q (bare places) z)) → Upto v s l.at false q k
-    step-breaks bad q z k r nil pre = upto-broken v s l.at l.ok q q _ _ bad (reads-step q z r nil pre _ refl)
+    pub stepped-past : (outcome.number ≡ 0 → ⊥)
+        → Stepped v s places list hint from lines₀ outcome₀ outcome (lines + 1) l.at len
+    stepped-past z₀ =
+        record {
+          limits = h.limits;
+          within = hl.within;
+          counted = later;
+          few = h.few;
+          long = h.long;
+          fits = h.fits;
+          hinted = h.hinted;
+          goes = λ q z r nil pre. reads-step q z r nil pre _
+              (more-refused _ lines outcome (with_route q route z) (with_route q route z) z₀);
+        }
 
-    module _ (good : not l.ok ≡ false) where
-      onto : (q : Part) (k : State) → Upto v s l.at l.ok q k → Prefix v s l.at q k
-      onto q k u = upto-held v s l.at l.ok q k good u
+    module _ (z₀ : outcome.number ≡ 0) (o : Outcome) (row : RowIs o) where
+      settles : (q : Part) (z : Sheet) → has_steps q ≡ true
+          → step_in v q (lines + 1) hl.form (with_route q route z)
+          ≡ settled o (with_route q (stepped route (record_of hl.form)) z)
+      settles q z r = step-settled v q (lines + 1) hl.form route z r
+          ∙ ap (λ (x : Outcome). settled x (with_route q (stepped route (record_of hl.form)) z))
+          (sym (the_row o row))
 
-      pub stepped-past : (outcome.number ≡ 0 → ⊥)
-          → Stepped v s places list hint from lines₀ outcome₀ outcome (lines + 1) l.at len
-      stepped-past z₀ =
+      step-more : (q : Part) (z : Sheet) → has_steps q ≡ true → z.number ≡ 0
+          → more (λ n y. step_in v q n hl.form y) (passed lines outcome (with_route q route z))
+          ≡ passed (lines + 1) o (with_route q (stepped route (record_of hl.form)) z)
+      step-more q z r nil = more-on _ lines outcome (with_route q route z) _ o z₀ (route-number q route z ∙ nil)
+          (settles q z r)
+
+      pub stepped-row : (o.number ≡ 0 → ⊥) → Stepped v s places list hint from lines₀ outcome₀ o (lines + 1) l.at
+          len
+      stepped-row bad =
           record {
             limits = h.limits;
             within = hl.within;
-            counted = later good;
+            counted = later;
             few = h.few;
             long = h.long;
-            fits = h.fits;
+            fits = λ z. absurd (bad z);
             hinted = h.hinted;
-            goes = λ q z r nil pre. onto q _ (reads-step q z r nil pre _
-                (more-refused _ lines outcome (with_route q route z) (with_route q route z) z₀));
+            goes = λ q z r nil pre. reads-step q z r nil pre _
+                (step-more q z r nil ∙ ap (λ (x : Sheet). record { lines = lines + 1; sheet = x })
+                (settled-no o _ bad ∙ sym (settled-no o (with_route q route z) bad)));
           }
 
-      module _ (z₀ : outcome.number ≡ 0) (o : Outcome) (row : RowIs o) where
-        settles : (q : Part) (z : Sheet) → has_steps q ≡ true
-            → step_in v q (lines + 1) hl.form (with_route q route z)
-            ≡ settled o (with_route q (stepped route (record_of hl.form)) z)
-        settles q z r = step-settled v q (lines + 1) hl.form route z r
-            ∙ ap (λ (x : Outcome). settled x (with_route q (stepped route (record_of hl.form)) z))
-            (sym (the_row o row))
+      module _ (z₁ : o.number ≡ 0) (one : Step) (list' hint' : List ℕ)
+          (of : (v : Version) (f : Form) (n : ℕ) → Limits v → IsForm l f → n ≤ 64 → form_fits v n f ≡ true
+          → one ≡ record_of f) (put : steps_in list' ≡ set (steps_in list) len one) where
+        one-is : one ≡ record_of hl.form
+        one-is = of v hl.form places h.limits hl.is (h.fits z₀)
+            (unless-elim (form_fits v places hl.form) 2 (lines + 1) refl (row-two o row z₁))
 
-        step-more : (q : Part) (z : Sheet) → has_steps q ≡ true → z.number ≡ 0
-            → more (λ n y. step_in v q n hl.form y) (passed lines outcome (with_route q route z))
-            ≡ passed (lines + 1) o (with_route q (stepped route (record_of hl.form)) z)
-        step-more q z r nil = more-on _ lines outcome (with_route q route z) _ o z₀ (route-number q route z ∙ nil)
-            (settles q z r)
+        put_is : stepped route (record_of hl.form)
+            ≡ record { places = places; len = len + 1; steps = steps_in list' }
+        unfolding stepped
+        put_is =
+            ap (λ (x : Bool). cond x (record {
+              places = places;
+              len = len + 1;
+              steps = set (steps_in list) len (record_of hl.form);
+            }) route) (lt-ltb len 64 (step_room o row z₁))
+            ∙ ap (λ (x : Step). record { places = places; len = len + 1; steps = set (steps_in list) len x })
+            (sym one-is)
+            ∙ ap (λ (x : List Step). record { places = places; len = len + 1; steps = x }) (sym put)
 
-        pub stepped-row : (o.number ≡ 0 → ⊥) → Stepped v s places list hint from lines₀ outcome₀ o (lines + 1) l.at
-            len
-        stepped-row bad =
+        names-on : names (take (len + 1) (steps_in list')) ≡ names (take len (steps_in list)) ++ (one.name ∷ [])
+        names-on = ap (λ (x : List Step). names (take (len + 1) x)) put
+            ∙ take_more (steps_in list) len one (put-room o row z₁)
+
+        pub stepped-step : length list' ≡ length list
+            → ((c : List ℕ) → length c ≡ len → Hinted c hint → Hinted (c ++ (one.name ∷ [])) hint')
+            → Stepped v s places list' hint' from lines₀ outcome₀ o (lines + 1) l.at (len + 1)
+        stepped-step same more-hints =
             record {
               limits = h.limits;
               within = hl.within;
-              counted = later good;
-              few = h.few;
-              long = h.long;
-              fits = λ z. absurd (bad z);
-              hinted = h.hinted;
-              goes = λ q z r nil pre. onto q _ (reads-step q z r nil pre _
-                  (step-more q z r nil ∙ ap (λ (x : Sheet). record { lines = lines + 1; sheet = x })
-                  (settled-no o _ bad ∙ sym (settled-no o (with_route q route z) bad))));
+              counted = later;
+              few = omega (arith, step_room o row z₁);
+              long = same ∙ h.long;
+              fits = λ _. h.fits z₀;
+              hinted = subst (λ (x : List ℕ). Hinted x hint') (sym names-on)
+                  (more-hints (names (take len (steps_in list)))
+                  (length-names (take len (steps_in list))
+                  ∙ length-take-le len (steps_in list) (omega (arith, room list len h.long h.few, h.few)))
+                  h.hinted);
+              goes = λ q z r nil pre. reads-step q z r nil pre _
+                  (step-more q z r nil ∙ ap (λ (x : Route). passed (lines + 1) o (with_route q x z)) put_is);
             }
-
-        module _ (z₁ : o.number ≡ 0) (one : Step) (list' hint' : List ℕ)
-            (of : (v : Version) (f : Form) (n : ℕ) → Limits v → IsForm l f → n ≤ 64 → form_fits v n f ≡ true
-            → one ≡ record_of f) (put : steps_in list' ≡ set (steps_in list) len one) where
-          one-is : one ≡ record_of hl.form
-          one-is = of v hl.form places h.limits hl.is (h.fits z₀)
-              (unless-elim (form_fits v places hl.form) 2 (lines + 1) refl (row-two o row z₁))
-
-          put_is : stepped route (record_of hl.form)
-              ≡ record { places = places; len = len + 1; steps = steps_in list' }
-          unfolding stepped
-          put_is =
-              ap (λ (x : Bool). cond x (record {
-                places = places;
-                len = len + 1;
-                steps = set (steps_in list) len (record_of hl.form);
-              }) route) (lt-ltb len 64 (step_room o row z₁))
-              ∙ ap (λ (x : Step). record { places = places; len = len + 1; steps = set (steps_in list) len x })
-              (sym one-is)
-              ∙ ap (λ (x : List Step). record { places = places; len = len + 1; steps = x }) (sym put)
-
-          names-on : names (take (len + 1) (steps_in list')) ≡ names (take len (steps_in list)) ++ (one.name ∷ [])
-          names-on = ap (λ (x : List Step). names (take (len + 1) x)) put
-              ∙ take_more (steps_in list) len one (put-room o row z₁)
-
-          pub stepped-step : length list' ≡ length list
-              → ((c : List ℕ) → length c ≡ len → Hinted c hint → Hinted (c ++ (one.name ∷ [])) hint')
-              → Stepped v s places list' hint' from lines₀ outcome₀ o (lines + 1) l.at (len + 1)
-          stepped-step same more-hints =
-              record {
-                limits = h.limits;
-                within = hl.within;
-                counted = later good;
-                few = omega (arith, step_room o row z₁);
-                long = same ∙ h.long;
-                fits = λ _. h.fits z₀;
-                hinted = subst (λ (x : List ℕ). Hinted x hint') (sym names-on)
-                    (more-hints (names (take len (steps_in list)))
-                    (length-names (take len (steps_in list))
-                    ∙ length-take-le len (steps_in list) (omega (arith, room list len h.long h.few, h.few)))
-                    h.hinted);
-                goes = λ q z r nil pre. onto q _ (reads-step q z r nil pre _
-                    (step-more q z r nil ∙ ap (λ (x : Route). passed (lines + 1) o (with_route q x z)) put_is));
-              }
 
 -- ---- what the loop needs on its way
 
@@ -295,47 +285,28 @@ module _ (v : Version) (s : List ℕ) (places : ℕ) (list hint : List ℕ) (fro
   pub part_room : length (take (4 * len) list) ≡ 4 * len
   part_room = length-take-le (4 * len) list (omega (arith, h.long, h.few))
 
-  pub same-room : (list₀ : List ℕ) → list₀ ≡ replicate 256 0 → length list ≡ length list₀
-  same-room list₀ is = h.long ∙ sym (ap length is ∙ length-replicate {A = ℕ} 256 0)
-
 -- ---- its ends
 
-pub steps-passes : (v : Version) (s : List ℕ) (p : Pass) (places : ℕ) (list : List Step) (b : Pass) → Placed s p
-    → not p.ok ≡ true → b ≡ broken_at p.at → StepsOn v s p places (record { pass = b; len = 0 }) list
-steps-passes v s p places list b h e is =
-    subst (λ (x : Pass). StepsOn v s p places (record { pass = x; len = 0 }) list) (sym is)
-    (record {
-      placed = broken-placed s p.at h.within;
-      few = omega arith;
-      over = λ z. absurd (false≢true z);
-      goes = λ q z r nil u. upto-broken v s p.at p.ok q q _ _ e u;
-    })
-
 module _ (v : Version) (s : List ℕ) (p : Pass) (places : ℕ) (list hint : List ℕ) (outcome : Outcome) (lines at len : ℕ)
-    (h : Stepped v s places list hint p.at p.lines p.outcome outcome lines at len)
-    (held : not p.ok ≡ false) where
-  pub steps-break : (l : StepLine) (b : Pass) (x : Bool) → x ≡ eqb (get_or s (at + 1) 0) 115 → x ≡ true → StepOn v s at l
-      → not l.ok ≡ true → b ≡ broken_at l.at → StepsOn v s p places (record { pass = b; len = 0 }) (steps_in list)
-  steps-break l b x test so hl bad is =
-      subst (λ (y : Pass). StepsOn v s p places (record { pass = y; len = 0 }) (steps_in list)) (sym is)
-      (record {
-        placed = broken-placed s l.at hl.within;
-        few = omega arith;
-        over = λ z. absurd (false≢true z);
-        goes = λ q z r nil u. step-breaks v s places list hint p.at p.lines p.outcome outcome lines at len h l
-            hl x test so bad q z _ r nil (upto-held v s p.at p.ok q _ held u);
-      })
-
-  pub steps-done : (x : Bool) → x ≡ eqb (get_or s (at + 1) 0) 115 → x ≡ false
-      → StepsOn v s p places (record {
-        pass = record { at = at; ok = true; lines = lines; outcome = outcome };
-        len = len;
-      }) (steps_in list)
-  unfolding Upto
-  steps-done x test other =
+    (h : Stepped v s places list hint p.at p.lines p.outcome outcome lines at len) (x : Bool)
+    (test : x ≡ eqb (get_or s (at + 1) 0) 115) where
+  pub steps-break : (i : ℕ) → x ≡ true → StepBreaks v s at i → StepsBreak v s p places i
+  steps-break i so no-step =
       record {
-        placed = record { within = h.within; few = λ _. h.counted };
+        within = no-step.within;
+        goes = λ q z r nil pre.
+            let now = h.goes q z r nil pre in
+            no-step.goes q now.lines r (eqb-true (get_or s (at + 1) 0) 115 (sym test ∙ so)) now.reading;
+      }
+
+  pub steps-done : x ≡ false → StepsTo v s p places (record {
+    pass = record { at = at; lines = lines; outcome = outcome };
+    len = len;
+  }) (steps_in list)
+  steps-done other =
+      record {
+        placed = record { within = h.within; few = h.counted };
         few = h.few;
-        over = λ _. eqb-false (get_or s (at + 1) 0) 115 (sym test ∙ other);
-        goes = λ q z r nil u. h.goes q z r nil (upto-held v s p.at p.ok q _ held u);
+        over = eqb-false (get_or s (at + 1) 0) 115 (sym test ∙ other);
+        goes = h.goes;
       }

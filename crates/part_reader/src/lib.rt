@@ -5,12 +5,10 @@ use refusal::Outcome;
 
 pub mod parts;
 
-// Where reading stands between two lines: the place and whether the layout holds to there, how many lines there were,
-// and their outcome.
+// Where reading stands between two lines: the place, how many lines there were, and their outcome.
 #[derive(Clone, Copy)]
 pub struct Pass {
     pub at: usize,
-    pub ok: bool,
     pub lines: u64,
     pub outcome: Outcome,
 }

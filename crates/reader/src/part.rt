@@ -9,19 +9,15 @@ fn past_lines(s: &[u8], n: usize) -> usize
     ensures { PastLines n s.now result }
 {
     let mut left = n;
-    let mut i = 0;
-    while i < s.len() {
+    for (i, b) in s.iter().enumerate() {
         if left == 0 {
             return i;
         }
-        let b = s[i];
-        i += 1;
-        if b == 10 {
+        if *b == b'\n' {
             left -= 1;
-            continue;
         }
     }
-    i
+    s.len()
 }
 
 // From `(job)` to the end; of a refused sheet the empty part at its start.

@@ -17,11 +17,8 @@ fn route_in(places: u64, len: usize, list: &[u64; 256]) -> Route
     let mut r = Route::empty();
     r.places = places;
     r.len = len;
-    let mut i = 0;
-    while i < 64 {
-        let s = flat::step_at(list, i);
-        r.steps[i] = s;
-        i += 1;
+    for i in 0..64 {
+        r.steps[i] = flat::step_at(list, i);
     }
     r
 }

@@ -31,7 +31,7 @@ fn opened(out: &mut [u8], at: usize, w: Word) -> usize
     requires { Room (opening w) out.old at }
     ensures { Emits (opening w) out.old at out.new result }
 {
-    let p = put(out, at, 40);
+    let p = put(out, at, b'(');
     word(out, p, w)
 }
 
@@ -40,8 +40,8 @@ fn closed(out: &mut [u8], at: usize) -> usize
     requires { Room closing out.old at }
     ensures { Emits closing out.old at out.new result }
 {
-    let p = put(out, at, 41);
-    put(out, p, 10)
+    let p = put(out, at, b')');
+    put(out, p, b'\n')
 }
 
 // A list of places or of variables: the members of a mask.
@@ -49,10 +49,10 @@ fn list(out: &mut [u8], at: usize, w: Word, m: u64) -> usize
     requires { Room (listed w (members 64 m) []) out.old at }
     ensures { Emits (listed w (members 64 m) []) out.old at out.new result }
 {
-    let a = put(out, at, 32);
+    let a = put(out, at, b' ');
     let b = opened(out, a, w);
     let c = entries(out, b, m, 0);
-    put(out, c, 41)
+    put(out, c, b')')
 }
 
 // The four lists of a step.
@@ -104,11 +104,9 @@ fn step_lines(out: &mut [u8], at: usize, steps: &[u64]) -> usize
 {
     let n = flat::count(steps);
     let mut p = at;
-    let mut i = 0;
-    while i < n {
+    for i in 0..n {
         let s = flat::step_at(steps, i);
         p = step_line(out, p, s);
-        i += 1;
     }
     p
 }
@@ -128,10 +126,8 @@ fn done_lines(out: &mut [u8], at: usize, done: &[u32]) -> usize
     ensures { Emits (done_lines done.now []) out.old at out.new result }
 {
     let mut p = at;
-    let mut i = 0;
-    while i < done.len() {
-        p = word_line(out, p, Word::Done, done[i] as u64);
-        i += 1;
+    for name in done {
+        p = word_line(out, p, Word::Done, *name as u64);
     }
     p
 }

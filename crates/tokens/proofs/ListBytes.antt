@@ -1,13 +1,13 @@
 -- A list's bytes: what the byte after an entry does.
 -- Assumes nothing.
-use mathlib.Core.Path.{◌≡◌, refl, sym, ap, ◌∙◌, subst}
-use mathlib.Core.Bool.{Bool, true, false, not, cond, true≢false}
+use mathlib.Core.Path.{◌≡◌, refl, sym, ap, ◌∙◌}
+use mathlib.Core.Bool.{Bool, true, false, cond, true≢false}
 use mathlib.Core.List.{List, [], ◌∷◌, ◌++◌}
 use Prim.Native.Nat.{ℕ, ◌+◌, ◌%◌, ◌≤◌, ◌<◌}
 use native.Mathlib.Omega.{arith}
 use lib.Bits.{bit_or}
 use lib.ListN.{length, drop, get_or}
-use borrow.Author.Tests.{eq-eqb, ne_eqb, lt-ltb, le-ltb, not-false}
+use borrow.Author.Tests.{eq-eqb, ne_eqb, lt-ltb, le-ltb}
 use Rattle.mask.specs.Mask.{bit}
 use Rattle.version.specs.declared.Version.{Version}
 use Rattle.layout.specs.Text.{Lines}
@@ -19,11 +19,11 @@ use Rattle.layout.specs.declared.Word.TheVariants.{Old, New, Job, Done, Step, In
 use Rattle.layout.specs.declared.Part.{Part}
 use Rattle.layout.specs.declared.Point.{Point}
 use Rattle.layout.specs.declared.Point.TheVariants.{Digit, Digits, Past, Closed, Stuck}
-use Rattle.tokens.specs.inner.Tokens.{Reading, Reached, NumberOn, list_word, no_entries, added, along, ListOn}
+use Rattle.tokens.specs.inner.Tokens.{Reading, NumberTo, NumberBreaks, list_word, no_entries, added, along, ListTo}
+use Rattle.tokens.specs.inner.Tokens.{ListBreaks}
 use Rattle.tokens.specs.declared.Numeral.{Numeral}
 use Rattle.tokens.specs.declared.Entries.{Entries}
-use Rattle.tokens.specs.declared.Listed.{Listed}
-use Rattle.tokens.proofs.Bytes.{byte-on, byte-stuck, bytes-over, break-on}
+use Rattle.tokens.proofs.Bytes.{byte-on, byte-stuck, bytes-over}
 
 -- ---- the four words that head a list
 
@@ -110,51 +110,48 @@ pub record Entered (v : Version) (s : List ℕ) (from : ℕ) (e : Entries) (i : 
   pub within : i ≤ length s
   pub entries : List ℕ
   pub kept : e ≡ along no_entries entries
-  pub goes : (w : Word) (q : Part) (c : Line) (t : Lines) → list_word w ≡ true → Reached v s from true (Past w q) c t
+  pub goes : (w : Word) (q : Part) (c : Line) (t : Lines) → list_word w ≡ true → Reading v s from (Past w q) c t
       → Reading v s i (Past w q) (with_entries w entries c) t
 
-pub entered-init : (v : Version) (s : List ℕ) (from : ℕ) (e : Entries) → from ≤ length s → e ≡ no_entries
-    → Entered v s from e from
-unfolding Reached along with_entries
-entered-init v s from e h is = record {
-  later = omega (arith, ap (λ (x : Entries). x.count) is);
+pub entered-init : (v : Version) (s : List ℕ) (from : ℕ) → from ≤ length s → Entered v s from no_entries from
+unfolding along with_entries
+entered-init v s from h = record {
+  later = omega arith;
   within = h;
   entries = [];
-  kept = is;
+  kept = refl;
   goes = λ w q c t l r. r;
 }
 
 module _ (v : Version) (s : List ℕ) (from : ℕ) (e : Entries) (i : ℕ) (h : Entered v s from e i)
     (room : i < length s) where
   space-on : get_or s i 0 ≡ 32 → (w : Word) (q : Part) (c : Line) (t : Lines) → list_word w ≡ true
-      → Reached v s from true (Past w q) c t → Reached v s (i + 1) true (Digit w q) (with_entries w h.entries c) t
-  unfolding Reached next took keep alive
+      → Reading v s from (Past w q) c t → Reading v s (i + 1) (Digit w q) (with_entries w h.entries c) t
+  unfolding next took keep alive
   space-on sp w q c t l r = byte-on v s i (Past w q) _ t (h.goes w q c t l r) room (Digit w q)
       (past-list w l q (get_or s i 0) ∙ in-space w q (get_or s i 0) sp) refl
 
-  pub entered-next : (r : Numeral) (e' : Entries) → get_or s i 0 ≡ 32 → NumberOn v s (i + 1) true r → not r.ok ≡ false
-      → e' ≡ added r.value e → Entered v s from e' r.at
-  unfolding Reached added
-  entered-next r e' sp n good is =
+  pub entered-next : (n : Numeral) (e' : Entries) → get_or s i 0 ≡ 32 → NumberTo v s (i + 1) n
+      → e' ≡ added n.value e → Entered v s from e' n.at
+  unfolding added
+  entered-next n e' sp to is =
       record {
-        later = omega (arith, h.later, n.later, ap (λ (x : Entries). x.count) is);
-        within = n.within;
-        entries = h.entries ++ (r.value ∷ []);
-        kept = is ∙ ap (added r.value) h.kept ∙ along-more no_entries h.entries r.value;
+        later = omega (arith, h.later, to.later, ap (λ (x : Entries). x.count) is);
+        within = to.within;
+        entries = h.entries ++ (n.value ∷ []);
+        kept = is ∙ ap (added n.value) h.kept ∙ along-more no_entries h.entries n.value;
         goes = λ w q c t l so.
-            let at = n.goes w q (with_entries w h.entries c) t (space-on sp w q c t l so) in
-            let on = subst (λ (x : Bool). Reached v s r.at x (Digits w q 0)
-            (with_num r.value (with_entries w h.entries c)) t) (not-false r.ok good) at in
+            let on = to.goes w q (with_entries w h.entries c) t (space-on sp w q c t l so) in
             record {
               within = on.within;
               same = on.same
-                  ∙ run-back v w q l r.value (with_entries w h.entries c) t (drop r.at s)
-                  ∙ ap (λ (x : Line). run v (Past w q) x t (drop r.at s)) (with-more w h.entries r.value c);
+                  ∙ run-back v w q l n.value (with_entries w h.entries c) t (drop n.at s)
+                  ∙ ap (λ (x : Line). run v (Past w q) x t (drop n.at s)) (with-more w h.entries n.value c);
             };
       }
 
-  pub list-closes : get_or s i 0 ≡ 41 → ListOn v s from true (record { at = i + 1; ok = true; entries = e })
-  unfolding Reached next took keep alive
+  pub list-closes : get_or s i 0 ≡ 41 → ListTo v s from (record { at = i + 1; entries = e })
+  unfolding next took keep alive
   list-closes x =
       record {
         later = omega (arith, h.later);
@@ -165,89 +162,61 @@ module _ (v : Version) (s : List ℕ) (from : ℕ) (e : Entries) (i : ℕ) (h : 
             (past-list w l q (get_or s i 0) ∙ in-bracket w q (get_or s i 0) x) refl;
       }
 
-  pub list-other : (e₀ : Entries) → (get_or s i 0 ≡ 41 → ⊥) → (get_or s i 0 ≡ 32 → ⊥) → e₀ ≡ no_entries
-      → ListOn v s from true (record { at = i; ok = false; entries = e₀ })
-  unfolding Reached along next
-  list-other e₀ x y z =
+  pub list-other : (get_or s i 0 ≡ 41 → ⊥) → (get_or s i 0 ≡ 32 → ⊥) → ListBreaks v s from i
+  unfolding next
+  list-other x y =
       record {
         later = omega (arith, h.later);
         within = h.within;
-        entries = [];
-        kept = z;
         goes = λ w q c t l r. byte-stuck v s i (Past w q) _ t (h.goes w q c t l r) room
             (past-list w l q (get_or s i 0) ∙ in-other w q (get_or s i 0) y x);
       }
 
-  pub list-number : (e₀ : Entries) (r : Numeral) → get_or s i 0 ≡ 32 → NumberOn v s (i + 1) true r → not r.ok ≡ true
-      → e₀ ≡ no_entries → ListOn v s from true (record { at = r.at; ok = false; entries = e₀ })
-  unfolding along
-  list-number e₀ r sp n bad z =
+  pub list-number : (at : ℕ) → get_or s i 0 ≡ 32 → NumberBreaks v s (i + 1) at → ListBreaks v s from at
+  list-number at sp n =
       record {
         later = omega (arith, h.later, n.later);
         within = n.within;
-        entries = [];
-        kept = z;
-        goes = λ w q c t l so. break-on v s r.at r.ok _ _ _ _ _ _ bad
-            (n.goes w q (with_entries w h.entries c) t (space-on sp w q c t l so));
+        goes = λ w q c t l so. n.goes w q (with_entries w h.entries c) t (space-on sp w q c t l so);
       }
 
-pub list_over : (v : Version) (s : List ℕ) (from : ℕ) (e e₀ : Entries) (i : ℕ) → Entered v s from e i → length s ≤ i
-    → e₀ ≡ no_entries → ListOn v s from true (record { at = i; ok = false; entries = e₀ })
-unfolding Reached along at_end
-list_over v s from e e₀ i h over z =
+pub list-over : (v : Version) (s : List ℕ) (from : ℕ) (e : Entries) (i : ℕ) → Entered v s from e i → length s ≤ i
+    → ListBreaks v s from i
+unfolding at_end
+list-over v s from e i h over =
     record {
       later = omega (arith, h.later);
       within = h.within;
-      entries = [];
-      kept = z;
       goes = λ w q c t l r. bytes-over v s i (Past w q) _ t (h.goes w q c t l r) over refl;
     }
 
 -- ---- as the code takes an entry in: below one before, or above all
 
-module _ (v : Version) (s : List ℕ) (from mask top count : ℕ) (falls : Bool) (i : ℕ) (r : Numeral) (m : ℕ)
+module _ (v : Version) (s : List ℕ) (from mask top count : ℕ) (falls : Bool) (i : ℕ) (n : Numeral) (m : ℕ)
     (h : Entered v s from (record { mask = mask; top = top; count = count; falls = falls }) i) (room : i < length s)
-    (sp : get_or s i 0 ≡ 32) (n : NumberOn v s (i + 1) true r) (good : not r.ok ≡ false)
-    (is : m ≡ bit (r.value % 64)) where
-  pub entered-low : r.value < top → Entered v s from
-      (record { mask = bit_or mask m; top = top; count = count + 1; falls = true }) r.at
+    (sp : get_or s i 0 ≡ 32) (to : NumberTo v s (i + 1) n) (is : m ≡ bit (n.value % 64)) where
+  pub entered-low : n.value < top → Entered v s from
+      (record { mask = bit_or mask m; top = top; count = count + 1; falls = true }) n.at
   unfolding added
   entered-low x =
-      entered-next v s from _ i h room r _ sp n good
+      entered-next v s from _ i h room n _ sp to
       (ap (λ (k : ℕ). record { mask = bit_or mask k; top = top; count = count + 1; falls = true }) is
       ∙ ap (λ (t : Bool). record {
-        mask = bit_or mask (bit (r.value % 64));
-        top = cond t top (r.value + 1);
+        mask = bit_or mask (bit (n.value % 64));
+        top = cond t top (n.value + 1);
         count = count + 1;
         falls = cond t true falls;
-      }) (sym (lt-ltb r.value top x)))
+      }) (sym (lt-ltb n.value top x)))
 
-  pub entered-high : top ≤ r.value → Entered v s from
-      (record { mask = bit_or mask m; top = r.value + 1; count = count + 1; falls = falls }) r.at
+  pub entered-high : top ≤ n.value → Entered v s from
+      (record { mask = bit_or mask m; top = n.value + 1; count = count + 1; falls = falls }) n.at
   unfolding added
   entered-high x =
-      entered-next v s from _ i h room r _ sp n good
-      (ap (λ (k : ℕ). record { mask = bit_or mask k; top = r.value + 1; count = count + 1; falls = falls }) is
+      entered-next v s from _ i h room n _ sp to
+      (ap (λ (k : ℕ). record { mask = bit_or mask k; top = n.value + 1; count = count + 1; falls = falls }) is
       ∙ ap (λ (t : Bool). record {
-        mask = bit_or mask (bit (r.value % 64));
-        top = cond t top (r.value + 1);
+        mask = bit_or mask (bit (n.value % 64));
+        top = cond t top (n.value + 1);
         count = count + 1;
         falls = cond t true falls;
-      }) (sym (le-ltb r.value top x)))
-
--- ---- a break is passed on
-
-pub list-passes : (v : Version) (s : List ℕ) (from : ℕ) (ok : Bool) (e : Entries) → from ≤ length s → not ok ≡ true
-    → e ≡ no_entries → ListOn v s from ok (record { at = from; ok = false; entries = e })
-unfolding along
-list-passes v s from ok e h z is = record {
-  later = omega arith;
-  within = h;
-  entries = [];
-  kept = is;
-  goes = λ w q c t l r. break-on v s from ok _ _ _ _ _ _ z r;
-}
-
-pub list_on : (v : Version) (s : List ℕ) (from : ℕ) (ok : Bool) (r : Listed) → not ok ≡ false → ListOn v s from true r
-    → ListOn v s from ok r
-list_on v s from ok r e h = subst (λ (x : Bool). ListOn v s from x r) (sym (not-false ok e)) h
+      }) (sym (le-ltb n.value top x)))

@@ -1,15 +1,17 @@
 -- A number's bytes: reading goes on from digit to digit, and stops where the reader does.
 -- Assumes nothing.
 use mathlib.Core.Path.{◌≡◌, refl, sym, ap, ◌∙◌, subst}
-use mathlib.Core.Bool.{Bool, true, false, not, cond, true≢false}
+use mathlib.Core.Bool.{Bool, true, false, cond, true≢false}
 use mathlib.Core.List.{List, [], ◌∷◌}
 use Prim.Native.Nat.{ℕ, suc, ◌+◌, ◌-◌, ◌*◌, ◌^◌, ◌≤◌, ◌<◌}
 use native.Mathlib.Omega.{arith}
 use native.Mathlib.Nat.{pow-suc}
 use lib.Dec.{ltb}
-use lib.ListN.{length, drop, get_or, drop_of_length-le}
+use lib.ListN.{length, take, drop, get_or, drop_of_length-le, length-take, length-drop}
 use lib.Seq.{drop-cons}
-use borrow.Author.Tests.{eq-eqb, ne_eqb, lt-ltb, ltb-true, ltb-false, not-true, not-false}
+use borrow.Author.Tests.{eq-eqb, ne_eqb, lt-ltb, ltb-true, ltb-false}
+use Rattle.std.specs.Char.{is_ascii_digit}
+use Rattle.std.proofs.lemmas.List.{get_or_read, get_or-take, get_or-drop}
 use Rattle.version.specs.Limits.{Limits}
 use Rattle.version.specs.declared.Version.{Version}
 use Rattle.version.proofs.Tens.{tens-mono}
@@ -21,9 +23,8 @@ use Rattle.layout.specs.declared.Part.{Part}
 use Rattle.layout.specs.declared.Point.{Point}
 use Rattle.layout.specs.declared.Point.TheVariants.{Digit, Digits, Stuck}
 use Rattle.layout.proofs.PrefixStep.{digit-bounds}
-use Rattle.tokens.specs.inner.Tokens.{Reading, Broken, Reached, no_number, number_to, NumberOn}
-use Rattle.tokens.specs.declared.Numeral.{Numeral}
-use Rattle.tokens.proofs.Bytes.{byte-on, byte-stuck, bytes-over, break-on}
+use Rattle.tokens.specs.inner.Tokens.{Reading, Breaks, NumberTo, NumberBreaks}
+use Rattle.tokens.proofs.Bytes.{byte-on, byte-stuck, bytes-over}
 
 -- ---- digits
 
@@ -46,7 +47,7 @@ module _ (v : Version) (s : List ℕ) (from : ℕ) (room : from < length s) (w :
       (ap (λ (x : Bool). cond x (Digits w q 0) (cond (digit (get_or s from 0)) (Digits w q (v.digits - 1)) Stuck))
       (eq-eqb (get_or s from 0) 48 e)) refl
 
-  no_digit : digit (get_or s from 0) ≡ false → Broken v s from
+  no_digit : digit (get_or s from 0) ≡ false → Breaks v s from
   unfolding next first digit
   no_digit d =
       byte-stuck v s from (Digit w q) c t h room
@@ -101,170 +102,137 @@ module _ (v : Version) (s : List ℕ) (w : Word) (q : Part) (c : Line) (t : Line
           let none : drop i s ≡ [] = drop_of_length-le s (ltb-false i (length s) e) in
           ap (run v (Digits w q k) (with_num n c) t) none ∙ sym (ap (run v (Digits w q 0) (with_num n c) t) none)
 
--- ---- the loop, and its ends: reading stands at i, past digits that make n, and so many may follow. A test's answer x
--- is `digit` of the byte
+-- the bytes past the first digit, as the loop goes over them
+abbrev pub rest : List ℕ → ℕ → List ℕ
+rest s from = take (length s - (from + 1)) (drop (from + 1) s)
+
+module _ (s : List ℕ) (from i : ℕ) (turn : i < length (rest s from)) where
+  rest-room : from + 1 + i < length s
+  rest-room = omega (arith, length-take {A = ℕ}, length-drop {A = ℕ})
+
+  rest-byte : get_or (rest s from) i 0 ≡ get_or s (from + 1 + i) 0
+  rest-byte = get_or-take (length s - (from + 1)) (drop (from + 1) s) i 0 (omega (arith, rest-room))
+      ∙ get_or-drop (from + 1) s i 0
+
+ascii-digit : (b : ℕ) → is_ascii_digit b ≡ digit b
+unfolding digit
+ascii-digit b = refl
+
+-- ---- the loop, and its ends: reading stands past the first digit and i more, which make n, and so many may follow
 
 pub record Counts (v : Version) (s : List ℕ) (from n i left : ℕ) : Type 0 where
   pub limits : Limits v
-  pub past : from < i
-  pub within : i ≤ length s
+  pub within : from + 1 + i ≤ length s
   pub few : left < v.digits
   pub below : n < 10 ^ (v.digits - left)
-  pub goes : (w : Word) (q : Part) (c : Line) (t : Lines) → Reached v s from true (Digit w q) c t
-      → Reading v s i (Digits w q left) (with_num n c) t
+  pub goes : (w : Word) (q : Part) (c : Line) (t : Lines) → Reading v s from (Digit w q) c t
+      → Reading v s (from + 1 + i) (Digits w q left) (with_num n c) t
 
--- whatever the version, where so many digits may follow the first
-pub record Counting (s : List ℕ) (from most n i left : ℕ) : Type 0 where
-  pub within : i ≤ length s
-  pub in-version : (v : Version) → Limits v → most ≡ v.digits - 1 → Counts v s from n i left
+module _ (v : Version) (limits : Limits v) (s : List ℕ) (from b n : ℕ) (room : from < length s)
+    (here : b ≡ get_or s from b) (val : n ≡ b - 48) where
+  byte : b ≡ get_or s from 0
+  byte = get_or_read s from b room here 0
 
-counts-init : (v : Version) → Limits v → (s : List ℕ) (from n : ℕ) (x : Bool) → from < length s
-    → x ≡ digit (get_or s from 0) → not x ≡ false → (get_or s from 0 ≡ 48 → ⊥) → n ≡ get_or s from 0 - 48 → (left : ℕ)
-    → left ≡ v.digits - 1 → Counts v s from n (from + 1) left
-unfolding Reached
-counts-init v limits s from n x room is e far val left all =
-    let d = sym is ∙ not-false x e in
-    let low = digit-bounds (get_or s from 0) d in
-    let one : 1 ≡ v.digits - left = omega (arith, limits.two, all) in
-    record {
-      limits = limits;
-      past = omega arith;
-      within = omega (arith, room);
-      few = omega (arith, limits.two, all);
-      below = subst (λ (k : ℕ). n < 10 ^ k) one (omega (arith, val, low));
-      goes = λ w q c t h. subst (λ (m : ℕ). Reading v s (from + 1) (Digits w q m) (with_num n c) t) (sym all)
-          (subst (λ (m : ℕ). Reading v s (from + 1) (Digits w q (v.digits - 1)) (with_num m c) t) (sym val)
-          (first-digit v s from room w q c t h d far));
-    }
+  value : n ≡ get_or s from 0 - 48
+  value = val ∙ ap (λ (x : ℕ). x - 48) byte
 
-pub counting-init : (s : List ℕ) (from n : ℕ) (x : Bool) (most : ℕ) → from < length s → x ≡ digit (get_or s from 0)
-    → not x ≡ false → (get_or s from 0 ≡ 48 → ⊥) → n ≡ get_or s from 0 - 48 → Counting s from most n (from + 1) most
-counting-init s from n x most room is e far val =
-    record {
-      within = omega (arith, room);
-      in-version = λ v limits all.
-          counts-init v limits s from n x room is e far val most all;
-    }
-
-module _ (v : Version) (limits : Limits v) (s : List ℕ) (from n i left : ℕ) (h : Counts v s from n i left)
-    (more : left ≡ 0 → ⊥) where
-  -- a number that may grow has at most nine digits: one more fits 64 bits
-  counts-low : n < 10 ^ 9
-  counts-low = omega (arith, h.below, tens-mono (v.digits - left) 9 (omega (arith, h.few, h.limits.ten)))
-
-  counts-mul : n * 10 < 2 ^ 64
-  counts-mul = omega (arith, counts-low)
-
-  module _ (b d : ℕ) (x : Bool) (is : x ≡ digit b) (e : not x ≡ false) (val : d ≡ b - 48) where
-    counts-add : n * 10 + d < 2 ^ 64
-    counts-add = omega (arith, counts-low, digit-bounds b (sym is ∙ not-false x e), val)
-
-    wider : n * 10 + d < 10 ^ (v.digits - (left - 1))
-    wider =
-        let one : v.digits - (left - 1) ≡ suc (v.digits - left) = omega (arith, h.few) in
-        let up : 10 ^ (v.digits - (left - 1)) ≡ 10 ^ (v.digits - left) * 10 =
-        ap (λ (k : ℕ). 10 ^ k) one ∙ pow-suc 10 (v.digits - left) in
-        omega (arith, up, val, h.below, digit-bounds b (sym is ∙ not-false x e))
-
-counts_step : (v : Version) (s : List ℕ) (from n i left d : ℕ) (x : Bool) → Counts v s from n i left → i < length s
-    → x ≡ digit (get_or s i 0) → not x ≡ false → (left ≡ 0 → ⊥) → d ≡ get_or s i 0 - 48
-    → Counts v s from (n * 10 + d) (i + 1) (left - 1)
-counts_step v s from n i left d x h room is e more val =
-    record {
-      limits = h.limits;
-      past = omega (arith, h.past);
-      within = omega (arith, room);
-      few = omega (arith, h.few);
-      below = wider v h.limits s from n i left h more (get_or s i 0) d x is e val;
-      goes = λ w p c t r. subst (λ (m : ℕ). Reading v s (i + 1) (Digits w p (left - 1)) (with_num (n * 10 + m) c) t)
-          (sym val)
-          (grows v s w p c t left n i (h.goes w p c t r) room (sym is ∙ not-false x e) (omega arith));
-    }
-
-module _ (s : List ℕ) (from most n i left : ℕ) (g : Counting s from most n i left) (more : left ≡ 0 → ⊥) where
-  pub counting-mul : (v : Version) → Limits v → most ≡ v.digits - 1 → n * 10 < 2 ^ 64
-  counting-mul v limits all = counts-mul v limits s from n i left (g.in-version v limits all) more
-
-  pub counting-add : (v : Version) → Limits v → most ≡ v.digits - 1 → (b d : ℕ) (x : Bool) → x ≡ digit b
-      → not x ≡ false → d ≡ b - 48 → n * 10 + d < 2 ^ 64
-  counting-add v limits all b d x is e val = counts-add v limits s from n i left (g.in-version v limits all) more b d x
-      is e val
-
-  pub counting-step : (d : ℕ) (x : Bool) → i < length s → x ≡ digit (get_or s i 0) → not x ≡ false → d ≡ get_or s i 0 - 48
-      → Counting s from most (n * 10 + d) (i + 1) (left - 1)
-  counting-step d x room is e val =
+  pub number-zero : b ≡ 48 → NumberTo v s from (record { at = from + 1; value = n })
+  number-zero e =
       record {
+        later = omega arith;
         within = omega (arith, room);
-        in-version = λ v limits all.
-            counts_step v s from n i left d x (g.in-version v limits all) room is e more val;
+        small = omega (arith, e, val);
+        goes = λ w q c t h. subst (λ (m : ℕ). Reading v s (from + 1) (Digits w q 0) (with_num m c) t) (sym value)
+            (zero-digit v s from room w q c t h (sym byte ∙ e));
       }
 
-counts-done : (v : Version) (s : List ℕ) (from n i left : ℕ) → Counts v s from n i left
-    → (i < length s → digit (get_or s i 0) ≡ true → left ≡ 0) → NumberOn v s from true (number_to i n)
-unfolding Reached
-counts-done v s from n i left h stop =
-    record {
-      later = omega (arith, h.past);
-      within = h.within;
-      small = omega (arith, h.below, tens-mono (v.digits - left) 10 (omega (arith, h.limits.ten)));
-      goes = λ w q c t r. full v s w q c t left n i (h.goes w q c t r) stop;
-    }
+  pub counts-init : (x : Bool) → x ≡ is_ascii_digit b → x ≡ true → (b ≡ 48 → ⊥) → Counts v s from n 0 (v.digits - 1)
+  counts-init x is e far =
+      let d : digit (get_or s from 0) ≡ true = ap digit (sym byte) ∙ sym (ascii-digit b) ∙ sym is ∙ e in
+      let low = digit-bounds (get_or s from 0) d in
+      let one : 1 ≡ v.digits - (v.digits - 1) = omega (arith, limits.two) in
+      let same : from + 1 ≡ from + 1 + 0 = omega arith in
+      record {
+        limits = limits;
+        within = omega (arith, room);
+        few = omega (arith, limits.two);
+        below = subst (λ (k : ℕ). n < 10 ^ k) one (omega (arith, value, low));
+        goes = λ w q c t h. subst (λ (i : ℕ). Reading v s i (Digits w q (v.digits - 1)) (with_num n c) t) same
+            (subst (λ (m : ℕ). Reading v s (from + 1) (Digits w q (v.digits - 1)) (with_num m c) t) (sym value)
+            (first-digit v s from room w q c t h d (λ z. far (byte ∙ z))));
+      }
 
-module _ (v : Version) (limits : Limits v) (s : List ℕ) (from most n i left : ℕ) (all : most ≡ v.digits - 1)
-    (g : Counting s from most n i left) (r : Numeral) (is : r ≡ number_to i n) where
-  h : Counts v s from n i left
-  h = g.in-version v limits all
+module _ (v : Version) (s : List ℕ) (from n i left : ℕ) (h : Counts v s from n i left) where
+  -- a number that may grow has at most nine digits: one more fits 64 bits
+  pub counts-low : (left ≡ 0 → ⊥) → n < 10 ^ 9
+  counts-low more = omega (arith, h.below, tens-mono (v.digits - left) 9 (omega (arith, h.few, h.limits.ten)))
 
-  pub counting-other : (x : Bool) → x ≡ digit (get_or s i 0) → not x ≡ true → NumberOn v s from true r
-  counting-other x d e = subst (NumberOn v s from true) (sym is)
-      (counts-done v s from n i left h (λ r f. absurd (true≢false (sym f ∙ sym d ∙ not-true x e))))
+  pub counts-step : (d : ℕ) (x : Bool) → i < length (rest s from) → x ≡ is_ascii_digit (get_or (rest s from) i 0)
+      → x ≡ true → (left ≡ 0 → ⊥) → d ≡ get_or (rest s from) i 0 - 48
+      → Counts v s from (n * 10 + d) (i + 1) (left - 1)
+  counts-step d x turn is e more val =
+      let room = rest-room s from i turn in
+      let byte = rest-byte s from i turn in
+      let dig : digit (get_or s (from + 1 + i) 0) ≡ true = ap digit (sym byte) ∙ sym (ascii-digit _) ∙ sym is ∙ e in
+      let low = digit-bounds (get_or s (from + 1 + i) 0) dig in
+      let value : d ≡ get_or s (from + 1 + i) 0 - 48 = val ∙ ap (λ (k : ℕ). k - 48) byte in
+      let one : v.digits - (left - 1) ≡ suc (v.digits - left) = omega (arith, h.few) in
+      let up : 10 ^ (v.digits - (left - 1)) ≡ 10 ^ (v.digits - left) * 10 =
+      ap (λ (k : ℕ). 10 ^ k) one ∙ pow-suc 10 (v.digits - left) in
+      let same : from + 1 + i + 1 ≡ from + 1 + (i + 1) = omega arith in
+      record {
+        limits = h.limits;
+        within = omega (arith, room);
+        few = omega (arith, h.few);
+        below = omega (arith, up, value, h.below, low);
+        goes = λ w p c t r. subst (λ (m : ℕ). Reading v s m (Digits w p (left - 1)) (with_num (n * 10 + d) c) t) same
+            (subst (λ (m : ℕ). Reading v s (from + 1 + i + 1) (Digits w p (left - 1)) (with_num (n * 10 + m) c) t)
+            (sym value)
+            (grows v s w p c t left n (from + 1 + i) (h.goes w p c t r) room dig (omega arith)));
+      }
 
-  pub counting-full : left ≡ 0 → NumberOn v s from true r
-  counting-full none = subst (NumberOn v s from true) (sym is) (counts-done v s from n i left h (λ r d. none))
-
-  pub counting-over : length s ≤ i → NumberOn v s from true r
-  counting-over over = subst (NumberOn v s from true) (sym is)
-      (counts-done v s from n i left h (λ r d. absurd (omega (arith, over, r))))
-
-pub number-zero : (v : Version) (s : List ℕ) (from n : ℕ) (r : Numeral) → from < length s → get_or s from 0 ≡ 48
-    → n ≡ get_or s from 0 - 48 → r ≡ number_to (from + 1) n → NumberOn v s from true r
-unfolding Reached
-number-zero v s from n r room e val is =
-    subst (NumberOn v s from true) (sym is)
-    (record {
-      later = omega arith;
-      within = omega (arith, room);
-      small = omega (arith, e, val);
-      goes = λ w q c t h. subst (λ (m : ℕ). Reading v s (from + 1) (Digits w q 0) (with_num m c) t) (sym val)
-          (zero-digit v s from room w q c t h e);
-    })
-
--- ---- no number: none begins there, or a break is passed on
-
-module _ (v : Version) (s : List ℕ) (from : ℕ) (r : Numeral) (is : r ≡ no_number from) where
-  number-none : from ≤ length s → ((w : Word) (q : Part) (c : Line) (t : Lines) → Reading v s from (Digit w q) c t
-      → Broken v s from) → NumberOn v s from true r
-  unfolding Reached
-  number-none within h = subst (NumberOn v s from true) (sym is)
-      (record { later = omega arith; within = within; small = omega arith; goes = h })
-
-  pub number-over : from ≤ length s → length s ≤ from → NumberOn v s from true r
-  unfolding at_end
-  number-over within over = number-none within (λ w q c t h. bytes-over v s from (Digit w q) c t h over refl)
-
-  pub number-other : (x : Bool) → from < length s → x ≡ digit (get_or s from 0) → not x ≡ true → NumberOn v s from true r
-  number-other x room d h = number-none (omega (arith, room))
-      (λ w q c t r. no_digit v s from room w q c t r (sym d ∙ not-true x h))
-
-  pub number-passes : (ok : Bool) → from ≤ length s → not ok ≡ true → NumberOn v s from ok r
-  number-passes ok h e = subst (NumberOn v s from ok) (sym is)
-      (record {
+  counts-done : (from + 1 + i < length s → digit (get_or s (from + 1 + i) 0) ≡ true → left ≡ 0)
+      → NumberTo v s from (record { at = from + 1 + i; value = n })
+  counts-done stop =
+      record {
         later = omega arith;
-        within = h;
-        small = omega arith;
-        goes = λ w q c t r. break-on v s from ok _ _ _ _ _ _ e r;
-      })
+        within = h.within;
+        small = omega (arith, h.below, tens-mono (v.digits - left) 10 (omega (arith, h.limits.ten)));
+        goes = λ w q c t r. full v s w q c t left n (from + 1 + i) (h.goes w q c t r) stop;
+      }
 
-pub number-on : (v : Version) (s : List ℕ) (from : ℕ) (ok : Bool) (r : Numeral) → not ok ≡ false
-    → NumberOn v s from true r → NumberOn v s from ok r
-number-on v s from ok r e h = subst (λ (x : Bool). NumberOn v s from x r) (sym (not-false ok e)) h
+  pub counts-other : (x : Bool) → i < length (rest s from) → x ≡ is_ascii_digit (get_or (rest s from) i 0) → x ≡ false
+      → NumberTo v s from (record { at = from + 1 + i; value = n })
+  counts-other x turn is e = counts-done (λ r d. absurd (true≢false (sym d ∙ ap digit (sym (rest-byte s from i turn))
+      ∙ sym (ascii-digit _) ∙ sym is ∙ e)))
+
+  pub counts-full : left ≡ 0 → NumberTo v s from (record { at = from + 1 + i; value = n })
+  counts-full none = counts-done (λ r d. none)
+
+  pub counts-over : length (rest s from) ≤ i → NumberTo v s from (record { at = length s; value = n })
+  counts-over over =
+      let end : from + 1 + i ≡ length s = omega (arith, h.within, length-take {A = ℕ}, length-drop {A = ℕ}) in
+      subst (λ (k : ℕ). NumberTo v s from (record { at = k; value = n })) end
+      (counts-done (λ r d. absurd (omega (arith, end, r))))
+
+-- ---- none begins there
+
+module _ (v : Version) (s : List ℕ) (from : ℕ) (within : from ≤ length s) where
+  pub number-over : length s ≤ from → NumberBreaks v s from from
+  unfolding at_end
+  number-over over = record {
+    later = omega arith;
+    within = within;
+    goes = λ w q c t h. bytes-over v s from (Digit w q) c t h over refl;
+  }
+
+  pub number-other : (b : ℕ) (x : Bool) → from < length s → b ≡ get_or s from b → x ≡ is_ascii_digit b → x ≡ false
+      → NumberBreaks v s from from
+  number-other b x room here is e =
+      let byte = get_or_read s from b room here 0 in
+      let d : digit (get_or s from 0) ≡ false = ap digit (sym byte) ∙ sym (ascii-digit b) ∙ sym is ∙ e in
+      record {
+        later = omega arith;
+        within = within;
+        goes = λ w q c t h. no_digit v s from room w q c t h d;
+      }

@@ -1,7 +1,7 @@
 -- A fixed text's bytes: reading goes on along its points, and breaks at the first byte that is not its own.
 -- Assumes nothing.
 use mathlib.Core.Path.{◌≡◌, refl, sym, ap, ◌∙◌, subst}
-use mathlib.Core.Bool.{Bool, true, false, not, false≢true}
+use mathlib.Core.Bool.{Bool, true, false, false≢true}
 use mathlib.Core.List.{List, [], ◌∷◌}
 use Prim.Native.Nat.{ℕ, zero, suc, ◌+◌, ◌*◌, ◌-◌, ◌≤◌, ◌<◌}
 use native.Mathlib.Omega.{arith}
@@ -10,15 +10,14 @@ use mir.Syntax.{w8}
 use mir.Val.{Fits}
 use lib.Dec.{ltb}
 use lib.ListN.{length, drop, get_or}
-use borrow.Author.Tests.{ltb-true, ltb-false, not-false}
+use borrow.Author.Tests.{ltb-true, ltb-false}
 use Rattle.version.specs.declared.Version.{Version}
 use Rattle.layout.specs.Text.{Lines}
 use Rattle.layout.specs.Points.{alive, next}
 use Rattle.layout.specs.Parse.{Line, took, keep, run}
 use Rattle.layout.specs.declared.Point.{Point}
-use Rattle.tokens.specs.inner.Tokens.{Reading, Broken, Reached, Spells, TextOn, Agrees, Agreeing, four}
-use Rattle.tokens.specs.declared.Cursor.{Cursor}
-use Rattle.tokens.proofs.Bytes.{byte-on, byte-stuck, bytes-over, break-on}
+use Rattle.tokens.specs.inner.Tokens.{Reading, Breaks, Spells, TextTo, TextBreaks, Agrees, Agreeing, four}
+use Rattle.tokens.proofs.Bytes.{byte-on, byte-stuck, bytes-over}
 
 shifted : (s : List ℕ) (from b n : ℕ) (w : List ℕ) → Agrees s from (b ∷ w) (n + 1) → Agrees s (from + 1) w n
 shifted s from b n w h j r = ap (λ (x : ℕ). get_or s x 0) (omega arith) ∙ h (j + 1) (omega (arith, r))
@@ -52,14 +51,14 @@ spells-on v s (b ∷ w) i p c t q d u way h r at =
 
 spells-break : (v : Version) (s : List ℕ) (w : List ℕ) (i n : ℕ) (p : Point) (c : Line) (t : Lines) (q : Point)
     (d : Line) (u : Lines) → Spells v s i p c t w q d u → n < length w → Agrees s i w n → i + n ≤ length s
-    → (i + n < length s → get_or s (i + n) 0 ≡ get_or w n 0 → ⊥) → Reading v s i p c t → Broken v s (i + n)
+    → (i + n < length s → get_or s (i + n) 0 ≡ get_or w n 0 → ⊥) → Reading v s i p c t → Breaks v s (i + n)
 unfolding Spells
 spells-break v s [] i n p c t q d u way r h le far at = absurd (omega (arith, r))
 spells-break v s (b ∷ w) i zero p c t q d u way r h le far at =
     let e : i ≡ i + 0 = omega arith in
-    subst (λ (x : ℕ). Broken v s x) e (by-room (ltb i (length s)) refl)
+    subst (λ (x : ℕ). Breaks v s x) e (by-room (ltb i (length s)) refl)
   where
-    by-room : (x : Bool) → ltb i (length s) ≡ x → Broken v s i
+    by-room : (x : Bool) → ltb i (length s) ≡ x → Breaks v s i
     by-room true x =
         let room = ltb-true i (length s) x in
         byte-stuck v s i p c t at room (way.1.0
@@ -70,7 +69,7 @@ spells-break v s (b ∷ w) i (suc n) p c t q d u way r h le far at =
     let is = first_byte s i b n w h' in
     let room : i < length s = omega (arith, le) in
     let e : i + 1 + n ≡ i + suc n = omega arith in
-    subst (λ (x : ℕ). Broken v s x) e
+    subst (λ (x : ℕ). Breaks v s x) e
     (spells-break v s w (i + 1) n (next v p b) (took p b c) (keep p c t) q d u (way.1.1.1 is) (omega (arith, r))
     (shifted s i b n w h') (omega (arith, le))
     (λ x y. far (omega (arith, x)) (ap (λ (m : ℕ). get_or s m 0) (omega arith) ∙ y))
@@ -103,38 +102,32 @@ agreed-step s from w i h r q e = record { short = omega (arith, r); within = ome
             ∙ ap (λ (u : ℕ). get_or w u 0) (sym z)
 
 pub agreed-done : (s : List ℕ) (from : ℕ) (w : List ℕ) (i : ℕ) → Agreed s from w i → length w ≤ i
-    → TextOn s from true w (record { at = from + i; ok = true })
-unfolding Reached
+    → TextTo s from w (from + length w)
 agreed-done s from w i h r =
-    let e : length w ≡ i = omega (arith, r, h.short) in
+    let e : i ≡ length w = omega (arith, r, h.short) in
+    let within : from + length w ≤ length s = omega (arith, e, h.within) in
     record {
-      later = omega arith;
-      past = λ _. omega (arith, r);
-      within = h.within;
+      past = omega arith;
+      within = within;
       goes = λ v p c t q d u way at.
-          subst (λ (x : ℕ). Reading v s (from + x) q d u) e
-          (spells-on v s w from p c t q d u way (subst (λ (x : ℕ). Agrees s from w x) (sym e) h.agrees)
-          (omega (arith, e, h.within)) at);
+          spells-on v s w from p c t q d u way (subst (λ (x : ℕ). Agrees s from w x) e h.agrees) within at;
     }
 
 text-breaks : (s : List ℕ) (from : ℕ) (w : List ℕ) (i : ℕ) → Agreed s from w i → i < length w
-    → (from + i < length s → get_or s (from + i) 0 ≡ get_or w i 0 → ⊥)
-    → TextOn s from true w (record { at = from + i; ok = false })
-unfolding Reached
+    → (from + i < length s → get_or s (from + i) 0 ≡ get_or w i 0 → ⊥) → TextBreaks s from w (from + i)
 text-breaks s from w i h r far =
     record {
       later = omega arith;
-      past = λ e. absurd (false≢true e);
       within = h.within;
       goes = λ v p c t q d u way at. spells-break v s w from i p c t q d u way r h.agrees h.within far at;
     }
 
 pub text-over : (s : List ℕ) (from : ℕ) (w : List ℕ) (i : ℕ) → Agreed s from w i → i < length w → length s - from ≤ i
-    → TextOn s from true w (record { at = from + i; ok = false })
+    → TextBreaks s from w (from + i)
 text-over s from w i h r over = text-breaks s from w i h r (λ x. absurd (omega (arith, x, over)))
 
 pub text-other : (s : List ℕ) (from : ℕ) (w : List ℕ) (i : ℕ) → Agreed s from w i → i < length w
-    → (get_or s (from + i) 0 ≡ get_or w i 0 → ⊥) → TextOn s from true w (record { at = from + i; ok = false })
+    → (get_or s (from + i) 0 ≡ get_or w i 0 → ⊥) → TextBreaks s from w (from + i)
 text-other s from w i h r far = text-breaks s from w i h r (λ _. far)
 
 -- ---- four bytes at a time
@@ -187,23 +180,7 @@ agreeing-told s from w a b c d hs hw in-s some few room a-is b-is first c-is d-i
 pub agreeing-not : (s : List ℕ) (from : ℕ) (w : List ℕ) → Agreeing s from w false
 agreeing-not s from w = record { agrees = λ e. absurd (false≢true e); within = λ e. absurd (false≢true e) }
 
--- ---- whether or not the layout holds to there
-
-pub text-passes : (s : List ℕ) (from : ℕ) (ok : Bool) (w : List ℕ) → from ≤ length s → not ok ≡ true
-    → TextOn s from ok w (record { at = from; ok = false })
-text-passes s from ok w h e = record {
-  later = omega arith;
-  past = λ z. absurd (false≢true z);
-  within = h;
-  goes = λ v p c t q d u way r. break-on v s from ok _ _ _ _ _ _ e r;
-}
-
-pub text-on : (s : List ℕ) (from : ℕ) (ok : Bool) (w : List ℕ) (r : Cursor) → not ok ≡ false → TextOn s from true w r
-    → TextOn s from ok w r
-text-on s from ok w r e h = subst (λ (x : Bool). TextOn s from x w r) (sym (not-false ok e)) h
-
-pub text-told : (s : List ℕ) (from : ℕ) (ok : Bool) (w : List ℕ) (x : Bool) → not ok ≡ false → Agreeing s from w x
-    → x ≡ true → TextOn s from ok w (record { at = from + length w; ok = true })
-text-told s from ok w x g h e = text-on s from ok w _ g
-    (agreed-done s from w (length w) (record { short = omega arith; within = h.within e; agrees = h.agrees e })
-    (omega arith))
+pub text-told : (s : List ℕ) (from : ℕ) (w : List ℕ) (x : Bool) → Agreeing s from w x → x ≡ true
+    → TextTo s from w (from + length w)
+text-told s from w x h e = agreed-done s from w (length w)
+    (record { short = omega arith; within = h.within e; agrees = h.agrees e }) (omega arith)

@@ -1,22 +1,20 @@
-// The tokens of a sheet's lines: fixed texts, numbers, lists. Each reader takes a place and whether the layout holds to
-// there, and passes a break on, so that a line is straight code with one test at its end.
+// The tokens of a sheet's lines: fixed texts, numbers, lists. Each reader takes a place, and answers the place past its
+// token or where the layout breaks, so that a line is straight code.
 #![tactic(auto)]
 
 pub mod lists;
 pub mod numbers;
 pub mod texts;
 
-// A place in the bytes, and whether the layout holds to there; where it does not, the place is the byte that breaks it.
-#[derive(Clone, Copy)]
-pub struct Cursor {
+// The layout breaks: the byte that breaks it.
+#[derive(Clone, Copy, Debug, PartialEq, Eq)]
+pub struct Broken {
     pub at: usize,
-    pub ok: bool,
 }
 
 #[derive(Clone, Copy)]
 pub struct Numeral {
     pub at: usize,
-    pub ok: bool,
     pub value: u64,
 }
 
@@ -33,6 +31,5 @@ pub struct Entries {
 #[derive(Clone, Copy)]
 pub struct Listed {
     pub at: usize,
-    pub ok: bool,
     pub entries: Entries,
 }

@@ -1,87 +1,43 @@
 // Numbers: one digit to as many as the version allows, nothing after a leading 0.
-ghost use Rattle.std.specs.Prelude.{◌≡◌, true, ◌-◌, ◌≤◌, length};
+ghost use Rattle.std.specs.Prelude.{◌≤◌, length};
 ghost use Rattle.version.specs.Limits.{Limits};
-ghost use Rattle.layout.specs.Points.{digit};
-ghost use Rattle.tokens.specs.inner.Tokens.{no_number, number_to, NumberOn};
+ghost use Rattle.tokens.specs.inner.Tokens.{NumberOn};
 
-use crate::Numeral;
+use crate::{Broken, Numeral};
 use version::Version;
 
-// 0 to 9
-fn digit(b: u8) -> bool
-    ensures { result ≡ digit b }
-{
-    b'0' <= b && b <= b'9'
-}
-
-// The value of a digit's byte.
-fn value(b: u8) -> u64
-    ensures { result ≡ b - 48 }
-{
-    if b'0' <= b { b as u64 - 48 } else { 0 }
-}
-
-fn none(at: usize) -> Numeral
-    ensures { result ≡ no_number at }
-{
-    Numeral {
-        at,
-        ok: false,
-        value: 0,
-    }
-}
-
-fn ended(at: usize, value: u64) -> Numeral
-    ensures { result ≡ number_to at value }
-{
-    Numeral {
-        at,
-        ok: true,
-        value,
-    }
-}
-
-pub(crate) fn digits(v: Version, s: &[u8], from: usize) -> Numeral
+pub fn number(v: Version, s: &[u8], from: usize) -> Result<Numeral, Broken>
     requires limits { Limits v }
     requires from_in_bounds { from ≤ length s.now }
-    ensures { NumberOn v s.now from true result }
+    ensures { NumberOn v s.now from result }
 {
-    if s.len() <= from {
-        return none(from);
+    let Some(&b) = s.get(from) else {
+        return Err(Broken { at: from });
+    };
+    if !b.is_ascii_digit() {
+        return Err(Broken { at: from });
     }
-    let b = s[from];
-    if !digit(b) {
-        return none(from);
-    }
-    let mut n = value(b);
-    let mut i = from + 1;
+    let mut n = u64::from(b - b'0');
     if b == b'0' {
-        return ended(i, n);
+        return Ok(Numeral {
+            at: from + 1,
+            value: n,
+        });
     }
     // how many digits may follow
     let mut left = v.digits - 1;
-    while i < s.len() {
-        let c = s[i];
-        if !digit(c) {
-            return ended(i, n);
-        }
-        if left == 0 {
-            return ended(i, n);
+    for (i, c) in s[from + 1..].iter().enumerate() {
+        if !c.is_ascii_digit() || left == 0 {
+            return Ok(Numeral {
+                at: from + 1 + i,
+                value: n,
+            });
         }
         left -= 1;
-        n = n * 10 + value(c);
-        i += 1;
+        n = n * 10 + u64::from(c - b'0');
     }
-    ended(i, n)
-}
-
-pub fn number(v: Version, s: &[u8], from: usize, ok: bool) -> Numeral
-    requires limits { Limits v }
-    requires from_in_bounds { from ≤ length s.now }
-    ensures { NumberOn v s.now from ok result }
-{
-    if !ok {
-        return none(from);
-    }
-    digits(v, s, from)
+    Ok(Numeral {
+        at: s.len(),
+        value: n,
+    })
 }

@@ -1,8 +1,8 @@
 // The fixed texts of the lines. Their letters stand in the one table of words.
-ghost use Rattle.std.specs.Prelude.{◌≡◌, true, ◌+◌, ◌≤◌, ◌<◌, length};
+ghost use Rattle.std.specs.Prelude.{◌≡◌, ◌+◌, ◌≤◌, length};
 ghost use Rattle.tokens.specs.inner.Tokens.{four, Agreeing, TextOn};
 
-use crate::Cursor;
+use crate::Broken;
 use layout::words::TABLE;
 
 pub const OLD: [u8; 5] = [b'(', TABLE[1], TABLE[2], TABLE[3], b' '];
@@ -32,36 +32,16 @@ pub const CLOTH: [u8; 8] = [
 pub const END: [u8; 2] = [b')', b'\n'];
 
 // Byte by byte, as long as they agree.
-fn agreeing(s: &[u8], from: usize, w: &[u8]) -> Cursor
+fn agreeing(s: &[u8], from: usize, w: &[u8]) -> Result<usize, Broken>
     requires { from ≤ length s.now }
-    ensures { TextOn s.now from true w.now result }
+    ensures { TextOn s.now from w.now result }
 {
-    let mut i = 0;
-    while i < w.len() {
-        if s.len() - from <= i {
-            return Cursor {
-                at: from + i,
-                ok: false,
-            };
+    for (i, b) in w.iter().enumerate() {
+        if s.len() - from <= i || s[from + i] != *b {
+            return Err(Broken { at: from + i });
         }
-        if s[from + i] != w[i] {
-            return Cursor {
-                at: from + i,
-                ok: false,
-            };
-        }
-        i += 1;
     }
-    Cursor {
-        at: from + i,
-        ok: true,
-    }
-}
-
-fn wide(b: u8) -> u32
-    ensures { (result ≡ b) × (result < 256) }
-{
-    b as u32
+    Ok(from + w.len())
 }
 
 // Four bytes as one number, the first lowest.
@@ -69,11 +49,7 @@ fn four(s: &[u8], at: usize) -> u32
     requires { at + 4 ≤ length s.now }
     ensures { result ≡ four s.now at }
 {
-    let a = wide(s[at]);
-    let b = wide(s[at + 1]);
-    let c = wide(s[at + 2]);
-    let d = wide(s[at + 3]);
-    a + b * 256 + c * 65536 + d * 16777216
+    u32::from_le_bytes([s[at], s[at + 1], s[at + 2], s[at + 3]])
 }
 
 // A text of four to eight bytes stands there, by its first four and its last four.
@@ -100,21 +76,14 @@ fn stands(s: &[u8], from: usize, w: &[u8]) -> bool
     true
 }
 
-pub fn text(s: &[u8], from: usize, ok: bool, w: &[u8]) -> Cursor
+// Inlined: where the text is known, it is compared as two numbers.
+#[inline(always)]
+pub fn text(s: &[u8], from: usize, w: &[u8]) -> Result<usize, Broken>
     requires { from ≤ length s.now }
-    ensures { TextOn s.now from ok w.now result }
+    ensures { TextOn s.now from w.now result }
 {
-    if !ok {
-        return Cursor {
-            at: from,
-            ok: false,
-        };
-    }
     if stands(s, from, w) {
-        return Cursor {
-            at: from + w.len(),
-            ok: true,
-        };
+        return Ok(from + w.len());
     }
     agreeing(s, from, w)
 }

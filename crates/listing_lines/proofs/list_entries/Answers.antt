@@ -12,14 +12,14 @@ room : (l : List ℕ) (i : ℕ) {o u o₀ : List ℕ} {n n₀ : ℕ} → Left (o
     → Room (entry (get_or l i 0)) o n
 room = list-room entry
 
-pub loop-i-init : goal.loop-i-init
-loop-i-init c = (search rules, (search rules, search (rules, left-start)))
+pub loop-n-init : goal.loop-n-init
+loop-n-init c = (search rules, search (rules, left-start))
 
 pub entry-end-requires : goal.entry-end-requires
 entry-end-requires c = search (rules, room)
 
-pub loop-i-preserved : goal.loop-i-preserved
-loop-i-preserved c = (search rules, (search rules, search (rules, list-turn)))
+pub loop-n-preserved : goal.loop-n-preserved
+loop-n-preserved c = (search rules, search (rules, list-turn))
 
 pub returns : goal.returns
 returns c = search (rules, list-end)

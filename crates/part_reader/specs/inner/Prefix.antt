@@ -1,6 +1,5 @@
 -- The lines so far: where reading stands between two lines, and what the lines before gave.
-use Rattle.std.specs.Prelude.{◌≡◌, Bool, true, false, List, [], ◌∷◌, ℕ, ◌+◌, ◌≤◌, length, get_or, replicate}
-use Rattle.refusal.specs.Rows.{pass}
+use Rattle.std.specs.Prelude.{◌≡◌, true, List, [], ◌∷◌, ℕ, ◌+◌, ◌≤◌, length, get_or, replicate, Result, Ok, Err}
 use Rattle.refusal.specs.declared.Outcome.{Outcome}
 use Rattle.route.specs.Steps.{blank}
 use Rattle.route.specs.declared.Step.{Step}
@@ -14,7 +13,8 @@ use Rattle.layout.specs.declared.Point.TheVariants.{Open}
 use Rattle.facts.specs.Facts.{State, failed, settled, headed, with_old, with_new, old_head, new_head, job_head, done_in}
 use Rattle.facts.specs.Facts.{step_in, more, nothing}
 use Rattle.facts.specs.declared.Sheet.{Sheet}
-use Rattle.tokens.specs.inner.Tokens.{Reading, Broken}
+use Rattle.tokens.specs.inner.Tokens.{Reading, Breaks}
+use Rattle.tokens.specs.declared.Broken.{Broken}
 use Rattle.line_reader.specs.inner.Lines.{has_steps}
 use Rattle.part_reader.specs.declared.Pass.{Pass}
 use Rattle.part_reader.specs.declared.Head.{Head}
@@ -53,21 +53,14 @@ pub record Prefix (v : Version) (s : List ℕ) (i : ℕ) (q : Part) (k : State) 
   pub reading : Reading v s i (Open q) no_line lines
   pub state : state_of v q lines ≡ k
 
-unfoldable pub Upto : Version → List ℕ → ℕ → Bool → Part → State → Type 0
-Upto v s i true q k = Prefix v s i q k
-Upto v s i false q k = Broken v s i
-
 -- that many lines, their outcome, and their facts where none is refused
 abbrev pub passed : ℕ → Outcome → Sheet → State
 passed n o z = record { lines = n; sheet = settled o z }
 
-abbrev pub broken_at : ℕ → Pass
-broken_at at = record { at = at; ok = false; lines = 0; outcome = pass }
-
 -- there are no more lines than bytes
 pub record Placed (s : List ℕ) (p : Pass) : Type 0 where
   pub within : p.at ≤ length s
-  pub few : p.ok ≡ true → p.lines ≤ p.at
+  pub few : p.lines ≤ p.at
 
 -- ---- the heads
 
@@ -78,25 +71,42 @@ NoStep s i = get_or s (i + 1) 0 ≡ 115 → ⊥
 abbrev pub bare : ℕ → Route
 bare n = record { places = n; len = 0; steps = replicate 64 blank }
 
-pub record OldOn (v : Version) (s : List ℕ) (r : Head) : Type 0 where
+pub record OldTo (v : Version) (s : List ℕ) (r : Head) : Type 0 where
   pub placed : Placed s r.pass
   pub fits : r.pass.outcome.number ≡ 0 → r.places ≤ 64
-  pub goes : Upto v s r.pass.at r.pass.ok OldRoute
+  pub goes : Prefix v s r.pass.at OldRoute
       (passed r.pass.lines r.pass.outcome (with_old (bare r.places) (failed 0 0)))
 
-pub record NewOn (v : Version) (s : List ℕ) (p : Pass) (above : ℕ) (r : Head) : Type 0 where
+abbrev pub OldOn : Version → List ℕ → Result Head Broken → Type 0
+OldOn v s (Ok r) = OldTo v s r
+OldOn v s (Err e) = Breaks v s e.at
+
+pub record NewTo (v : Version) (s : List ℕ) (p : Pass) (above : ℕ) (r : Head) : Type 0 where
   pub placed : Placed s r.pass
   pub fits : r.pass.outcome.number ≡ 0 → r.places ≤ 64
-  pub goes : (z : Sheet) → z.number ≡ 0 → z.old.len ≡ above → (p.ok ≡ true → NoStep s p.at)
-      → Upto v s p.at p.ok OldRoute (passed p.lines p.outcome z)
-      → Upto v s r.pass.at r.pass.ok NewRoute
+  pub goes : (z : Sheet) → z.number ≡ 0 → z.old.len ≡ above → NoStep s p.at
+      → Prefix v s p.at OldRoute (passed p.lines p.outcome z)
+      → Prefix v s r.pass.at NewRoute
       (passed r.pass.lines r.pass.outcome (with_new (headed r.places z.new) z))
 
-pub record JobOn (s : List ℕ) (p : Pass) (above : ℕ) (r : Pass) : Type 0 where
+-- below the steps of the part q a head's line breaks, whatever the lines gave
+pub record HeadBreaks (v : Version) (s : List ℕ) (p : Pass) (q : Part) (at : ℕ) : Type 0 where
+  pub within : at ≤ length s
+  pub goes : (k : State) → NoStep s p.at → Prefix v s p.at q k → Breaks v s at
+
+abbrev pub NewOn : Version → List ℕ → Pass → ℕ → Result Head Broken → Type 0
+NewOn v s p above (Ok r) = NewTo v s p above r
+NewOn v s p above (Err e) = HeadBreaks v s p OldRoute e.at
+
+pub record JobTo (s : List ℕ) (p : Pass) (above : ℕ) (r : Pass) : Type 0 where
   pub placed : Placed s r
-  pub goes : (v : Version) (z : Sheet) → z.number ≡ 0 → z.new.len ≡ above → (p.ok ≡ true → NoStep s p.at)
-      → Upto v s p.at p.ok NewRoute (passed p.lines p.outcome z)
-      → Upto v s r.at r.ok JobPart (passed r.lines r.outcome z)
+  pub goes : (v : Version) (z : Sheet) → z.number ≡ 0 → z.new.len ≡ above → NoStep s p.at
+      → Prefix v s p.at NewRoute (passed p.lines p.outcome z)
+      → Prefix v s r.at JobPart (passed r.lines r.outcome z)
+
+abbrev pub JobOn : List ℕ → Pass → ℕ → Result Pass Broken → Type 0
+JobOn s p above (Ok r) = JobTo s p above r
+JobOn s p above (Err e) = (v : Version) → HeadBreaks v s p NewRoute e.at
 
 -- ---- steps and done names
 
@@ -105,14 +115,23 @@ with_route OldRoute r z = with_old r z
 with_route NewRoute r z = with_new r z
 with_route JobPart r z = z
 
-pub record StepsOn (v : Version) (s : List ℕ) (p : Pass) (places : ℕ) (r : Filled) (list : List Step) : Type 0 where
+pub record StepsTo (v : Version) (s : List ℕ) (p : Pass) (places : ℕ) (r : Filled) (list : List Step) : Type 0 where
   pub placed : Placed s r.pass
   pub few : r.len ≤ 64
-  pub over : r.pass.ok ≡ true → NoStep s r.pass.at
+  pub over : NoStep s r.pass.at
   pub goes : (q : Part) (z : Sheet) → has_steps q ≡ true → z.number ≡ 0
-      → Upto v s p.at p.ok q (passed p.lines p.outcome (with_route q (bare places) z))
-      → Upto v s r.pass.at r.pass.ok q (passed r.pass.lines r.pass.outcome
+      → Prefix v s p.at q (passed p.lines p.outcome (with_route q (bare places) z))
+      → Prefix v s r.pass.at q (passed r.pass.lines r.pass.outcome
       (with_route q (record { places = places; len = r.len; steps = list }) z))
+
+pub record StepsBreak (v : Version) (s : List ℕ) (p : Pass) (places at : ℕ) : Type 0 where
+  pub within : at ≤ length s
+  pub goes : (q : Part) (z : Sheet) → has_steps q ≡ true → z.number ≡ 0
+      → Prefix v s p.at q (passed p.lines p.outcome (with_route q (bare places) z)) → Breaks v s at
+
+abbrev pub StepsOn : Version → List ℕ → Pass → ℕ → Result Filled Broken → List Step → Type 0
+StepsOn v s p places (Ok r) list = StepsTo v s p places r list
+StepsOn v s p places (Err e) list = StepsBreak v s p places e.at
 
 abbrev pub with_dones : ℕ → List ℕ → Sheet → Sheet
 with_dones n l z = record {
@@ -124,11 +143,18 @@ with_dones n l z = record {
   done = l;
 }
 
-pub record DonesOn (v : Version) (s : List ℕ) (p : Pass) (r : Filled) (before after : List ℕ) : Type 0 where
+pub record DonesTo (v : Version) (s : List ℕ) (p : Pass) (r : Filled) (before after : List ℕ) : Type 0 where
   pub within : r.pass.at ≤ length s
   pub few : r.len ≤ 64
-  pub all : r.pass.ok ≡ true → length s ≤ r.pass.at
-  pub goes : (z : Sheet) → z.number ≡ 0 → Upto v s p.at p.ok JobPart
-      (passed p.lines p.outcome (with_dones 0 before z))
-      → Upto v s r.pass.at r.pass.ok JobPart
-      (passed r.pass.lines r.pass.outcome (with_dones r.len after z))
+  pub all : length s ≤ r.pass.at
+  pub goes : (z : Sheet) → z.number ≡ 0 → Prefix v s p.at JobPart (passed p.lines p.outcome (with_dones 0 before z))
+      → Prefix v s r.pass.at JobPart (passed r.pass.lines r.pass.outcome (with_dones r.len after z))
+
+pub record DonesBreak (v : Version) (s : List ℕ) (p : Pass) (before : List ℕ) (at : ℕ) : Type 0 where
+  pub within : at ≤ length s
+  pub goes : (z : Sheet) → z.number ≡ 0 → Prefix v s p.at JobPart (passed p.lines p.outcome (with_dones 0 before z))
+      → Breaks v s at
+
+abbrev pub DonesOn : Version → List ℕ → Pass → Result Filled Broken → List ℕ → List ℕ → Type 0
+DonesOn v s p (Ok r) before after = DonesTo v s p r before after
+DonesOn v s p (Err e) before after = DonesBreak v s p before e.at

@@ -1,11 +1,12 @@
 -- What reading into lent lists tells.
-use Rattle.std.specs.Prelude.{◌≡◌, List, ℕ, ◌≤◌}
+use Rattle.std.specs.Prelude.{◌≡◌, List, ℕ, ◌≤◌, Result, Ok, Err}
 use Rattle.flat.specs.Flat.{steps_in}
 use Rattle.route.specs.declared.Step.{Step}
 use Rattle.route.specs.declared.Route.{Route}
 use Rattle.version.specs.Limits.{present}
 use Rattle.version.specs.declared.Version.{Version}
 use Rattle.facts.specs.Facts.{failed, read_by}
+use Rattle.tokens.specs.declared.Broken.{Broken}
 use Rattle.reader.specs.declared.Counts.{Counts}
 
 -- the counts are those of the sheet's facts, and where it reads, the lists hold its steps and its done names, 64
@@ -26,6 +27,11 @@ pub record ReadInto (v : Version) (s : List ℕ) (r : Counts) (old new done : Li
   pub old-steps : r.number ≡ 0 → steps_in old ≡ (read_by v s).old.steps
   pub new-steps : r.number ≡ 0 → steps_in new ≡ (read_by v s).new.steps
   pub done-names : r.number ≡ 0 → done ≡ (read_by v s).done
+
+-- where the layout breaks, the sheet is refused by row 1 at that byte
+abbrev pub PartsInto : Version → List ℕ → Result Counts Broken → List ℕ → List ℕ → List ℕ → Type 0
+PartsInto v s (Ok r) old new done = ReadInto v s r old new done
+PartsInto v s (Err e) old new done = read_by v s ≡ failed 1 e.at
 
 -- by the present version
 abbrev pub ReadTo : List ℕ → Counts → List ℕ → List ℕ → List ℕ → Type 0

@@ -1,5 +1,5 @@
 -- What the readers of tokens tell, over the reading of a sheet from point to point.
-use Rattle.std.specs.Prelude.{◌≡◌, Bool, true, false, cond, List, [], ◌∷◌, ℕ, ◌+◌, ◌*◌, ◌%◌, ◌^◌, ◌≤◌, ◌<◌, ltb, length, drop, get_or}
+use Rattle.std.specs.Prelude.{◌≡◌, Bool, true, false, cond, List, [], ◌∷◌, ℕ, ◌+◌, ◌*◌, ◌%◌, ◌^◌, ◌≤◌, ◌<◌, ltb, length, drop, get_or, Result, Ok, Err}
 use Rattle.std.specs.Int.Bits.{bit_or}
 use Rattle.mask.specs.Mask.{bit}
 use Rattle.version.specs.declared.Version.{Version}
@@ -12,7 +12,7 @@ use Rattle.layout.specs.declared.Word.TheVariants.{Old, New, Job, Done, Step, In
 use Rattle.layout.specs.declared.Part.{Part}
 use Rattle.layout.specs.declared.Point.{Point}
 use Rattle.layout.specs.declared.Point.TheVariants.{Past, Digit, Digits, Closed, Stuck}
-use Rattle.tokens.specs.declared.Cursor.{Cursor}
+use Rattle.tokens.specs.declared.Broken.{Broken}
 use Rattle.tokens.specs.declared.Numeral.{Numeral}
 use Rattle.tokens.specs.declared.Entries.{Entries}
 use Rattle.tokens.specs.declared.Listed.{Listed}
@@ -23,14 +23,9 @@ pub record Reading (v : Version) (s : List ℕ) (i : ℕ) (p : Point) (c : Line)
   pub same : parse v s ≡ run v p c t (drop i s)
 
 -- no sheet goes on so from the byte i
-pub record Broken (v : Version) (s : List ℕ) (i : ℕ) : Type 0 where
+pub record Breaks (v : Version) (s : List ℕ) (i : ℕ) : Type 0 where
   pub within : i ≤ length s
   pub same : parse v s ≡ Parsed.broken (drop i s)
-
--- the one where the layout holds, the other where it does not
-unfoldable pub Reached : Version → List ℕ → ℕ → Bool → Point → Line → Lines → Type 0
-Reached v s i true p c t = Reading v s i p c t
-Reached v s i false p c t = Broken v s i
 
 -- ---- a fixed text
 
@@ -43,12 +38,23 @@ Spells v s i p c t (b ∷ w) q d u =
     × ((length s ≤ i → at_end p t ≡ Parsed.broken [])
     × (get_or s i 0 ≡ b → Spells v s (i + 1) (next v p b) (took p b c) (keep p c t) w q d u)))
 
-pub record TextOn (s : List ℕ) (from : ℕ) (ok : Bool) (w : List ℕ) (r : Cursor) : Type 0 where
-  pub later : from ≤ r.at
-  pub past : r.ok ≡ true → from + length w ≤ r.at
-  pub within : r.at ≤ length s
+-- past the text
+pub record TextTo (s : List ℕ) (from : ℕ) (w : List ℕ) (at : ℕ) : Type 0 where
+  pub past : from + length w ≤ at
+  pub within : at ≤ length s
   pub goes : (v : Version) (p : Point) (c : Line) (t : Lines) (q : Point) (d : Line) (u : Lines)
-      → Spells v s from p c t w q d u → Reached v s from ok p c t → Reached v s r.at r.ok q d u
+      → Spells v s from p c t w q d u → Reading v s from p c t → Reading v s at q d u
+
+-- at the first byte that is not the text's
+pub record TextBreaks (s : List ℕ) (from : ℕ) (w : List ℕ) (at : ℕ) : Type 0 where
+  pub later : from ≤ at
+  pub within : at ≤ length s
+  pub goes : (v : Version) (p : Point) (c : Line) (t : Lines) (q : Point) (d : Line) (u : Lines)
+      → Spells v s from p c t w q d u → Reading v s from p c t → Breaks v s at
+
+abbrev pub TextOn : List ℕ → ℕ → List ℕ → Result ℕ Broken → Type 0
+TextOn s from w (Ok at) = TextTo s from w at
+TextOn s from w (Err e) = TextBreaks s from w e.at
 
 -- the first n bytes from there are those of the text
 abbrev pub Agrees : List ℕ → ℕ → List ℕ → ℕ → Type 0
@@ -65,18 +71,21 @@ four s at = get_or s at 0 + get_or s (at + 1) 0 * 256 + get_or s (at + 2) 0 * 65
 
 -- ---- a number: past it, whatever its word, as where no digit may follow
 
-abbrev pub no_number : ℕ → Numeral
-no_number at = record { at = at; ok = false; value = 0 }
+pub record NumberTo (v : Version) (s : List ℕ) (from : ℕ) (n : Numeral) : Type 0 where
+  pub later : from ≤ n.at
+  pub within : n.at ≤ length s
+  pub small : n.value < 10 ^ 10
+  pub goes : (w : Word) (q : Part) (c : Line) (t : Lines) → Reading v s from (Digit w q) c t
+      → Reading v s n.at (Digits w q 0) (with_num n.value c) t
 
-abbrev pub number_to : ℕ → ℕ → Numeral
-number_to at n = record { at = at; ok = true; value = n }
+pub record NumberBreaks (v : Version) (s : List ℕ) (from at : ℕ) : Type 0 where
+  pub later : from ≤ at
+  pub within : at ≤ length s
+  pub goes : (w : Word) (q : Part) (c : Line) (t : Lines) → Reading v s from (Digit w q) c t → Breaks v s at
 
-pub record NumberOn (v : Version) (s : List ℕ) (from : ℕ) (ok : Bool) (r : Numeral) : Type 0 where
-  pub later : from ≤ r.at
-  pub within : r.at ≤ length s
-  pub small : r.value < 10 ^ 10
-  pub goes : (w : Word) (q : Part) (c : Line) (t : Lines) → Reached v s from ok (Digit w q) c t
-      → Reached v s r.at r.ok (Digits w q 0) (with_num r.value c) t
+abbrev pub NumberOn : Version → List ℕ → ℕ → Result Numeral Broken → Type 0
+NumberOn v s from (Ok n) = NumberTo v s from n
+NumberOn v s from (Err e) = NumberBreaks v s from e.at
 
 -- ---- a list
 
@@ -111,10 +120,20 @@ unfoldable pub along : Entries → List ℕ → Entries
 along e [] = e
 along e (n ∷ l) = along (added n e) l
 
-pub record ListOn (v : Version) (s : List ℕ) (from : ℕ) (ok : Bool) (r : Listed) : Type 0 where
+pub record ListTo (v : Version) (s : List ℕ) (from : ℕ) (r : Listed) : Type 0 where
   pub later : from ≤ r.at
   pub within : r.at ≤ length s
   pub entries : List ℕ
   pub kept : r.entries ≡ along no_entries entries
-  pub goes : (w : Word) (q : Part) (c : Line) (t : Lines) → list_word w ≡ true → Reached v s from ok (Past w q) c t
-      → Reached v s r.at r.ok (Closed w q) (with_entries w entries c) t
+  pub goes : (w : Word) (q : Part) (c : Line) (t : Lines) → list_word w ≡ true → Reading v s from (Past w q) c t
+      → Reading v s r.at (Closed w q) (with_entries w entries c) t
+
+pub record ListBreaks (v : Version) (s : List ℕ) (from at : ℕ) : Type 0 where
+  pub later : from ≤ at
+  pub within : at ≤ length s
+  pub goes : (w : Word) (q : Part) (c : Line) (t : Lines) → list_word w ≡ true → Reading v s from (Past w q) c t
+      → Breaks v s at
+
+abbrev pub ListOn : Version → List ℕ → ℕ → Result Listed Broken → Type 0
+ListOn v s from (Ok r) = ListTo v s from r
+ListOn v s from (Err e) = ListBreaks v s from e.at

@@ -1,18 +1,19 @@
 -- `part_reader::parts::dones`: a name put away for each line that no row refuses.
 use native.Mathlib.Omega.{arith}
-use Rattle.part_reader.proofs.DoneLines.{named-init, named_past, named-row, named-name, done-room}
-use Rattle.part_reader.proofs.DoneLines.{done-line-fits, done-later, dones-passes, dones-break, dones-done}
 use borrow.Author.Rules.{rules}
+use Rattle.tokens.proofs.Bytes.{handed}
+use Rattle.part_reader.specs.inner.Prefix.{DonesOn}
+use Rattle.part_reader.proofs.DoneLines.{named-init, named_past, named-row, named-name, done-room}
+use Rattle.part_reader.proofs.DoneLines.{done-line-fits, done-later, dones-break, dones-done}
 use Rattle.part_reader.proofs.parts.dones.Goals as goal
-
-pub returns-then-not-p : goal.returns-then-not-p
-returns-then-not-p c = search (rules, dones-passes)
 
 pub loop-at-init : goal.loop-at-init
 loop-at-init c = search (rules, named-init)
 
-pub returns-then-not-n : goal.returns-then-not-n
-returns-then-not-n c = search (rules, dones-break)
+pub returns-in_err-n : goal.returns-in_err-n
+returns-in_err-n c =
+    handed (λ r. DonesOn c.args.v c.args.s.now c.args.p r c.args.list.now c.loop-at.list) _ _ c.from_residual.ensures.1
+    (dones-break _ _ _ _ _ _ _ _ _ c.loop-at.invariant _ c.loop-at-test.true c.in_err-n.ensures)
 
 pub overflow_add-lines : goal.overflow_add-lines
 overflow_add-lines c = search (rules, done-line-fits)
@@ -21,13 +22,16 @@ pub loop-at-smaller-then-outcome-ne0 : goal.loop-at-smaller-then-outcome-ne0
 loop-at-smaller-then-outcome-ne0 c = search (rules, done-later)
 
 pub loop-at-preserved-then-outcome-ne0 : goal.loop-at-preserved-then-outcome-ne0
-loop-at-preserved-then-outcome-ne0 c = search (rules, named_past)
+loop-at-preserved-then-outcome-ne0 c =
+    named_past _ _ _ _ _ _ _ _ _ _ _ c.loop-at.invariant c.loop-at-test.true _ c.in_ok-n.ensures c.if-outcome-ne0.true
 
 pub loop-at-smaller-then-outcome-ne0-2 : goal.loop-at-smaller-then-outcome-ne0-2
 loop-at-smaller-then-outcome-ne0-2 c = search (rules, done-later)
 
 pub loop-at-preserved-then-outcome-ne0-2 : goal.loop-at-preserved-then-outcome-ne0-2
-loop-at-preserved-then-outcome-ne0-2 c = search (rules, named-row)
+loop-at-preserved-then-outcome-ne0-2 c =
+    named-row _ _ _ _ _ _ _ _ _ _ _ c.loop-at.invariant c.loop-at-test.true _ c.in_ok-n.ensures
+    c.if-outcome-ne0.false _ c.done_row-outcome.ensures c.if-outcome-ne0-2.true
 
 pub bounds-list-len : goal.bounds-list-len
 bounds-list-len c =
@@ -40,7 +44,9 @@ pub loop-at-smaller : goal.loop-at-smaller
 loop-at-smaller c = search (rules, done-later)
 
 pub loop-at-preserved : goal.loop-at-preserved
-loop-at-preserved c = search (rules, named-name)
+loop-at-preserved c =
+    named-name _ _ _ _ _ _ _ _ _ _ _ c.loop-at.invariant c.loop-at-test.true _ c.in_ok-n.ensures
+    c.if-outcome-ne0.false _ c.done_row-outcome.ensures c.if-outcome-ne0-2.false
 
 pub returns : goal.returns
 returns c = search (rules, dones-done)

@@ -6,7 +6,7 @@ use Rattle.part_reader.proofs.parts.dones.Given as goal
 
 abbrev pub invariant-loop-at : goal.invariant-loop-at
 invariant-loop-at l =
-    Named l.v l.s l.initial.list l.list l.from l.initial.lines l.initial.outcome l.outcome l.lines l.at l.len
+    Named l.v l.s l.initial.list l.list l.initial.at l.initial.lines l.initial.outcome l.outcome l.lines l.at l.len
 
 abbrev pub decreases-loop-at : goal.decreases-loop-at
 decreases-loop-at l = length l.s - l.at

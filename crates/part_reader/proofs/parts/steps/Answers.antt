@@ -1,20 +1,23 @@
 -- `part_reader::parts::steps`: a step put away for each line that no row refuses.
 use mathlib.Core.Path.{sym}
 use native.Mathlib.Omega.{arith}
+use borrow.Author.Rules.{rules}
+use Rattle.flat.specs.Flat.{steps_in}
+use Rattle.tokens.proofs.Bytes.{handed}
+use Rattle.part_reader.specs.inner.Prefix.{StepsOn}
 use Rattle.part_reader.proofs.StepLines.{stepped-init, stepped-past, stepped-row, stepped-step}
 use Rattle.part_reader.proofs.StepLines.{step_room, hinted-above, part_room, put-room}
-use Rattle.part_reader.proofs.StepLines.{line-fits, line-later, steps-passes, steps-break, steps-done}
-use borrow.Author.Rules.{rules}
+use Rattle.part_reader.proofs.StepLines.{line-fits, line-later, steps-break, steps-done}
 use Rattle.part_reader.proofs.parts.steps.Goals as goal
-
-pub returns-then-not-p : goal.returns-then-not-p
-returns-then-not-p c = search (rules, steps-passes)
 
 pub loop-v-init : goal.loop-v-init
 loop-v-init c = search (rules, stepped-init)
 
-pub returns-then-not-l : goal.returns-then-not-l
-returns-then-not-l c = search (rules, steps-break)
+pub returns-in_err-l : goal.returns-in_err-l
+returns-in_err-l c =
+    handed (λ r. StepsOn c.args.v c.args.s.now c.args.p c.args.places r (steps_in c.loop-v.list)) _ _
+    c.from_residual.ensures.1
+    (steps-break _ _ _ _ _ _ _ _ _ _ c.loop-v.invariant _ c.stepping.ensures _ (search) c.in_err-l.ensures)
 
 pub overflow_add-lines : goal.overflow_add-lines
 overflow_add-lines c = search (rules, line-fits)
@@ -23,7 +26,9 @@ pub loop-v-smaller-then-outcome-ne0 : goal.loop-v-smaller-then-outcome-ne0
 loop-v-smaller-then-outcome-ne0 c = search (rules, line-later)
 
 pub loop-v-preserved-then-outcome-ne0 : goal.loop-v-preserved-then-outcome-ne0
-loop-v-preserved-then-outcome-ne0 c = search (rules, stepped-past)
+loop-v-preserved-then-outcome-ne0 c =
+    stepped-past _ _ _ _ _ _ _ _ _ _ _ _ c.loop-v.invariant _ c.in_ok-l.ensures _ c.stepping.ensures (search)
+    c.if-outcome-ne0.true
 
 pub slice_bounds-step_row-end-in-loop-v : goal.slice_bounds-step_row-end-in-loop-v
 slice_bounds-step_row-end-in-loop-v c = sym (search part_room)
@@ -36,15 +41,17 @@ loop-v-smaller-then-outcome-ne0-2 c = search (rules, line-later)
 
 pub loop-v-preserved-then-outcome-ne0-2 : goal.loop-v-preserved-then-outcome-ne0-2
 loop-v-preserved-then-outcome-ne0-2 c =
-    stepped-row _ _ _ _ _ _ _ _ _ _ _ _ c.loop-v.invariant _ c.step-l.ensures _ c.stepping.ensures
-    (search) c.if-not-l.false c.if-outcome-ne0.false _ c.step_row-outcome.ensures c.if-outcome-ne0-2.true
+    stepped-row _ _ _ _ _ _ _ _ _ _ _ _ c.loop-v.invariant _ c.in_ok-l.ensures _ c.stepping.ensures
+    (search) c.if-outcome-ne0.false _ c.step_row-outcome.ensures c.if-outcome-ne0-2.true
 
 pub put-requires : goal.put-requires
-put-requires c = search put-room
+put-requires c =
+    put-room _ _ _ _ _ _ _ _ _ _ _ _ c.loop-v.invariant _ c.in_ok-l.ensures _ c.step_row-outcome.ensures
+    c.if-outcome-ne0-2.false
 
 pub add-requires : goal.add-requires
 add-requires c =
-    step_room _ _ _ _ _ _ _ _ _ _ _ _ c.loop-v.invariant _ c.step-l.ensures _ c.step_row-outcome.ensures
+    step_room _ _ _ _ _ _ _ _ _ _ _ _ c.loop-v.invariant _ c.in_ok-l.ensures _ c.step_row-outcome.ensures
     c.if-outcome-ne0-2.false
 
 pub overflow_add-len : goal.overflow_add-len
@@ -55,8 +62,8 @@ loop-v-smaller c = search (rules, line-later)
 
 pub loop-v-preserved : goal.loop-v-preserved
 loop-v-preserved c =
-    stepped-step _ _ _ _ _ _ _ _ _ _ _ _ c.loop-v.invariant _ c.step-l.ensures _ c.stepping.ensures
-    (search) c.if-not-l.false c.if-outcome-ne0.false _ c.step_row-outcome.ensures c.if-outcome-ne0-2.false _ _ _
+    stepped-step _ _ _ _ _ _ _ _ _ _ _ _ c.loop-v.invariant _ c.in_ok-l.ensures _ c.stepping.ensures
+    (search) c.if-outcome-ne0.false _ c.step_row-outcome.ensures c.if-outcome-ne0-2.false _ _ _
     c.step_of-one.ensures c.put.ensures.steps_after c.put.ensures.steps_len_unchanged c.add.ensures
 
 pub returns : goal.returns

@@ -5,8 +5,8 @@ use Rattle.part_reader.proofs.StepLines.{Stepped}
 use Rattle.part_reader.proofs.parts.steps.Given as goal
 
 abbrev pub invariant-loop-v : goal.invariant-loop-v
-invariant-loop-v l =
-    Stepped l.v l.s l.places l.list l.hint l.from l.initial.lines l.initial.outcome l.outcome l.lines l.at l.len
+invariant-loop-v l = Stepped l.v l.s l.places l.list l.hint l.initial.at l.initial.lines l.initial.outcome l.outcome
+    l.lines l.at l.len
 
 abbrev pub decreases-loop-v : goal.decreases-loop-v
 decreases-loop-v l = length l.s - l.at

@@ -6,8 +6,8 @@ use Rattle.reader.proofs.reads.route_in.Goals as goal
 pub loop-i-init : goal.loop-i-init
 loop-i-init c = search (rules, copied-init)
 
-pub step_at-s-requires : goal.step_at-s-requires
-step_at-s-requires c = search (rules, steps-room)
+pub step_at-requires : goal.step_at-requires
+step_at-requires c = search (rules, steps-room)
 
 pub loop-i-preserved : goal.loop-i-preserved
 loop-i-preserved c = search (rules, copied-step)

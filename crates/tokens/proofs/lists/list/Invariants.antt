@@ -1,8 +1,8 @@
--- `tokens::lists::entries`: entry by entry, reading goes on.
+-- `tokens::lists::list`: entry by entry, reading goes on.
 use Prim.Native.Nat.{◌-◌}
 use lib.ListN.{length}
 use Rattle.tokens.proofs.ListBytes.{Entered}
-use Rattle.tokens.proofs.lists.entries.Given as goal
+use Rattle.tokens.proofs.lists.list.Given as goal
 
 abbrev pub invariant-loop-i : goal.invariant-loop-i
 invariant-loop-i l =
