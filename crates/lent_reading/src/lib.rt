@@ -46,11 +46,7 @@ fn put(out: &mut [u32], n: usize, names: &[u32])
     requires { (n ≤ length names.now) × (n ≤ length out.old) }
     ensures { out.new ≡ overlaid n names.now out.old }
 {
-    let mut i = 0;
-    while i < n {
-        out[i] = names[i];
-        i += 1;
-    }
+    out[..n].copy_from_slice(&names[..n]);
 }
 
 pub fn read(sheet: &[u8], old: &mut [Step], new: &mut [Step], done: &mut [u32]) -> Counts
