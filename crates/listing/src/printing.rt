@@ -48,25 +48,10 @@ fn text(out: &mut [u8], at: usize, a: Judged) -> usize
     last_lines(out, middle, a)
 }
 
-// Where the slice may be too short, the text is written apart and copied if it fits.
-fn write_copied(a: Judged, out: &mut [u8]) -> Wrote
-    requires { length (listing a) ≤ 7053 }
-    ensures value { result ≡ wrote_text (listing a) (length out.old) }
-    ensures out_after { out.new ≡ out_with (listing a) out.old }
-{
-    let mut apart = [0u8; ENOUGH];
-    let end = text(&mut apart, 0, a);
-    out_slice::copy(&apart[..end], out)
-}
-
 pub fn write_listing(a: Judged, out: &mut [u8]) -> Wrote
     requires { length (listing a) ≤ 7053 }
     ensures value { result ≡ wrote_text (listing a) (length out.old) }
     ensures out_after { out.new ≡ out_with (listing a) out.old }
 {
-    if out.len() < ENOUGH {
-        return write_copied(a, out);
-    }
-    let end = text(out, 0, a);
-    Wrote::all(end)
+    out_slice::write::<ENOUGH, _>(out, |out| text(out, 0, a))
 }

@@ -67,5 +67,5 @@ module _ (t o p : List ℕ) (end : ℕ) (fits : length t ≤ length o) (w : Emit
   copied-out q out e = e ∙ ap (λ (x : List ℕ). out_with x out) (emits-take (text-room t o fits) w)
 
 -- an array to write it to
-pub apart-long : (n : ℕ) → n ≤ length (replicate {A = ℕ} n 0)
-apart-long n = omega (arith, length-replicate {A = ℕ} n 0)
+pub apart-fits : (t : List ℕ) (n : ℕ) → length t ≤ n → length t ≤ length (replicate {A = ℕ} n 0)
+apart-fits t n h = omega (arith, length-replicate {A = ℕ} n 0)

@@ -1,7 +1,8 @@
 // The out slice: a whole text is written into it, or 15 with the bytes needed and no byte of it changed.
 #![tactic(auto)]
 
-ghost use Rattle.std.specs.Prelude.{◌≡◌, length};
+ghost use Rattle.std.specs.Prelude.{◌≡◌, List, ℕ, ◌^◌, ◌<◌, ◌≤◌, length};
+ghost use Rattle.emit.specs.Emit.{Emits};
 ghost use Rattle.out_slice.specs.OutSlice.{unwritten, whole, wrote_text, out_with};
 
 // 0, 0 and the bytes written; or a refusal and its second number, and nothing written.
@@ -45,4 +46,34 @@ pub fn copy(text: &[u8], out: &mut [u8]) -> Wrote
     }
     out[..n].copy_from_slice(text);
     Wrote::all(n)
+}
+
+// Where the slice may be too short for N bytes, the text is written apart and copied if it fits.
+fn write_apart<const N: usize, F: FnOnce(&mut [u8]) -> usize>(out: &mut [u8], f: F) -> Wrote
+    requires size { N < 2 ^ 63 }
+    requires ready { (x : _) → N ≤ length x.now → F.pre f x }
+    requires inside { (x : _) (n : _) (y : _) → N ≤ length x.now → F.post f x n y → n ≤ length y.now }
+    ensures { (t : List ℕ) → length t ≤ N →
+        ((x : _) (n : _) (y : _) → F.post f x n y → Emits t x.now 0 y.now n) →
+        (result ≡ wrote_text t (length out.old)) × (out.new ≡ out_with t out.old) }
+{
+    let mut apart = [0u8; N];
+    let end = f(&mut apart);
+    copy(&apart[..end], out)
+}
+
+// A text of at most N bytes, which `f` writes from a slice's start and gives the end of.
+pub fn write<const N: usize, F: FnOnce(&mut [u8]) -> usize>(out: &mut [u8], f: F) -> Wrote
+    requires size { N < 2 ^ 63 }
+    requires ready { (x : _) → N ≤ length x.now → F.pre f x }
+    requires inside { (x : _) (n : _) (y : _) → N ≤ length x.now → F.post f x n y → n ≤ length y.now }
+    ensures { (t : List ℕ) → length t ≤ N →
+        ((x : _) (n : _) (y : _) → F.post f x n y → Emits t x.now 0 y.now n) →
+        (result ≡ wrote_text t (length out.old)) × (out.new ≡ out_with t out.old) }
+{
+    if out.len() < N {
+        return write_apart::<N, F>(out, f);
+    }
+    let end = f(out);
+    Wrote::all(end)
 }

@@ -46,3 +46,6 @@ module _ (j : Job) (pass : LinesPass j) where
 -- a slice with room for any text of a job whose lines pass
 pub text-fits : (j : Job) (o : List ℕ) → LinesPass j → 20120 ≤ length o → length (written j) ≤ length o
 text-fits j o pass long = omega (arith, written-length j (eq-eqb _ 0 pass), long)
+
+pub text-short : (j : Job) → LinesPass j → length (written j) ≤ 20120
+text-short j pass = written-length j (eq-eqb _ 0 pass)

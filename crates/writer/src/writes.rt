@@ -34,28 +34,6 @@ fn text(
     sheet_lines::job_lines(out, b, done)
 }
 
-// Where the slice may be too short, the text is written apart and copied if it fits.
-fn write_copied(
-    old_places: u64,
-    old: &[u64],
-    new_places: u64,
-    new: &[u64],
-    done: &[u32],
-    out: &mut [u8],
-) -> Wrote
-    requires { LinesPass (flat_job old_places old.now new_places new.now done.now) }
-    ensures { (result ≡ wrote_text
-        (written (flat_job old_places old.now new_places new.now done.now))
-        (length out.old))
-        × (out.new ≡ out_with
-        (written (flat_job old_places old.now new_places new.now done.now))
-        out.old) }
-{
-    let mut apart = [0u8; LONGEST];
-    let end = text(&mut apart, old_places, old, new_places, new, done);
-    out_slice::copy(&apart[..end], out)
-}
-
 // Write over lists of steps.
 pub fn write_lists(
     old_places: u64,
@@ -76,11 +54,7 @@ pub fn write_lists(
     if !o.passed() {
         return Wrote::refuse(o.number, o.second);
     }
-    if out.len() < LONGEST {
-        return write_copied(old_places, old, new_places, new, done, out);
-    }
-    let end = text(out, old_places, old, new_places, new, done);
-    Wrote::all(end)
+    out_slice::write::<LONGEST, _>(out, |out| text(out, old_places, old, new_places, new, done))
 }
 
 // The operation write, on records by value.
