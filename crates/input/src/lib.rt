@@ -13,6 +13,7 @@ pub fn read_full(from: &mut impl Read, buf: &mut [u8]) -> io::Result<usize>
     ensures { IfOk result (λ n. IsPrefixLen n buf.new) }
 {
     let mut done = 0;
+    // a turn takes as much as the input gives
     while done < buf.len() {
         let n = from.read(&mut buf[done..])?;
         if n == 0 {

@@ -46,6 +46,7 @@ fn marked(v: Version, s: &[u8], at: usize) -> bool
 }
 
 // Past the last list: the mark, where it stands, and the end.
+// Inlined, as the texts in it are.
 #[inline]
 fn line_end(v: Version, s: &[u8], from: usize) -> Result<Ending, Broken>
     requires { from ≤ length s.now }
@@ -62,7 +63,7 @@ fn line_end(v: Version, s: &[u8], from: usize) -> Result<Ending, Broken>
     Ok(Ending { at, cloth: false })
 }
 
-// A list: its text, and its entries.
+// A list: its text, and its entries. Inlined, as both are.
 #[inline(always)]
 fn listed(v: Version, s: &[u8], from: usize, w: &[u8]) -> Result<Listed, Broken>
     requires limits { Limits v }

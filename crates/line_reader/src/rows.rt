@@ -67,37 +67,27 @@ fn entries_fit(e: Entries) -> bool
 }
 
 // A name in its range, each place below the count, each variable below 32.
+#[tactic(auto, unfolding(crate::specs::inner::Lines::line_fits))]
 fn line_fits(v: Version, places: u64, l: StepLine) -> bool
     ensures { result ≡ line_fits v places l }
 {
-    if !v.name_fits(l.name) {
-        return false;
-    }
-    if places < l.ins.top {
-        return false;
-    }
-    if places < l.outs.top {
-        return false;
-    }
-    l.reads.top <= 32 && l.writes.top <= 32
+    v.name_fits(l.name)
+        && l.ins.top <= places
+        && l.outs.top <= places
+        && l.reads.top <= 32
+        && l.writes.top <= 32
 }
 
+#[tactic(auto, unfolding(crate::specs::inner::Lines::line_lists))]
 fn line_lists(l: StepLine) -> bool
     ensures { result ≡ line_lists l }
 {
-    if l.ins.count == 0 {
-        return false;
-    }
-    if l.outs.count == 0 {
-        return false;
-    }
-    if !entries_fit(l.ins) {
-        return false;
-    }
-    if !entries_fit(l.outs) {
-        return false;
-    }
-    entries_fit(l.reads) && entries_fit(l.writes)
+    l.ins.count != 0
+        && l.outs.count != 0
+        && entries_fit(l.ins)
+        && entries_fit(l.outs)
+        && entries_fit(l.reads)
+        && entries_fit(l.writes)
 }
 
 // Given the steps above, and the hints of their names.

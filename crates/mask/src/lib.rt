@@ -13,7 +13,7 @@ pub mod iter;
 use crate::iter::Members;
 use std::ops::{BitAnd, BitXor, Sub};
 
-// A number as the set of its bits. The operators of a width's numbers do what they do on numbers.
+// A number as the set of its bits. By the laws `&`, `^` and `-` of two masks are those of their numbers.
 pub trait Mask: Copy
     + PartialEq
     + BitAnd<Self, Output = Self>

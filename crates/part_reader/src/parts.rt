@@ -79,6 +79,7 @@ pub fn steps(v: Version, s: &[u8], p: Pass, places: u64, list: &mut [u64]) -> Re
     let mut lines = p.lines;
     let mut at = p.at;
     let mut len = 0;
+    // a turn passes a whole line, here and below
     while stepping(s, at) {
         let l = step(v, s, at)?;
         at = l.at;

@@ -17,7 +17,7 @@ fn route_in(places: u64, len: usize, list: &[u64; 256]) -> Route
     let mut r = Route::empty();
     r.places = places;
     r.len = len;
-    for i in 0..64 {
+    for i in 0..Route::STEPS {
         r.steps[i] = flat::step_at(list, i);
     }
     r

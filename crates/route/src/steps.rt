@@ -12,7 +12,7 @@ pub fn low(n: u64) -> u32
 }
 
 impl Step {
-    // The record with 0 in every field, and no mark: a const, as a derived `Default` would be none.
+    // The record with 0 in every field, and no mark: a const, which a derived `Default` isn't.
     pub const BLANK: Step = Step {
         name: 0,
         cloth: false,

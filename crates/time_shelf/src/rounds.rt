@@ -41,8 +41,8 @@ impl Kind {
     }
 }
 
-// The sum of what n rounds answer. What they share is handed to each by value: a closure that holds it copies it in each
-// round.
+// The sum of what n rounds answer. What they share is handed to each by value: a closure that holds it copies it once more in
+// each round.
 fn rounds<C: Copy, F: FnMut(C, u64) -> u64>(n: u64, shared: C, mut round: F) -> u64
     requires { F.IsAlwaysCallable round }
 {
@@ -92,8 +92,8 @@ fn judge_between(n: u64, target: u32) -> u64 {
     })
 }
 
-// The eighth edition's number is this one, or one of the seven after it; 70 is stored before. Its own loop: a closure
-// clears the room for the shelf that it answers in each round, a tenth of the round's time.
+// The eighth edition's number is this one, or one of the seven after it; 70 is stored before. Its own loop: in a
+// closure the room for the shelf that put answers is cleared in each round, a tenth of its time.
 fn put(n: u64, number: u32) -> u64 {
     let new = usual::new();
     let shelf = usual::seven();
