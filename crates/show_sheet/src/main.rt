@@ -54,7 +54,7 @@ fn show_all(rt: &impl Print, s: &[u8]) -> io::Result<()> {
     let mut rest = s;
     while let Some(i) = end(rest) {
         show(rt, &rest[..i])?;
-        rest = &rest[i + 1..];
+        rest = &rest[i..][1..];
     }
     Ok(())
 }

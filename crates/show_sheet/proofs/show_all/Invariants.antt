@@ -2,5 +2,5 @@
 use Rattle.std.proofs.Common.{length}
 use Rattle.show_sheet.proofs.show_all.Given as goal
 
-abbrev pub decreases-loop : goal.decreases-loop
-decreases-loop g l = length l.rest
+abbrev pub decreases-loop-i : goal.decreases-loop-i
+decreases-loop-i g l = length l.rest
