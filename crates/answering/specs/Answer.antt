@@ -1,5 +1,5 @@
 -- What the listing shows of a list of occurrences: judge's answer, field by field.
-use Rattle.std.specs.Prelude.{cond, List, [], ◌∷◌, ◌++◌, map, ℕ, suc, ◌-◌, eqb, length, take, replicate}
+use Rattle.std.specs.Prelude.{cond, List, [], ◌∷◌, ◌++◌, map, ℕ, suc, ◌-◌, eqb, length, take, replicate, Result, Ok, Err}
 use Rattle.std.proofs.Math.Option.{get_or}
 use Rattle.std.specs.Int.Bits.{bit_and}
 use Rattle.mask.specs.Mask.{has, count}
@@ -8,6 +8,9 @@ use Rattle.slice.specs.Slice.{variables}
 use Rattle.precedence.specs.Precedence.{row}
 use Rattle.precedence.specs.Order.{in_turn}
 use Rattle.matching.specs.Straight.{fire_all, steps_on}
+use Rattle.refusal.specs.Refusal.{number_of}
+use Rattle.refusal.specs.declared.Refusal.{Refusal}
+use Rattle.answering.specs.declared.Moved.{Moved}
 use Rattle.answering.specs.declared.Judged.{Judged}
 
 -- n entries: those of a list, and 0 in the unused ones
@@ -40,6 +43,22 @@ judge_stopped n k = record {
   after = replicate 64 0;
   writers = replicate 32 0;
 }
+
+-- the answer in numbers
+abbrev pub judged_of : Result Moved Refusal → Judged
+judged_of (Ok m) =
+    record {
+      number = 0;
+      second = 0;
+      kept = m.kept;
+      dropped = m.dropped;
+      len = m.len;
+      order = m.order;
+      marking = m.marking;
+      after = m.after;
+      writers = m.writers;
+    }
+judged_of (Err e) = judge_stopped (number_of e.row) e.second
 
 -- a list of positions, and what is kept with it
 unfoldable pub answer : ℕ → List Step → List Step → ℕ → List ℕ → Judged

@@ -6,12 +6,11 @@ ghost use Rattle.flat.specs.Flat.{steps_in};
 ghost use Rattle.slice.specs.Slice.{variables};
 ghost use Rattle.precedence.specs.Order.{in_turn};
 ghost use Rattle.precedence.specs.Table.{table};
-ghost use Rattle.answering.specs.Answer.{padded, after_of, writer_of, judge_stopped};
+ghost use Rattle.answering.specs.Answer.{padded, after_of, writer_of};
 ghost use Rattle.answering.specs.inner.Listed.{AnswersList};
 
-use crate::{Judged, Placed};
+use crate::{Moved, Placed};
 use mask::Mask;
-use route::Marking;
 
 // The rows of the kept, with the kept alone.
 fn after_rows(rows: &[u64; 64], kept: u64) -> [u64; 64]
@@ -69,7 +68,7 @@ pub fn straight_order(len: usize) -> [u8; 64]
 }
 
 // All that is shown of a list of occurrences.
-pub fn answered(occurrences: &[u64], rows: &[u64; 64], vars: u32, kept: u64, list: Placed) -> Judged
+pub fn answered(occurrences: &[u64], rows: &[u64; 64], vars: u32, kept: u64, list: Placed) -> Moved
     requires occurrences_len_bound { (length (steps_in occurrences.now) ≤ 64) × (list.len ≤ 64) }
     requires kept_in_bounds { count 64 kept ≤ length (steps_in occurrences.now) }
     ensures { AnswersList rows.now vars kept list (steps_in occurrences.now) result }
@@ -81,9 +80,7 @@ pub fn answered(occurrences: &[u64], rows: &[u64; 64], vars: u32, kept: u64, lis
     let writers = last_writers(occurrences, vars);
     let done = flat::count(occurrences) as u32;
     let dropped = done - kept.count();
-    Judged {
-        number: 0,
-        second: 0,
+    Moved {
         kept,
         dropped,
         len,
@@ -91,21 +88,5 @@ pub fn answered(occurrences: &[u64], rows: &[u64; 64], vars: u32, kept: u64, lis
         marking,
         after,
         writers,
-    }
-}
-
-pub fn stop(number: u32, second: u64) -> Judged
-    ensures { result ≡ judge_stopped number second }
-{
-    Judged {
-        number,
-        second,
-        kept: 0,
-        dropped: 0,
-        len: 0,
-        order: [0u8; 64],
-        marking: Marking { tokens: 0 },
-        after: [0u64; 64],
-        writers: [0u8; 32],
     }
 }

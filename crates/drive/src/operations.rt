@@ -1,7 +1,6 @@
 // The operations by their numbers.
-use drive_lists::Lists;
+use drive_load::Script;
 use drive_load::stop::Stop;
-use drive_load::{Routes, Script};
 use drive_out::Answer;
 use drive_script::operations::Operation;
 use shelf::Shelf;
@@ -10,8 +9,8 @@ use shelf::Shelf;
 pub fn answer(script: &mut Script<'_>, shelf: &mut Shelf, out: &mut Answer) -> Result<(), Stop> {
     match script.operation()? {
         Operation::Fire => drive_routes::fire(script, out),
-        Operation::OverRoutes(op) => drive_routes::answer::<Routes>(op, script, out),
-        Operation::OverLists(op) => drive_routes::answer::<Lists>(op, script, out),
+        Operation::OverRoutes(op) => drive_routes::over_routes(op, script, out),
+        Operation::OverLists(op) => drive_lists::over_lists(op, script, out),
         Operation::OverSheet(op) => drive_sheets::answer(op, script, out),
         Operation::OverShelf(op) => drive_shelf::answer(op, shelf, script, out),
         Operation::Find => drive_lookup::find(script, out),

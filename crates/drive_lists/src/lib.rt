@@ -1,57 +1,50 @@
-// A job whose routes are lent lists.
+// The operations over a job whose routes are lent lists.
 #![tactic(auto)]
 
-use answering::Judged;
 use drive_load::arguments::Argument;
 use drive_load::stop::Stop;
 use drive_load::{LENT, Script};
-use drive_routes::Job;
-use order_entries::Tried;
-use out_slice::Wrote;
+use drive_out::Answer;
+use drive_routes::answer;
+use drive_script::operations::OverJob;
+use lent::LentJob;
 use route::Step;
-use running::Ran;
-use slicing::Sliced;
 
-// Lent lists: `p` places and the records `a` for the old route, `q` and `b` for the new one, and the done names.
+// The lists to lend.
 #[derive(Drop)]
-pub struct Lists {
-    p: u64,
-    a: Vec<Step>,
-    q: u64,
-    b: Vec<Step>,
+struct Lists {
+    old_places: u64,
+    old: Vec<Step>,
+    new_places: u64,
+    new: Vec<Step>,
     done: Vec<u32>,
+}
+
+impl Lists {
+    fn job(&self) -> LentJob<'_> {
+        LentJob {
+            old_places: self.old_places,
+            old: &self.old,
+            new_places: self.new_places,
+            new: &self.new,
+            done: &self.done,
+        }
+    }
 }
 
 impl Argument for Lists {
     fn take(script: &mut Script<'_>) -> Result<Lists, Stop> {
         Ok(Lists {
-            p: u64::from(u32::take(script)?),
-            a: script.list(LENT)?,
-            q: u64::from(u32::take(script)?),
-            b: script.list(LENT)?,
+            old_places: u64::from(u32::take(script)?),
+            old: script.list(LENT)?,
+            new_places: u64::from(u32::take(script)?),
+            new: script.list(LENT)?,
             done: script.names()?,
         })
     }
 }
 
-impl Job for Lists {
-    fn run(&self) -> Ran {
-        lent::run(self.p, &self.a, self.q, &self.b, &self.done)
-    }
-
-    fn slice(&self) -> Sliced {
-        lent::slice(self.p, &self.a, self.q, &self.b, &self.done)
-    }
-
-    fn try_order(&self, order: &[u8]) -> Tried {
-        lent::try_order(self.p, &self.a, self.q, &self.b, &self.done, order)
-    }
-
-    fn judge(&self, work: &mut [u8]) -> Judged {
-        lent::judge(self.p, &self.a, self.q, &self.b, &self.done, work)
-    }
-
-    fn write(&self, out: &mut [u8]) -> Wrote {
-        lent::write(self.p, &self.a, self.q, &self.b, &self.done, out)
-    }
+pub fn over_lists(op: OverJob, script: &mut Script<'_>, out: &mut Answer) -> Result<(), Stop> {
+    let l = Lists::take(script)?;
+    answer(op, &l.job(), script, out)
 }

@@ -1,6 +1,8 @@
 // The arguments of an operation, taken from the script one after another.
 #![tactic(auto)]
 
+ghost use Rattle.std.specs.Prelude.{◌≤◌, length, IfOk};
+
 pub mod arguments;
 pub mod stop;
 
@@ -40,7 +42,9 @@ impl Script<'_> {
     }
 
     // A number, at most so much.
-    pub fn most(&mut self, bound: u64) -> Result<u64, Stop> {
+    pub fn most(&mut self, bound: u64) -> Result<u64, Stop>
+        ensures { IfOk result (λ n. n ≤ bound) }
+    {
         let number = u64::take(self)?;
         if number <= bound {
             Ok(number)
@@ -50,12 +54,16 @@ impl Script<'_> {
     }
 
     // A count of at most so much.
-    pub fn count(&mut self, bound: usize) -> Result<usize, Stop> {
+    pub fn count(&mut self, bound: usize) -> Result<usize, Stop>
+        ensures { IfOk result (λ n. n ≤ bound) }
+    {
         Ok(self.most(bound as u64)? as usize)
     }
 
     // A count of at most so much, and so many entries.
-    pub fn list<T: Argument>(&mut self, bound: usize) -> Result<Vec<T>, Stop> {
+    pub fn list<T: Argument>(&mut self, bound: usize) -> Result<Vec<T>, Stop>
+        ensures { IfOk result (λ l. length l.items ≤ bound) }
+    {
         let mut list = Vec::new(self.alloc);
         for _ in 0..self.count(bound)? {
             list.push(T::take(self)?)?;
@@ -63,16 +71,22 @@ impl Script<'_> {
         Ok(list)
     }
 
-    pub fn names(&mut self) -> Result<Vec<u32>, Stop> {
+    pub fn names(&mut self) -> Result<Vec<u32>, Stop>
+        ensures { IfOk result (λ l. length l.items ≤ 100) }
+    {
         self.list(LENT)
     }
 
-    pub fn bytes(&mut self) -> Result<Vec<u8>, Stop> {
+    pub fn bytes(&mut self) -> Result<Vec<u8>, Stop>
+        ensures { IfOk result (λ l. length l.items ≤ 21000) }
+    {
         self.list(SLICE)
     }
 
     // The length of a slice, and the byte that it is full of.
-    pub fn fill(&mut self) -> Result<Vec<u8>, Stop> {
+    pub fn fill(&mut self) -> Result<Vec<u8>, Stop>
+        ensures { IfOk result (λ l. length l.items ≤ 21000) }
+    {
         let length = self.count(SLICE)?;
         let byte = u8::take(self)?;
         Ok(vec![in self.alloc; byte; length]?)

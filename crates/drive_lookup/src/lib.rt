@@ -5,6 +5,8 @@ use drive_load::arguments::Argument;
 use drive_load::stop::Stop;
 use drive_load::{Routes, Script};
 use drive_out::Answer;
+use finding::Compared;
+use job::laying::RouteJob;
 use std::alloc::{AllocError, Global};
 
 // Steps of these names, with nothing else, as numbers.
@@ -29,8 +31,13 @@ pub fn find(script: &mut Script<'_>, out: &mut Answer) -> Result<(), Stop> {
 }
 
 pub fn compare(script: &mut Script<'_>, out: &mut Answer) -> Result<(), Stop> {
-    let job = Routes::take(script)?;
-    let r = finding::routes::compare(job.old, job.new, &job.done);
+    let r = Routes::take(script)?;
+    let job = RouteJob {
+        old: &r.old,
+        new: &r.new,
+        done: &r.done,
+    };
+    let r = Compared::from(finding::routes::compare(&job));
     Ok(out.list(&[
         u64::from(r.number),
         r.second,

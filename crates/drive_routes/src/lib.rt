@@ -7,67 +7,53 @@ use drive_load::stop::Stop;
 use drive_load::{Routes, Script};
 use drive_out::Answer;
 use drive_script::operations::OverJob;
+use job::laying::{Lay, RouteJob};
+use judging::judging::judge;
 use order_entries::Tried;
 use out_slice::Wrote;
 use route::{Marking, Step};
 use running::Ran;
-use slicing::Sliced;
+use running::routes::run;
+use slicing::{Sliced, slice};
+use trying::trying::try_order;
+use writer::writes::write;
 
-pub trait Job: Argument {
-    fn run(&self) -> Ran;
-
-    fn slice(&self) -> Sliced;
-
-    fn try_order(&self, order: &[u8]) -> Tried;
-
-    fn judge(&self, work: &mut [u8]) -> Judged;
-
-    fn write(&self, out: &mut [u8]) -> Wrote;
+// Over routes by value.
+pub fn over_routes(op: OverJob, script: &mut Script<'_>, out: &mut Answer) -> Result<(), Stop> {
+    let r = Routes::take(script)?;
+    let job = RouteJob {
+        old: &r.old,
+        new: &r.new,
+        done: &r.done,
+    };
+    answer(op, &job, script, out)
 }
 
-impl Job for Routes {
-    fn run(&self) -> Ran {
-        running::routes::run(self.old, self.new, &self.done)
-    }
-
-    fn slice(&self) -> Sliced {
-        slicing::slice(self.old, self.new, &self.done)
-    }
-
-    fn try_order(&self, order: &[u8]) -> Tried {
-        trying::trying::try_order(self.old, self.new, &self.done, order)
-    }
-
-    fn judge(&self, work: &mut [u8]) -> Judged {
-        judging::judging::judge(self.old, self.new, &self.done, work)
-    }
-
-    fn write(&self, out: &mut [u8]) -> Wrote {
-        writer::writes::write(self.old, self.new, &self.done, out)
-    }
-}
-
-// The job, then the order, the work or the out slice.
-pub fn answer<J: Job>(op: OverJob, script: &mut Script<'_>, out: &mut Answer) -> Result<(), Stop> {
-    let job = J::take(script)?;
+// The job is taken already; then the order, the work or the out slice.
+pub fn answer<J: Lay>(
+    op: OverJob,
+    job: &J,
+    script: &mut Script<'_>,
+    out: &mut Answer,
+) -> Result<(), Stop> {
     match op {
         OverJob::Run => {
-            let r = job.run();
+            let r = Ran::from(run(job));
             drive_answers::marked(out, r.number, r.second, r.marking)?;
         }
-        OverJob::Slice => drive_answers::sliced(out, &job.slice())?,
+        OverJob::Slice => drive_answers::sliced(out, &Sliced::from(slice(job)))?,
         OverJob::Try => {
-            let r = job.try_order(&script.bytes()?);
+            let r = Tried::from(try_order(job, &script.bytes()?));
             drive_answers::marked(out, r.number, r.second, r.marking)?;
         }
         OverJob::Judge => {
             let mut work = script.fill()?;
-            let r = job.judge(&mut work);
+            let r = Judged::from(judge(job, &mut work));
             drive_answers::judged(out, &r, &work)?;
         }
         OverJob::Write => {
             let mut text = script.fill()?;
-            let r = job.write(&mut text);
+            let r = Wrote::from(write(job, &mut text));
             drive_answers::wrote(out, &r, &text)?;
         }
     }

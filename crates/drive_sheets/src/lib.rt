@@ -5,19 +5,24 @@ use drive_load::stop::Stop;
 use drive_load::{LENT, Script};
 use drive_out::Answer;
 use drive_script::operations::OverSheet;
+use facts::Sheet;
+use order_entries::Tried;
+use out_slice::Wrote;
+use reader::Counts;
+use reader::reads::{read, read_scope};
 use route::Step;
 
 // With the work and the out slice.
 fn print(sheet: &[u8], script: &mut Script<'_>, out: &mut Answer) -> Result<(), Stop> {
     let mut work = script.fill()?;
     let mut text = script.fill()?;
-    let r = ops::print::print(sheet, &mut work, &mut text);
+    let r = Wrote::from(ops::print::print(sheet, &mut work, &mut text));
     Ok(drive_answers::printed(out, &r, &work, &text)?)
 }
 
 // With the order.
 fn try_sheet(sheet: &[u8], script: &mut Script<'_>, out: &mut Answer) -> Result<(), Stop> {
-    let r = ops::tries::try_sheet(sheet, &script.bytes()?);
+    let r = Tried::from(ops::tries::try_sheet(sheet, &script.bytes()?));
     Ok(drive_answers::marked(out, r.number, r.second, r.marking)?)
 }
 
@@ -28,7 +33,7 @@ fn read_lists(sheet: &[u8], script: &mut Script<'_>, out: &mut Answer) -> Result
     let mut old = vec![in alloc; seven; script.count(LENT)?]?;
     let mut new = vec![in alloc; seven; script.count(LENT)?]?;
     let mut done = vec![in alloc; 7u32; script.count(LENT)?]?;
-    let counts = lent_reading::read(sheet, &mut old, &mut new, &mut done);
+    let counts = Counts::from(lent_reading::read(sheet, &mut old, &mut new, &mut done));
     drive_answers::counts(out, &counts)?;
     drive_answers::lent(out, &old)?;
     drive_answers::lent(out, &new)?;
@@ -38,8 +43,8 @@ fn read_lists(sheet: &[u8], script: &mut Script<'_>, out: &mut Answer) -> Result
 pub fn answer(op: OverSheet, script: &mut Script<'_>, out: &mut Answer) -> Result<(), Stop> {
     let sheet = script.bytes()?;
     match op {
-        OverSheet::Read => drive_answers::sheet(out, &reader::reads::read(&sheet))?,
-        OverSheet::ReadScope => drive_answers::sheet(out, &reader::reads::read_scope(&sheet))?,
+        OverSheet::Read => drive_answers::sheet(out, &Sheet::from(read(&sheet)))?,
+        OverSheet::ReadScope => drive_answers::sheet(out, &Sheet::from(read_scope(&sheet)))?,
         OverSheet::ReadLists => read_lists(&sheet, script, out)?,
         OverSheet::JobPart => out.runs(reader::part::job_part(&sheet))?,
         OverSheet::Print => print(&sheet, script, out)?,

@@ -1,6 +1,7 @@
 // The operations over the shelf in hand.
 #![tactic(auto)]
 
+use answering::Judged;
 use drive_load::Script;
 use drive_load::arguments::Argument;
 use drive_load::stop::Stop;
@@ -59,7 +60,7 @@ fn judge(shelf: &Shelf, script: &mut Script<'_>, out: &mut Answer) -> Result<(),
     let target = u32::take(script)?;
     let done = script.names()?;
     let mut work = script.fill()?;
-    let r = shelf::between::judge(*shelf, edition, target, &done, &mut work);
+    let r = Judged::from(shelf::between::judge(shelf, edition, target, &done, &mut work));
     Ok(drive_answers::judged(out, &r, &work)?)
 }
 

@@ -5,6 +5,8 @@ ghost use Rattle.ops.specs.SheetTry.{tried_sheet};
 
 use ops::print::print;
 use ops::tries::try_sheet;
+use order_entries::Tried;
+use out_slice::Wrote;
 
 #[unsafe(no_mangle)]
 pub extern "C" fn reroute_try(
@@ -17,7 +19,7 @@ pub extern "C" fn reroute_try(
     ensures second_after { second.new ≡ (tried_sheet sheet.now order.now).second }
     ensures marking_after { marking.new ≡ (tried_sheet sheet.now order.now).marking.tokens }
 {
-    let t = try_sheet(sheet, order);
+    let t = Tried::from(try_sheet(sheet, order));
     *second = t.second;
     *marking = t.marking.tokens;
     t.number
@@ -41,7 +43,7 @@ pub extern "C" fn reroute_print(
     ensures out_after { out.new ≡ out_printed sheet.now (length work.old)
         out.old }
 {
-    let w = print(sheet, work, out);
+    let w = Wrote::from(print(sheet, work, out));
     *second = w.second;
     *written = w.written;
     w.number

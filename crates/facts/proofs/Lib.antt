@@ -3,7 +3,7 @@ pub mod LineEnds
 pub mod Members
 pub mod Masks
 pub mod Ties
-pub mod Records
+pub mod ReadRecords
 pub mod PartText
 pub mod Widths
 pub mod RowOne

@@ -22,7 +22,7 @@ use Rattle.facts.specs.Facts.{read_of, job_read}
 use Rattle.facts.specs.SheetRows.{filled, facts_record}
 use Rattle.facts.specs.JobPart.{after_lines, job_part}
 use Rattle.facts.specs.declared.Sheet.{Sheet}
-use Rattle.facts.proofs.Records.{ReadAs, reads_as}
+use Rattle.facts.proofs.ReadRecords.{ReadAs, reads_as}
 
 over-byte : (k b : ℕ) (s : List ℕ) → eqb b 10 ≡ false → after_lines (suc k) (b ∷ s) ≡ after_lines (suc k) s
 unfolding after_lines

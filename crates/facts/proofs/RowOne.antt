@@ -23,7 +23,7 @@ use Rattle.facts.specs.SheetRows.{form_rows, after_forms, route_form_rows, sheet
 use Rattle.facts.specs.LinesOf.{lines_of}
 use Rattle.facts.specs.declared.Sheet.{Sheet}
 use Rattle.facts.proofs.RowsFold.{reads-facts, rows-answer}
-use Rattle.facts.proofs.Records.{read_is, read_back}
+use Rattle.facts.proofs.ReadRecords.{read_is, read_back}
 
 -- ---- no line answers 1
 

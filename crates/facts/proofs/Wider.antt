@@ -25,7 +25,7 @@ use Rattle.facts.specs.Marks.{Marks, MarksTo}
 use Rattle.facts.specs.SheetRows.{form_rows, after_forms, route_form_rows, sheet_rows, facts_record}
 use Rattle.facts.specs.declared.Sheet.{Sheet}
 use Rattle.facts.proofs.PassingLines.{lines-fine, lines-named, short-marks}
-use Rattle.facts.proofs.Records.{ReadAs, reads_as, text-reads, read_back}
+use Rattle.facts.proofs.ReadRecords.{ReadAs, reads_as, text-reads, read_back}
 
 module _ (v w : Version) (g : ℕ) (in-v : g ≤ v.greatest) (in-w : g ≤ w.greatest) where
   name-same : (n : ℕ) → (1 ≤ n) × (n ≤ g) → name_fits w n ≡ name_fits v n

@@ -1,11 +1,14 @@
 -- The facts of a sheet: its lines top down, each by the rows 4, 2, 3, 5 in this order. The first refusal stands, with
 -- all else 0.
 use Rattle.std.specs.Prelude.{not, cond, List, [], ◌∷◌, ℕ, ◌+◌, ◌-◌, eqb, ltb, length, set, take, replicate}
+use Rattle.std.specs.Prelude.{Result, Ok, Err}
 use Rattle.route.specs.Steps.{no_route, steps_of, names}
 use Rattle.refusal.specs.Rows.{unless, first}
 use Rattle.route.specs.declared.Step.{Step}
 use Rattle.route.specs.declared.Route.{Route}
+use Rattle.refusal.specs.Refusal.{number_of}
 use Rattle.refusal.specs.declared.Outcome.{Outcome}
+use Rattle.refusal.specs.declared.Refusal.{Refusal}
 use Rattle.job.specs.Job.{Job, job_of}
 use Rattle.job.specs.Lines.{places_fit, done_row}
 use Rattle.version.specs.Limits.{present}
@@ -15,11 +18,17 @@ use Rattle.layout.specs.Parse.{Parsed, parse}
 use Rattle.layout.specs.declared.Part.{Part}
 use Rattle.layout.specs.declared.Part.TheVariants.{OldRoute, NewRoute, JobPart}
 use Rattle.facts.specs.Forms.{form_row, record_of}
+use Rattle.facts.specs.declared.Records.{Records}
 use Rattle.facts.specs.declared.Sheet.{Sheet}
 
 -- "A refusal gives its number and a second number, all else 0"
 unfoldable pub failed : ℕ → ℕ → Sheet
 failed n k = record { number = n; second = k; old = no_route; new = no_route; done_len = 0; done = replicate 64 0 }
+
+-- reading's answer in numbers
+abbrev pub sheet_told : Result Records Refusal → Sheet
+sheet_told (Ok t) = record { number = 0; second = 0; old = t.old; new = t.new; done_len = t.done_len; done = t.done }
+sheet_told (Err e) = failed (number_of e.row) e.second
 
 -- the outcome of a line: the facts with the line's own, or the refusal
 unfoldable pub settled : Outcome → Sheet → Sheet

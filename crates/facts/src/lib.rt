@@ -3,11 +3,21 @@
 #![tactic(auto)]
 
 ghost use Rattle.std.specs.Prelude.{◌≡◌};
-ghost use Rattle.facts.specs.Facts.{failed};
+ghost use Rattle.facts.specs.Facts.{sheet_told};
 
+use refusal::Refusal;
 use route::Route;
 
-// What reading gives: a refusal and its second number, or 0 and 0 and the facts.
+// What a sheet that reads tells: both routes and the done list.
+#[derive(Clone, Copy)]
+pub struct Records {
+    pub old: Route,
+    pub new: Route,
+    pub done_len: usize,
+    pub done: [u32; 64],
+}
+
+// Reading's answer in plain numbers: a refusal's two, or 0, 0 and the facts.
 #[derive(Clone, Copy)]
 pub struct Sheet {
     pub number: u32,
@@ -18,20 +28,36 @@ pub struct Sheet {
     pub done: [u32; 64],
 }
 
-impl Sheet {
-    // A refusal: all else is 0.
+impl From<Result<Records, Refusal>> for Sheet {
+    ghost from_gives = { λ r a. a ≡ sheet_told r };
+
     #[tactic(auto, unfolding(crate::specs::Facts::failed))]
-    pub fn refused(number: u32, second: u64) -> Sheet
-        ensures { result ≡ failed number second }
-    {
-        let none = Route::empty();
-        Sheet {
-            number,
-            second,
-            old: none,
-            new: none,
-            done_len: 0,
-            done: [0u32; 64],
+    fn from(r: Result<Records, Refusal>) -> Sheet {
+        match r {
+            Ok(t) => {
+                let old = t.old;
+                let new = t.new;
+                let done = t.done;
+                Sheet {
+                    number: 0,
+                    second: 0,
+                    old,
+                    new,
+                    done_len: t.done_len,
+                    done,
+                }
+            }
+            Err(e) => {
+                let none = Route::empty();
+                Sheet {
+                    number: e.row.number(),
+                    second: e.second,
+                    old: none,
+                    new: none,
+                    done_len: 0,
+                    done: [0u32; 64],
+                }
+            }
         }
     }
 }

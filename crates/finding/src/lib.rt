@@ -2,14 +2,15 @@
 #![tactic(auto)]
 
 ghost use Rattle.std.specs.Prelude.{◌≡◌};
-ghost use Rattle.finding.specs.Comparisons.{compared_stopped};
+ghost use Rattle.finding.specs.Comparisons.{compared_of};
 
+use refusal::Refusal;
 use running::Begun;
 
 pub mod lists;
 pub mod routes;
 
-// A job whose lines pass, after row 9: what stands of it there, and how many of the new route's names were compared.
+// A job that no row to 9 refuses: what stands of it there, and how many of the new route's names were compared.
 #[derive(Clone, Copy)]
 pub struct Gathered {
     pub begun: Begun,
@@ -18,6 +19,13 @@ pub struct Gathered {
 
 // How many names were compared: by the run on the old route, and by the match with the new one.
 #[derive(Clone, Copy)]
+pub struct Totals {
+    pub run: usize,
+    pub matched: usize,
+}
+
+// The same in plain numbers: a refusal's two, or 0, 0 and both totals.
+#[derive(Clone, Copy)]
 pub struct Compared {
     pub number: u32,
     pub second: u64,
@@ -25,16 +33,23 @@ pub struct Compared {
     pub matched: usize,
 }
 
-impl Compared {
-    // A refusal: no figures.
-    pub fn stop(number: u32, second: u64) -> Compared
-        ensures { result ≡ compared_stopped number second }
-    {
-        Compared {
-            number,
-            second,
-            run: 0,
-            matched: 0,
+impl From<Result<Totals, Refusal>> for Compared {
+    ghost from_gives = { λ r a. a ≡ compared_of r };
+
+    fn from(r: Result<Totals, Refusal>) -> Compared {
+        match r {
+            Ok(t) => Compared {
+                number: 0,
+                second: 0,
+                run: t.run,
+                matched: t.matched,
+            },
+            Err(e) => Compared {
+                number: e.row.number(),
+                second: e.second,
+                run: 0,
+                matched: 0,
+            },
         }
     }
 }

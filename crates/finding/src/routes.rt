@@ -1,19 +1,18 @@
-// How many names are compared, on records by value.
+// How many names are compared, on records.
 ghost use Rattle.std.specs.Prelude.{◌≡◌};
-ghost use Rattle.job.specs.Job.{job_of};
-ghost use Rattle.finding.specs.Comparisons.{comparisons};
+ghost use Rattle.finding.specs.Comparisons.{comparisons, compared_of};
 
-use crate::Compared;
+use crate::Totals;
 use crate::lists::compare_lists;
-use flat::laying::lay;
-use route::Route;
+use job::laying::Lay;
+use refusal::Refusal;
 
-pub fn compare(old: Route, new: Route, done: &[u32]) -> Compared
-    ensures { result ≡ comparisons (job_of old new done.now) }
+#[tactic(auto, using(crate::proofs::ComparedRows::comparisons_cut))]
+pub fn compare<J: Lay>(job: &J) -> Result<Totals, Refusal>
+    ensures { compared_of result ≡ comparisons (J.job job.now) }
 {
     let mut a = [0u64; 260];
     let mut b = [0u64; 260];
-    let n = lay(old, &mut a);
-    let m = lay(new, &mut b);
-    compare_lists(old.places, &a[..n], new.places, &b[..m], done)
+    let flat = job.lay(&mut a, &mut b);
+    compare_lists(flat)
 }

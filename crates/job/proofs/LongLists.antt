@@ -1,7 +1,7 @@
 -- A list of over 64 steps is refused by row 4 at its 65th, unless an earlier line's fault goes first; its steps past
 -- the 65th change nothing. So an answer that depends, where the lines are refused, on nothing but that refusal, is the
 -- answer to the job with both lists cut to 65.
-use mathlib.Core.Path.{◌≡◌, refl, sym, ap, ap₂, ◌∙◌}
+use mathlib.Core.Path.{◌≡◌, refl, sym, ap, ◌∙◌}
 use mathlib.Core.Bool.{Bool, true, false, cond}
 use mathlib.Core.List.{List, [], ◌∷◌, ◌++◌}
 use Prim.Native.Nat.{ℕ, ◌+◌, ◌≤◌, ◌<◌}
@@ -16,20 +16,15 @@ use Rattle.refusal.proofs.Rows.{rows_pass, rows-refuse, row-refuses, ends-refuse
 use Rattle.route.specs.Steps.{blank}
 use Rattle.flat.specs.Flat.{steps_in, Laid}
 use Rattle.opening.specs.Net.{net_row}
-use Rattle.opening.specs.declared.Opened.{Opened}
 use Rattle.route.specs.declared.Step.{Step}
-use Rattle.job.specs.Job.{Job, flat_job, new_line}
-use Rattle.job.specs.Alone.{alone_rows, opened_alone}
+use Rattle.job.specs.Job.{Job, cut, new_line}
+use Rattle.job.specs.Alone.{alone_rows}
 use Rattle.job.specs.Lines.{places_fit, step_row, step_rows, route_rows, line_rows, checked}
 
 -- the job with other lists of steps
 abbrev with_steps : Job → List Step → List Step → Job
 with_steps j old new =
     record { old_places = j.old_places; old = old; new_places = j.new_places; new = new; done = j.done }
-
--- the job with both lists cut to 65
-abbrev short : Job → Job
-short j = with_steps j (take 65 j.old) (take 65 j.new)
 
 -- ---- a list over 64: the rows of its first 64 lines, and row 4 at the next
 
@@ -125,7 +120,7 @@ then-alike a b c h = go (eqb (first a).number 0) refl
         (rows-refuse a b e ∙ sym (rows-refuse a c e), ap (λ (x : Outcome). eqb x.number 0) (rows-refuse a c e) ∙ e)
 
 module _ (j : Job) where
-  old-over : 64 < length j.old → Refused j (short j)
+  old-over : 64 < length j.old → Refused j (cut j)
   unfolding line_rows
   old-over h =
       let both = front-alike (over_rows 1 j.old_places (take 64 j.old)) (route_rows 1 j.old_places j.old)
@@ -151,21 +146,21 @@ module _ (j : Job) where
       record { alike = both.0; refused = both.1 }
 
   -- a list up to 64 is not cut
-  old-whole : length j.old ≤ 64 → short_new ≡ short j
+  old-whole : length j.old ≤ 64 → short_new ≡ cut j
   old-whole h = ap (λ (l : List Step). with_steps j l (take 65 j.new)) (sym (take_all 65 j.old (omega arith)))
 
   new-whole : length j.new ≤ 64 → j ≡ short_new
   new-whole h = ap (λ (l : List Step). with_steps j j.old l) (sym (take_all 65 j.new (omega arith)))
 
-  short-whole : length j.old ≤ 64 → length j.new ≤ 64 → j ≡ short j
+  short-whole : length j.old ≤ 64 → length j.new ≤ 64 → j ≡ cut j
   short-whole h k = new-whole k ∙ old-whole h
 
-  -- the law: f of the job is f of the cut job
-  same-short : {X : Type 0} (f : Job → X) → ((j k : Job) → Refused j k → f j ≡ f k) → f j ≡ f (short j)
-  same-short f by = go (ltb 64 (length j.old)) refl (ltb 64 (length j.new)) refl
+  -- f of the job is f of the cut job
+  same-cut : {X : Type 0} (f : Job → X) → ((j k : Job) → Refused j k → f j ≡ f k) → f j ≡ f (cut j)
+  same-cut f by = go (ltb 64 (length j.old)) refl (ltb 64 (length j.new)) refl
     where
-      go : (s : Bool) → ltb 64 (length j.old) ≡ s → (t : Bool) → ltb 64 (length j.new) ≡ t → f j ≡ f (short j)
-      go true e t e' = by j (short j) (old-over (ltb-true 64 (length j.old) e))
+      go : (s : Bool) → ltb 64 (length j.old) ≡ s → (t : Bool) → ltb 64 (length j.new) ≡ t → f j ≡ f (cut j)
+      go true e t e' = by j (cut j) (old-over (ltb-true 64 (length j.old) e))
       go false e true e' =
           by j short_new (new-over (ltb-true 64 (length j.new) e'))
           ∙ ap f (old-whole (ltb-false 64 (length j.old) e))
@@ -187,13 +182,10 @@ module _ (j k : Job) (r : Refused j k) where
 
 -- ---- both lists laid as numbers
 
-module _ (j : Job) (n : ℕ) (a : List ℕ) (m : ℕ) (b : List ℕ) (p : Laid j.old n a) (q : Laid j.new m b) where
-  abbrev pub laid_job : Job
-  laid_job = flat_job j.old_places (take n a) j.new_places (take m b) j.done
-
-  pub same-laid : {X : Type 0} (f : Job → X) → ((j k : Job) → Refused j k → f j ≡ f k) → f laid_job ≡ f j
-  same-laid f by =
-      ap₂ (λ (x y : List Step). f (with_steps j x y)) p.steps-are q.steps-are ∙ sym (same-short j f by)
+-- the law: what answers as f of the cut job answers as f of the job
+pub laid-alike : {X : Type 0} (f : Job → X) → ((j k : Job) → Refused j k → f j ≡ f k) → (j k : Job) → k ≡ cut j → (x : X)
+    → x ≡ f k → x ≡ f j
+laid-alike f by j k is x e = e ∙ ap f is ∙ sym (same-cut j f by)
 
 -- ---- one route by itself, laid as numbers
 
@@ -213,10 +205,6 @@ alone-cut places l = go (ltb 64 (length l)) refl
         ap (λ (x : List Step). first (route_rows 1 places x ++ (net_row 1 places x ∷ [])))
         (take_all 65 l (omega arith))
 
-pub alone-laid : (places : ℕ) (l : List Step) (n : ℕ) (w : List ℕ) → Laid l n w → (o : Opened)
-    → o ≡ opened_alone places (steps_in (take n w)) → o.outcome ≡ first (alone_rows places l)
-unfolding opened_alone
-alone-laid places l n w laid o is =
-    ap (λ (x : Opened). x.outcome) is
-    ∙ ap (λ (x : List Step). first (alone_rows places x)) laid.steps-are
-    ∙ alone-cut places l
+pub alone-laid : (places : ℕ) (l : List Step) (n : ℕ) (w : List ℕ) → Laid l n w
+    → first (alone_rows places (steps_in (take n w))) ≡ first (alone_rows places l)
+alone-laid places l n w laid = ap (λ (x : List Step). first (alone_rows places x)) laid.steps-are ∙ alone-cut places l

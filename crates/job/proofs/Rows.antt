@@ -20,7 +20,10 @@ use Rattle.lookup.specs.Around.{Unique}
 use Rattle.route.specs.declared.Step.{Step}
 use Rattle.refusal.specs.declared.Outcome.{Outcome}
 use Rattle.refusal.proofs.Rows.{head-refuses, head-passes, head_passed, row-refuses, row-passes, row-passed, rows_end}
-use Rattle.refusal.proofs.Rows.{rows_pass, rows-refuse, rows-passed}
+use Rattle.refusal.proofs.Rows.{rows-passed}
+use Rattle.refusal.proofs.Answered.{err-rows, ok-rows}
+use Rattle.refusal.specs.Refusal.{number_of}
+use Rattle.refusal.specs.declared.Refusal.{Refusal}
 use Rattle.version.specs.Limits.{present, name_fits}
 use Rattle.job.specs.Lines.{step_row, step_rows, route_rows, done_row, done_rows, line_rows, places_fit, LinesPass}
 use Rattle.job.specs.Lines.{AllNamed}
@@ -29,11 +32,11 @@ use Rattle.job.proofs.UniqueNames.{route-unique}
 
 -- ---- the done lines
 
-module _ (line i : ℕ) (done : List ℕ) (whole o : Outcome) where
-  pub done_end : length done ≤ i → first (done_rows present (line + i) i (drop i done)) ≡ whole → o ≡ pass → o ≡ whole
+module _ (line i : ℕ) (done : List ℕ) (whole : Outcome) where
+  pub done_end : length done ≤ i → first (done_rows present (line + i) i (drop i done)) ≡ whole → pass ≡ whole
   unfolding done_rows
-  done_end h inv is =
-      is ∙ sym rows_end ∙ ap (λ (x : List ℕ). first (done_rows present (line + i) i x))
+  done_end h inv =
+      sym rows_end ∙ ap (λ (x : List ℕ). first (done_rows present (line + i) i x))
       (sym (drop_of_length-le done {i = i} h))
       ∙ inv
 
@@ -44,9 +47,9 @@ module _ (line i : ℕ) (done : List ℕ) (whole o : Outcome) where
     at-line = ap (λ (x : List ℕ). first (done_rows present (line + i) i x)) (sym (drop-cons done i 0 more)) ∙ inv
 
     -- the 65th
-    pub done-over : o ≡ refuse 4 (line + 64) → i ≤ 64 → 64 ≤ i → o ≡ whole
-    done-over is low high =
-        is ∙ ap (λ (n : ℕ). refuse 4 (line + n)) at ∙ sym (head-refuses _ _ refl)
+    pub done-over : i ≤ 64 → 64 ≤ i → refuse 4 (line + 64) ≡ whole
+    done-over low high =
+        ap (λ (n : ℕ). refuse 4 (line + n)) at ∙ sym (head-refuses _ _ refl)
         ∙ ap (λ (x : Outcome). first (x ∷ done_rows present (line + i + 1) (i + 1) (drop (suc i) done))) (sym refused)
         ∙ at-line
       where
@@ -57,9 +60,9 @@ module _ (line i : ℕ) (done : List ℕ) (whole o : Outcome) where
         refused = unfold done_row in row-refuses _ 4 (line + i) _ (le-ltb i 64 high) refl
 
     pub done_refused : (f : Bool) → i < 64 → f ≡ name_fits present (get_or done i 0) → not f ≡ true
-        → o ≡ refuse 2 (line + i) → o ≡ whole
-    done_refused f low is fails to =
-        to ∙ sym (head-refuses _ _ refl)
+        → refuse 2 (line + i) ≡ whole
+    done_refused f low is fails =
+        sym (head-refuses _ _ refl)
         ∙ ap (λ (x : Outcome). first (x ∷ done_rows present (line + i + 1) (i + 1) (drop (suc i) done))) (sym refused)
         ∙ at-line
       where
@@ -92,45 +95,40 @@ pub head-places : (places : ℕ) (f : Bool) → f ≡ places_fit places → not 
 head-places places f fits ok = places-bound places (sym fits ∙ not-false f ok)
 
 module _ (line places : ℕ) (l : List Step) (f : Bool) (fits : f ≡ places_fit places) where
-  pub route-two : (o : Outcome) → not f ≡ true → o ≡ refuse 2 line → o ≡ first (route_rows line places l)
+  pub route-two : not f ≡ true → refuse 2 line ≡ first (route_rows line places l)
   unfolding route_rows
-  route-two o fails to = to ∙ sym (row-refuses (places_fit places) 2 line _ (sym fits ∙ not-true f fails) refl)
+  route-two fails = sym (row-refuses (places_fit places) 2 line _ (sym fits ∙ not-true f fails) refl)
 
-  module _ (o : Outcome) (ok : not f ≡ false) (lines : o ≡ first (step_rows (line + 1) places [] l)) (t : Bool)
-      (test : t ≡ eqb o.number 0) where
+  module _ (ok : not f ≡ false) where
     after-head : (k : List Outcome) → first (unless (places_fit places) 2 line ∷ k) ≡ first k
     after-head k = row-passes (places_fit places) 2 line k (sym fits ∙ not-false f ok)
 
-    number_is : eqb (first (step_rows (line + 1) places [] l)).number 0 ≡ t
-    number_is = ap (λ (x : Outcome). eqb x.number 0) (sym lines) ∙ sym test
-
-    pub route-steps : not t ≡ true → o ≡ first (route_rows line places l)
+    pub route-steps : (e : Refusal) → refuse (number_of e.row) e.second ≡ first (step_rows (line + 1) places [] l) → refuse (number_of e.row) e.second ≡ first (route_rows line places l)
     unfolding route_rows
-    route-steps off =
-        lines ∙ sym (rows-refuse (step_rows (line + 1) places [] l) _ (number_is ∙ not-true t off)) ∙ sym (after-head _)
+    route-steps e lines = err-rows e (step_rows (line + 1) places [] l) lines _ ∙ sym (after-head _)
 
-    pub route-none : (p : Outcome) (n : ℕ) → not t ≡ false → n ≡ length l → n ≡ 0 → p ≡ refuse 4 (line + 1)
-        → p ≡ first (route_rows line places l)
-    unfolding route_rows
-    route-none p n on is nil to =
-        let none : length l ≡ 0 = sym is ∙ nil in
-        to ∙ ap (λ (n : ℕ). refuse 4 n) next
-        ∙ sym (row-refuses (not (eqb (length l) 0)) 4 (after_steps line l) [] (ap not (eq-eqb (length l) 0 none)) refl)
-        ∙ sym (rows_pass (step_rows (line + 1) places [] l) _ (number_is ∙ not-false t on))
-        ∙ sym (after-head _)
-      where
-        next : line + 1 ≡ after_steps line l
-        next = omega arith
+    module _ (passed : pass ≡ first (step_rows (line + 1) places [] l)) (n : ℕ) (is : n ≡ length l) where
+      past-steps : (k : List Outcome) → first (step_rows (line + 1) places [] l ++ k) ≡ first k
+      past-steps k = ok-rows (step_rows (line + 1) places [] l) passed k
 
-    pub route-pass : (p : Outcome) (n : ℕ) → not t ≡ false → n ≡ length l → (n ≡ 0 → ⊥) → p ≡ pass
-        → p ≡ first (route_rows line places l)
-    unfolding route_rows
-    route-pass p n on is some to =
-        to ∙ sym rows_end
-        ∙ sym (row-passes (not (eqb (length l) 0)) 4 (after_steps line l) []
-        (ap not (ne_eqb (length l) 0 (λ z. some (is ∙ z)))))
-        ∙ sym (rows_pass (step_rows (line + 1) places [] l) _ (number_is ∙ not-false t on))
-        ∙ sym (after-head _)
+      pub route-none : n ≡ 0 → refuse 4 (line + 1) ≡ first (route_rows line places l)
+      unfolding route_rows
+      route-none nil =
+          let none : length l ≡ 0 = sym is ∙ nil in
+          let next : line + 1 ≡ after_steps line l = omega arith in
+          ap (λ (n : ℕ). refuse 4 n) next
+          ∙ sym (row-refuses (not (eqb (length l) 0)) 4 (after_steps line l) [] (ap not (eq-eqb (length l) 0 none)) refl)
+          ∙ sym (past-steps _)
+          ∙ sym (after-head _)
+
+      pub route-pass : (n ≡ 0 → ⊥) → pass ≡ first (route_rows line places l)
+      unfolding route_rows
+      route-pass some =
+          sym rows_end
+          ∙ sym (row-passes (not (eqb (length l) 0)) 4 (after_steps line l) []
+          (ap not (ne_eqb (length l) 0 (λ z. some (is ∙ z)))))
+          ∙ sym (past-steps _)
+          ∙ sym (after-head _)
 
 -- ---- what lines that pass have: no list is over 64, and each route has a step
 
@@ -202,58 +200,50 @@ done-fits line l e = omega (arith, done-short line 0 l (omega arith) e)
 
 -- ---- all lines: the old route's, the new route's, the done lines
 
--- code has asked for a route's lines, and t says whether they pass
-module _ (line places : ℕ) (l : List Step) (a : Outcome) (is : a ≡ first (route_rows line places l)) (t : Bool)
-    (test : t ≡ eqb a.number 0) where
-  asked : eqb (first (route_rows line places l)).number 0 ≡ t
-  asked = ap (λ (o : Outcome). eqb o.number 0) (sym is) ∙ sym test
+-- a route's lines pass
+module _ (line places : ℕ) (l : List Step) (passed : pass ≡ first (route_rows line places l)) where
+  asked : RouteFits places l
+  asked = route-fits line places l (ap (λ (o : Outcome). eqb o.number 0) (sym passed))
 
-  pub route-few : not t ≡ false → length l ≤ 64
-  route-few on = (route-fits line places l (asked ∙ not-false t on)).steps-fit
+  pub route-few : length l ≤ 64
+  route-few = asked.steps-fit
 
-  pub route-places : not t ≡ false → places ≤ 64
-  route-places on = (route-fits line places l (asked ∙ not-false t on)).places-fit
+  pub route-places : places ≤ 64
+  route-places = asked.places-fit
 
 -- where the lines after a route of at most 64 steps begin
 pub head-fits : (l : List Step) (head : ℕ) → head ≡ after_steps 1 l → length l ≤ 64 → head < 1000
 head-fits l head is few = omega arith
 
-module _ (j : Job) (a : Outcome) (is : a ≡ first (route_rows 1 j.old_places j.old)) (t : Bool)
-    (test : t ≡ eqb a.number 0) where
+module _ (j : Job) where
   abbrev old_rows : List Outcome
   old_rows = route_rows 1 j.old_places j.old
 
   abbrev new_rows : List Outcome
   new_rows = route_rows (new_line j) j.new_places j.new
 
-  pub lines-old : not t ≡ true → a ≡ first (line_rows j)
+  pub lines-old : (e : Refusal) → refuse (number_of e.row) e.second ≡ first old_rows
+      → refuse (number_of e.row) e.second ≡ first (line_rows j)
   unfolding line_rows
-  lines-old off = is ∙ sym (rows-refuse old_rows _ (asked 1 j.old_places j.old a is t test ∙ not-true t off))
+  lines-old e is = err-rows e old_rows is _
 
-  module _ (on : not t ≡ false) (head : ℕ) (head-is : head ≡ new_line j) (b : Outcome)
-      (then : b ≡ first (route_rows head j.new_places j.new)) (u : Bool) (test' : u ≡ eqb b.number 0) where
-    new_is : b ≡ first new_rows
-    new_is = then ∙ ap (λ (n : ℕ). first (route_rows n j.new_places j.new)) head-is
-
-    new-asked : eqb (first new_rows).number 0 ≡ u
-    new-asked = asked (new_line j) j.new_places j.new b new_is u test'
-
-    past-old : (rest : List Outcome) → first rest ≡ first (old_rows ++ rest)
-    past-old rest = sym (rows_pass old_rows rest (asked 1 j.old_places j.old a is t test ∙ not-false t on))
-
-    pub lines_new : not u ≡ true → b ≡ first (line_rows j)
+  module _ (passed : pass ≡ first old_rows) (head : ℕ) (head-is : head ≡ new_line j) where
+    pub lines_new : (e : Refusal) → refuse (number_of e.row) e.second ≡ first (route_rows head j.new_places j.new)
+        → refuse (number_of e.row) e.second ≡ first (line_rows j)
     unfolding line_rows
-    lines_new off = new_is ∙ sym (rows-refuse new_rows _ (new-asked ∙ not-true u off)) ∙ past-old _
+    lines_new e is =
+        err-rows e new_rows (is ∙ ap (λ (n : ℕ). first (route_rows n j.new_places j.new)) head-is) _
+        ∙ sym (ok-rows old_rows passed _)
 
-    pub lines-done : not u ≡ false → (line : ℕ) → line ≡ job_line j → (o : Outcome)
+    pub lines-done : pass ≡ first (route_rows head j.new_places j.new) → (line : ℕ) → line ≡ job_line j → (o : Outcome)
         → o ≡ first (done_rows present (line + 1) 0 j.done)
         → o ≡ first (line_rows j)
     unfolding line_rows
-    lines-done pass line line-is o last =
+    lines-done passed' line line-is o last =
         last
         ∙ ap (λ (n : ℕ). first (done_rows present (n + 1) 0 j.done)) line-is
-        ∙ sym (rows_pass new_rows _ (new-asked ∙ not-false u pass))
-        ∙ past-old _
+        ∙ sym (ok-rows new_rows (passed' ∙ ap (λ (n : ℕ). first (route_rows n j.new_places j.new)) head-is) _)
+        ∙ sym (ok-rows old_rows passed _)
 
 -- what a job whose lines pass has
 pub record LinesFit (j : Job) : Type 0 where

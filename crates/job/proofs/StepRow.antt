@@ -16,12 +16,12 @@ use Rattle.route.proofs.StepList.{length-names}
 use Rattle.name_set.specs.Among.{among}
 use Rattle.job.specs.Lines.{step_fits, lists_fit, step_row}
 
-module _ (line places : ℕ) (earlier : List ℕ) (s : Step) (o : Outcome) where
-  pub step-two : (f : Bool) → o ≡ refuse 2 line → length earlier < 64 → f ≡ step_fits places s → not f ≡ true
-      → o ≡ step_row line places earlier s
+module _ (line places : ℕ) (earlier : List ℕ) (s : Step) where
+  pub step-two : (f : Bool) → length earlier < 64 → f ≡ step_fits places s → not f ≡ true
+      → refuse 2 line ≡ step_row line places earlier s
   unfolding step_row
-  step-two f p h fits t =
-      p ∙ sym (row-refuses (step_fits places s) 2 line _ (sym fits ∙ not-true f t) refl)
+  step-two f h fits t =
+      sym (row-refuses (step_fits places s) 2 line _ (sym fits ∙ not-true f t) refl)
       ∙ sym (row-passes _ 4 line _ (lt-ltb (length earlier) 64 h))
 
   module _ (f l : Bool) (room : length earlier < 64) (fits : f ≡ step_fits places s) (fit : not f ≡ false)
@@ -32,23 +32,23 @@ module _ (line places : ℕ) (earlier : List ℕ) (s : Step) (o : Outcome) where
         row-passes _ 4 line _ (lt-ltb (length earlier) 64 room)
         ∙ row-passes (step_fits places s) 2 line k (sym fits ∙ not-false f fit)
 
-    pub step-three : o ≡ refuse 3 line → not l ≡ true → o ≡ step_row line places earlier s
+    pub step-three : not l ≡ true → refuse 3 line ≡ step_row line places earlier s
     unfolding step_row
-    step-three p t = p ∙ sym (row-refuses (lists_fit s) 3 line _ (sym lists ∙ not-true l t) refl) ∙ sym (after_two _)
+    step-three t = sym (row-refuses (lists_fit s) 3 line _ (sym lists ∙ not-true l t) refl) ∙ sym (after_two _)
 
-    pub step-five : (known : Bool) → o ≡ refuse 5 line → not l ≡ false → known ≡ among s.name earlier
-        → known ≡ true → o ≡ step_row line places earlier s
+    pub step-five : (known : Bool) → not l ≡ false → known ≡ among s.name earlier
+        → known ≡ true → refuse 5 line ≡ step_row line places earlier s
     unfolding step_row
-    step-five known p t is e =
-        p ∙ sym (row-refuses (not (among s.name earlier)) 5 line [] (ap not (sym is ∙ e)) refl)
+    step-five known t is e =
+        sym (row-refuses (not (among s.name earlier)) 5 line [] (ap not (sym is ∙ e)) refl)
         ∙ sym (row-passes (lists_fit s) 3 line _ (sym lists ∙ not-false l t))
         ∙ sym (after_two _)
 
-    pub step-none : (known : Bool) → o ≡ pass → not l ≡ false → known ≡ among s.name earlier → known ≡ false
-        → o ≡ step_row line places earlier s
+    pub step-none : (known : Bool) → not l ≡ false → known ≡ among s.name earlier → known ≡ false
+        → pass ≡ step_row line places earlier s
     unfolding step_row
-    step-none known p t is e =
-        p ∙ sym rows_end
+    step-none known t is e =
+        sym rows_end
         ∙ sym (row-passes (not (among s.name earlier)) 5 line [] (ap not (sym is ∙ e)))
         ∙ sym (row-passes (lists_fit s) 3 line _ (sym lists ∙ not-false l t))
         ∙ sym (after_two _)

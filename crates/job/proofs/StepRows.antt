@@ -1,30 +1,31 @@
 -- The rows of a list's steps in turn: what a pass over them meets. A step that passes leaves the rows of those below
 -- it, and a step that is refused is the answer.
 use mathlib.Core.Path.{◌≡◌, refl, sym, ap, ap₂, ◌∙◌}
-use mathlib.Core.Bool.{Bool, true, false, not}
 use mathlib.Core.List.{List, [], ◌∷◌, ◌++◌}
 use Prim.Native.Nat.{ℕ, ◌+◌, ◌≤◌, ◌<◌}
 use native.Mathlib.Omega.{arith}
 use native.Mathlib.Numerals.{add-one}
-use lib.Dec.{eqb}
 use lib.ListN.{length, take, drop, get_or, drop_of_length-le}
 use lib.Seq.{take-suc, length-take-le}
-use borrow.Author.Tests.{le-ltb, not-true, not-false}
+use borrow.Author.Tests.{le-ltb}
 use Rattle.refusal.specs.Rows.{pass, refuse, first}
 use Rattle.refusal.specs.declared.Outcome.{Outcome}
-use Rattle.refusal.proofs.Rows.{head-refuses, head-passes, row-refuses, rows_end}
+use Rattle.refusal.specs.declared.Refusal.{Refusal}
+use Rattle.refusal.specs.Refusal.{number_of}
+use Rattle.refusal.proofs.Rows.{head-refuses, row-refuses, rows_end}
+use Rattle.refusal.proofs.Answered.{err-refuses, ok-passes}
 use Rattle.route.specs.Steps.{blank, names}
 use Rattle.route.specs.declared.Step.{Step}
 use Rattle.route.proofs.StepList.{length-names, list_on, get_or-names}
 use Rattle.job.specs.Lines.{step_row, step_rows}
 
 -- `count` steps, of which i have passed
-module _ (line places i count : ℕ) (l : List Step) (o whole : Outcome) (counted : count ≡ length l)
+module _ (line places i count : ℕ) (l : List Step) (whole : Outcome) (counted : count ≡ length l)
     (inv : first (step_rows (line + i) places (take i (names l)) (drop i l)) ≡ whole) where
-  pub steps-end : count ≤ i → o ≡ pass → o ≡ whole
+  pub steps-end : count ≤ i → pass ≡ whole
   unfolding step_rows
-  steps-end h is =
-      is ∙ sym rows_end
+  steps-end h =
+      sym rows_end
       ∙ ap (λ (x : List Step). first (step_rows (line + i) places (take i (names l)) x))
       (sym (drop_of_length-le l {i = i} (omega arith)))
       ∙ inv
@@ -39,22 +40,19 @@ module _ (line places i count : ℕ) (l : List Step) (o whole : Outcome) (counte
         (sym (list_on l i s count counted more at))
         ∙ inv
 
-    module _ (earlier : List ℕ) (t : Bool) (above : earlier ≡ take i (names l))
-        (is : o ≡ step_row (line + i) places earlier s) (passed : t ≡ eqb o.number 0) where
-      row_is : step_row (line + i) places (take i (names l)) s ≡ o
-      row_is = ap (λ (x : List ℕ). step_row (line + i) places x s) (sym above) ∙ sym is
+    module _ (earlier : List ℕ) (above : earlier ≡ take i (names l)) where
+      row_is : step_row (line + i) places earlier s ≡ step_row (line + i) places (take i (names l)) s
+      row_is = ap (λ (x : List ℕ). step_row (line + i) places x s) above
 
-      number_is : eqb (step_row (line + i) places (take i (names l)) s).number 0 ≡ t
-      number_is = ap (λ (x : Outcome). eqb x.number 0) row_is ∙ sym passed
+      pub steps-refused : (e : Refusal) → refuse (number_of e.row) e.second ≡ step_row (line + i) places earlier s
+          → refuse (number_of e.row) e.second ≡ whole
+      steps-refused e is = err-refuses e _ (is ∙ row_is) _ ∙ here
 
-      pub steps-refused : not t ≡ true → o ≡ whole
-      steps-refused fails = sym row_is ∙ sym (head-refuses _ _ (number_is ∙ not-true t fails)) ∙ here
-
-      pub steps-passed : not t ≡ false
+      pub steps-passed : pass ≡ step_row (line + i) places earlier s
           → first (step_rows (line + (i + 1)) places (take (i + 1) (names l)) (drop (i + 1) l)) ≡ whole
-      steps-passed passes =
+      steps-passed is =
           ap₂ (λ (n : ℕ) (x : List ℕ). first (step_rows n places x (drop (i + 1) l))) line_on names-on
-          ∙ sym (head-passes _ _ (number_is ∙ not-false t passes))
+          ∙ sym (ok-passes _ (is ∙ row_is) _)
           ∙ here
         where
           line_on : line + (i + 1) ≡ line + i + 1
@@ -67,9 +65,9 @@ module _ (line places i count : ℕ) (l : List Step) (o whole : Outcome) (counte
               ∙ ap (λ (x : ℕ). take i (names l) ++ (x ∷ [])) (get_or-names l i ∙ ap (λ (x : Step). x.name) (sym at))
 
   -- the 65th
-  pub steps-over : i < count → i ≤ 64 → 64 ≤ i → o ≡ refuse 4 (line + 64) → o ≡ whole
-  steps-over more low high is =
-      is ∙ ap (λ (n : ℕ). refuse 4 (line + n)) full
+  pub steps-over : i < count → i ≤ 64 → 64 ≤ i → refuse 4 (line + 64) ≡ whole
+  steps-over more low high =
+      ap (λ (n : ℕ). refuse 4 (line + n)) full
       ∙ sym (head-refuses _ _ refl)
       ∙ ap (λ (x : Outcome). first
       (x ∷ step_rows (line + i + 1) places (take i (names l) ++ (s.name ∷ [])) (drop (i + 1) l))) (sym refused)

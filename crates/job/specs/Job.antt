@@ -1,10 +1,12 @@
 -- A job as records: both routes and the done list, and the lines that writing it would give.
-use Rattle.std.specs.Prelude.{List, ℕ, ◌+◌, length}
+use Rattle.std.specs.Prelude.{List, ℕ, ◌+◌, length, take}
 use Rattle.route.specs.Steps.{steps_of}
 use Rattle.flat.specs.Flat.{steps_in}
 use Rattle.route.specs.Firing.{start}
 use Rattle.route.specs.declared.Step.{Step}
 use Rattle.route.specs.declared.Route.{Route}
+use Rattle.job.specs.declared.FlatJob.{FlatJob}
+use Rattle.job.specs.declared.laying.RouteJob.{RouteJob}
 
 pub record Job : Type 0 where
   pub old_places : ℕ
@@ -22,6 +24,24 @@ job_of old new done =
 abbrev pub flat_job : ℕ → List ℕ → ℕ → List ℕ → List ℕ → Job
 flat_job old_places old new_places new done =
     record { old_places = old_places; old = steps_in old; new_places = new_places; new = steps_in new; done = done }
+
+-- the same of a job that is lent
+abbrev pub job_in : FlatJob → Job
+job_in j = flat_job j.old_places j.old.now j.new_places j.new.now j.done.now
+
+-- the same of a job whose routes are records
+abbrev pub routes_in : RouteJob → Job
+routes_in j = job_of j.old.now j.new.now j.done.now
+
+-- the job with both lists cut to 65 steps
+abbrev pub cut : Job → Job
+cut j = record {
+  old_places = j.old_places;
+  old = take 65 j.old;
+  new_places = j.new_places;
+  new = take 65 j.new;
+  done = j.done;
+}
 
 -- where runs, replays and fit orders begin: the start of the old route, and of the new
 abbrev pub old_start : Job → ℕ

@@ -1,16 +1,19 @@
 // Rows 4, 2, 3 and 5 of lists of steps, line by line.
-ghost use Rattle.std.specs.Prelude.{◌≡◌, [], ◌≤◌, ◌<◌, length};
+ghost use Rattle.std.specs.Prelude.{◌≡◌, [], ◌≤◌, ◌<◌, length, IfOk};
 ghost use Rattle.refusal.specs.Rows.{first};
+ghost use Rattle.refusal.specs.Refusal.{outcome_of};
 ghost use Rattle.route.specs.Steps.{names};
 ghost use Rattle.name_set.specs.inner.Hints.{Hinted};
 ghost use Rattle.flat.specs.Flat.{steps_in};
-ghost use Rattle.job.specs.Job.{flat_job, after_steps};
-ghost use Rattle.job.specs.Alone.{opened_alone};
+ghost use Rattle.job.specs.Job.{job_in, job_line, after_steps};
+ghost use Rattle.job.specs.Alone.{alone_rows};
+ghost use Rattle.route.specs.Firing.{start};
 ghost use Rattle.job.specs.Lines.{step_row, step_rows, route_rows, line_rows};
 
+use crate::FlatJob;
 use crate::lines::{check_done, lists_fit, places_fit, step_fits};
-use opening::{Opened, open};
-use refusal::Outcome;
+use opening::open;
+use refusal::{Refusal, Row};
 use route::{Marking, Route, Step};
 
 // The line of the head that follows a route's, whose own head is on `line`.
@@ -22,110 +25,84 @@ pub fn next_head(line: u64, steps: &[u64]) -> u64
 }
 
 // The line of `(job)`; the done lines follow.
-pub fn job_line(old: &[u64], new: &[u64]) -> u64
-    requires { (length (steps_in old.now) ≤ 64) × (length (steps_in new.now) ≤ 64) }
-    ensures value { result ≡ after_steps (after_steps 1 (steps_in old.now)) (steps_in new.now) }
+pub fn job_line(job: FlatJob) -> u64
+    requires { (length (job_in job).old ≤ 64) × (length (job_in job).new ≤ 64) }
+    ensures value { result ≡ job_line (job_in job.entry) }
     ensures upper_bound { result ≤ 131 }
 {
-    next_head(next_head(1, old), new)
+    next_head(next_head(1, job.old), job.new)
 }
 
 // The rows of one step's line, given the steps above it: there is room for one more.
-fn check_step(places: u64, s: Step, earlier: &[u64], hint: &[u8; 256], line: u64) -> Outcome
+fn check_step(
+    places: u64,
+    s: Step,
+    earlier: &[u64],
+    hint: &[u8; 256],
+    line: u64,
+) -> Result<(), Refusal>
     requires places_bound { (places ≤ 64) × (length (steps_in earlier.now) < 64) }
     requires hinted { Hinted (names (steps_in earlier.now)) hint.now }
-    ensures { result ≡ step_row line places (names (steps_in earlier.now)) s }
+    ensures { outcome_of result ≡ step_row line places (names (steps_in earlier.now)) s }
 {
     if !step_fits(places, s) {
-        return Outcome::refuse(2, line);
+        return Err(Row::OutOfRange.at(line));
     }
     if !lists_fit(s) {
-        return Outcome::refuse(3, line);
+        return Err(Row::BadList.at(line));
     }
     if name_set::has(hint, earlier, s.name) {
-        return Outcome::refuse(5, line);
+        return Err(Row::NameTwice.at(line));
     }
-    Outcome::pass()
+    Ok(())
 }
 
 // The steps, top down; the first is on `line`.
-fn check_steps(places: u64, steps: &[u64], line: u64) -> Outcome
+fn check_steps(places: u64, steps: &[u64], line: u64) -> Result<(), Refusal>
     requires { (places ≤ 64) × (line ≤ 1000) }
-    ensures { result ≡ first (step_rows line places [] (steps_in steps.now)) }
+    ensures { outcome_of result ≡ first (step_rows line places [] (steps_in steps.now)) }
 {
     let mut hint = [0u8; 256];
     for i in 0..flat::count(steps) {
         if Route::STEPS <= i {
-            return Outcome::refuse(4, line + 64);
+            return Err(Row::BadLength.at(line + 64));
         }
         let s = flat::step_at(steps, i);
-        let o = check_step(places, s, &steps[..4 * i], &hint, line + i as u64);
-        if !o.passed() {
-            return o;
-        }
+        check_step(places, s, &steps[..4 * i], &hint, line + i as u64)?;
         name_set::add(&mut hint, s.name, i);
     }
-    Outcome::pass()
+    Ok(())
 }
 
 // A route's lines from its head on; a route with no step is refused where the next head would stand.
-fn check_route(places: u64, steps: &[u64], line: u64) -> Outcome
+fn check_route(places: u64, steps: &[u64], line: u64) -> Result<(), Refusal>
     requires { line < 1000 }
-    ensures { result ≡ first (route_rows line places (steps_in steps.now)) }
+    ensures { outcome_of result ≡ first (route_rows line places (steps_in steps.now)) }
 {
     if !places_fit(places) {
-        return Outcome::refuse(2, line);
+        return Err(Row::OutOfRange.at(line));
     }
-    let o = check_steps(places, steps, line + 1);
-    if !o.passed() {
-        return o;
-    }
+    check_steps(places, steps, line + 1)?;
     if flat::count(steps) == 0 {
-        return Outcome::refuse(4, line + 1);
+        return Err(Row::BadLength.at(line + 1));
     }
-    Outcome::pass()
+    Ok(())
 }
 
 // One route by itself: the rows that an old route meets, and the start where none refuses.
-pub fn check_alone(places: u64, steps: &[u64]) -> Opened
-    ensures { result ≡ opened_alone places (steps_in steps.now) }
+pub fn check_alone(places: u64, steps: &[u64]) -> Result<Marking, Refusal>
+    ensures outcome { outcome_of result ≡ first (alone_rows places (steps_in steps.now)) }
+    ensures start { IfOk result (λ m. m.tokens ≡ start places (steps_in steps.now)) }
 {
-    let outcome = check_route(places, steps, 1);
-    if !outcome.passed() {
-        return Opened {
-            outcome,
-            marking: Marking { tokens: 0 },
-        };
-    }
-    let a = open(places, steps, 1);
-    let outcome = a.outcome;
-    if !outcome.passed() {
-        return Opened {
-            outcome,
-            marking: Marking { tokens: 0 },
-        };
-    }
-    a
+    check_route(places, steps, 1)?;
+    open(places, steps, 1)
 }
 
 // All lines, top down.
-pub fn check_lines(
-    old_places: u64,
-    old: &[u64],
-    new_places: u64,
-    new: &[u64],
-    done: &[u32],
-) -> Outcome
-    ensures { result ≡ first
-        (line_rows (flat_job old_places old.now new_places new.now done.now)) }
+pub fn check_lines(job: FlatJob) -> Result<(), Refusal>
+    ensures { outcome_of result ≡ first (line_rows (job_in job.entry)) }
 {
-    let a = check_route(old_places, old, 1);
-    if !a.passed() {
-        return a;
-    }
-    let b = check_route(new_places, new, next_head(1, old));
-    if !b.passed() {
-        return b;
-    }
-    check_done(done, job_line(old, new) + 1)
+    check_route(job.old_places, job.old, 1)?;
+    check_route(job.new_places, job.new, next_head(1, job.old))?;
+    check_done(job.done, job_line(job) + 1)
 }

@@ -3,4 +3,15 @@
 #![tactic(auto)]
 
 pub mod checks;
+pub mod laying;
 pub mod lines;
+
+// A job that is lent: both routes' place counts, their steps as numbers, and the done names.
+#[derive(Clone, Copy)]
+pub struct FlatJob<'a> {
+    pub old_places: u64,
+    pub old: &'a [u64],
+    pub new_places: u64,
+    pub new: &'a [u64],
+    pub done: &'a [u32],
+}

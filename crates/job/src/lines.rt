@@ -1,11 +1,12 @@
 // The tests of one line, and rows 4 and 2 of the done lines.
 ghost use Rattle.std.specs.Prelude.{◌≡◌, ◌≤◌};
 ghost use Rattle.refusal.specs.Rows.{first};
+ghost use Rattle.refusal.specs.Refusal.{outcome_of};
 ghost use Rattle.version.specs.Limits.{present, name_fits};
 ghost use Rattle.job.specs.Lines.{places_fit, step_fits, place_list, variable_list, lists_fit, done_rows};
 
 use mask::Mask;
-use refusal::Outcome;
+use refusal::{Refusal, Row};
 use route::{Route, Step};
 use version::Version;
 
@@ -52,17 +53,17 @@ pub fn places_fit(n: u64) -> bool
 }
 
 // The done lines; the first is on `line`.
-pub fn check_done(done: &[u32], line: u64) -> Outcome
+pub fn check_done(done: &[u32], line: u64) -> Result<(), Refusal>
     requires { line ≤ 1000 }
-    ensures { result ≡ first (done_rows present line 0 done.now) }
+    ensures { outcome_of result ≡ first (done_rows present line 0 done.now) }
 {
     for (i, &name) in done.iter().enumerate() {
         if i >= Route::STEPS {
-            return Outcome::refuse(4, line + 64);
+            return Err(Row::BadLength.at(line + 64));
         }
         if !name_fits(name) {
-            return Outcome::refuse(2, line + i as u64);
+            return Err(Row::OutOfRange.at(line + i as u64));
         }
     }
-    Outcome::pass()
+    Ok(())
 }

@@ -7,7 +7,7 @@ use Prim.Native.Nat.{ℕ, suc, ◌≤◌, ◌<◌}
 use native.Mathlib.Omega.{arith}
 use lib.ListN.{length, take}
 use borrow.Author.Tests.{eq-eqb}
-use Rattle.std.specs.Prelude.{Option, Some, None}
+use Rattle.std.specs.Prelude.{Option, Some, None, Ok}
 use Rattle.mask.specs.Mask.{has, below, count}
 use Rattle.mask.proofs.Members.{count-few}
 use Rattle.route.specs.Steps.{blank}
@@ -25,7 +25,7 @@ use Rattle.matching.specs.inner.Matched.{matched, straight_end}
 use Rattle.preparing.specs.declared.Prepared.{Prepared}
 use Rattle.matching.proofs.Matched.{length-matched}
 use Rattle.matching.proofs.KeptRows.{limit-holds, members-same}
-use Rattle.answering.specs.Answer.{padded, judge_stopped, answer}
+use Rattle.answering.specs.Answer.{padded, judge_stopped, judged_of, answer}
 use Rattle.search.specs.Candidates.{first_order, sequence}
 use Rattle.candidates.specs.FirstFit.{first_fit}
 use Rattle.candidates.specs.inner.Columns.{ColumnsOf, Packed, positions, placed_by}
@@ -33,7 +33,7 @@ use Rattle.candidates.specs.declared.Columns.{Columns}
 use Rattle.judging.specs.Judge.{judge_found, judge_rows}
 use Rattle.answering.specs.inner.Listed.{placed_on, AnswersList}
 use Rattle.answering.specs.declared.Placed.{Placed}
-use Rattle.answering.specs.declared.Judged.{Judged}
+use Rattle.answering.specs.declared.Moved.{Moved}
 use Rattle.judging.specs.inner.Passing.{Passing}
 use Rattle.candidates.proofs.CandidateColumns.{AllSame}
 use Rattle.candidates.proofs.FirstFit.{Found, none-fit, order-fit}
@@ -174,11 +174,10 @@ module _ {p : Prepared} {l t : List Step} (k : Passing p l t) (rows : List ℕ) 
   module _ (table_is : rows ≡ table l) (r : Option ℕ)
       (e : r ≡ sequence (first_order (take c.candidates.len c.candidates.ins) (take c.candidates.len c.candidates.outs) (take c.candidates.len c.candidates.before)
       p.start.tokens)) where
-    pub none-judged : r ≡ None → (z : Judged) → z ≡ judge_stopped 13 p.line
-        → z ≡ judge_found p.line p.start.tokens k.new l (first_fit p.start.tokens k.new l)
-    none-judged f z is =
-        is
-        ∙ none-answer p.line p.start.tokens k.new l
+    pub none-judged : r ≡ None
+        → judge_stopped 13 p.line ≡ judge_found p.line p.start.tokens k.new l (first_fit p.start.tokens k.new l)
+    none-judged f =
+        none-answer p.line p.start.tokens k.new l
         (none-fit k.new l p.kept rows c k.kept-is (passing-same k) table_is columns-are p.start.tokens
         r e f)
 
@@ -196,8 +195,8 @@ module _ {p : Prepared} {l t : List Step} (k : Passing p l t) (rows : List ℕ) 
         c.candidates.sixteen.few,
       )
 
-      pub order-judged : (z : Judged) → AnswersList rows p.vars p.kept q l z
-          → z ≡ judge_found p.line p.start.tokens k.new l (first_fit p.start.tokens k.new l)
+      pub order-judged : (z : Moved) → AnswersList rows p.vars p.kept q l z
+          → judged_of (Ok z) ≡ judge_found p.line p.start.tokens k.new l (first_fit p.start.tokens k.new l)
       order-judged z answers =
           answers p.start.tokens k.new (positions c found.order) table_is k.vars-are
           (placed found.order found.packed ∙ found.placed-is)

@@ -5,11 +5,10 @@ use mathlib.Core.Bool.{false, cond, and-false}
 use mathlib.Core.List.{List}
 use Prim.Native.Nat.{ℕ}
 use lib.Dec.{eqb, leb}
-use Rattle.flat.specs.Flat.{Laid}
-use Rattle.job.specs.Job.{Job}
+use Rattle.job.specs.Job.{Job, cut}
 use Rattle.running.specs.Run.{ran}
 use Rattle.running.specs.declared.Ran.{Ran}
-use Rattle.job.proofs.LongLists.{Refused, laid_job, same-laid}
+use Rattle.job.proofs.LongLists.{Refused, laid-alike}
 use Rattle.running.proofs.LongLists.{ran-alike, ran-off}
 use Rattle.answering.specs.Answer.{judge_stopped}
 use Rattle.judging.specs.Judge.{judged, searched, work_after}
@@ -42,11 +41,8 @@ module _ (j k : Job) (r : Refused j k) where
 
 -- ---- both lists laid as numbers
 
-module _ (j : Job) (n : ℕ) (a : List ℕ) (m : ℕ) (b : List ℕ) (p : Laid j.old n a) (q : Laid j.new m b) where
-  pub judged-laid : (room : ℕ) (r : Judged) → r ≡ judged (laid_job j n a m b p q) room → r ≡ judged j room
-  judged-laid room r e =
-      e ∙ same-laid j n a m b p q (λ (j : Job). judged j room) (λ j k x. judged-alike j k x room)
+pub judged_cut : (room : ℕ) (j k : Job) → k ≡ cut j → (r : Judged) → r ≡ judged k room → r ≡ judged j room
+judged_cut room = laid-alike (λ (j : Job). judged j room) (λ j k x. judged-alike j k x room)
 
-  pub work-laid : (work w : List ℕ) → w ≡ work_after (laid_job j n a m b p q) work → w ≡ work_after j work
-  work-laid work w e =
-      e ∙ same-laid j n a m b p q (λ (j : Job). work_after j work) (λ j k x. work-alike j k x work)
+pub work_cut : (work : List ℕ) (j k : Job) → k ≡ cut j → (w : List ℕ) → w ≡ work_after k work → w ≡ work_after j work
+work_cut work = laid-alike (λ (j : Job). work_after j work) (λ j k x. work-alike j k x work)

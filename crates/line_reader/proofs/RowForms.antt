@@ -21,19 +21,19 @@ use Rattle.line_reader.specs.inner.Lines.{IsForm, line_fits, line_lists}
 use Rattle.line_reader.specs.declared.StepLine.{StepLine}
 use Rattle.line_reader.proofs.LineForm.{fits-form, lists-form}
 
-module _ (v : Version) (limits : Limits v) (line places above : ℕ) (earlier : List ℕ) (l : StepLine) (o : Outcome)
+module _ (v : Version) (limits : Limits v) (line places above : ℕ) (earlier : List ℕ) (l : StepLine)
     (k : ℕ) (many : k ≡ above) where
-  pub row-four : o ≡ refuse 4 line → 64 ≤ k → (f : Form) → IsForm l f → o ≡ form_row v line places above earlier f
+  pub row-four : (f : Form) → 64 ≤ k → refuse 4 line ≡ form_row v line places above earlier f
   unfolding form_row
-  row-four q h f is = q ∙ sym (row-refuses _ 4 line _ (le-ltb above 64 (omega (arith, h, many))) refl)
+  row-four f h = sym (row-refuses _ 4 line _ (le-ltb above 64 (omega (arith, h, many))) refl)
 
   module _ (room : k < 64) (x : Bool) (fits : x ≡ line_fits v places l) where
     four-on : (r : List Outcome) → first (unless (ltb above 64) 4 line ∷ r) ≡ first r
     four-on r = row-passes _ 4 line _ (lt-ltb above 64 (omega (arith, room, many)))
 
-    pub row-two : o ≡ refuse 2 line → not x ≡ true → (f : Form) → IsForm l f → o ≡ form_row v line places above earlier f
+    pub row-two : (f : Form) → IsForm l f → not x ≡ true → refuse 2 line ≡ form_row v line places above earlier f
     unfolding form_row
-    row-two q t f is = q ∙ sym (row-refuses (form_fits v places f) 2 line _
+    row-two f is t = sym (row-refuses (form_fits v places f) 2 line _
         (sym (fits-form l f is v places) ∙ sym fits ∙ not-true x t) refl) ∙ sym (four-on _)
 
     module _ (fit : not x ≡ false) (y : Bool) (lists : y ≡ line_lists l) where
@@ -42,10 +42,9 @@ module _ (v : Version) (limits : Limits v) (line places above : ℕ) (earlier : 
       two-on f is r = four-on _ ∙ row-passes (form_fits v places f) 2 line r
           (sym (fits-form l f is v places) ∙ sym fits ∙ not-false x fit)
 
-      pub row-three : o ≡ refuse 3 line → not y ≡ true → (f : Form) → IsForm l f
-          → o ≡ form_row v line places above earlier f
+      pub row-three : (f : Form) → IsForm l f → not y ≡ true → refuse 3 line ≡ form_row v line places above earlier f
       unfolding form_row
-      row-three q t f is = q ∙ sym (row-refuses (form_lists f) 3 line _
+      row-three f is t = sym (row-refuses (form_lists f) 3 line _
           (sym (lists-form l f is) ∙ sym lists ∙ not-true y t) refl) ∙ sym (two-on f is _)
 
       module _ (fine : not y ≡ false) (known : Bool) (known-is : known ≡ among (l.name % 4294967296) earlier) where
@@ -63,14 +62,13 @@ module _ (v : Version) (limits : Limits v) (line places above : ℕ) (earlier : 
         known-form f is = let same : l.name % 4294967296 ≡ f.name =
             omega (arith, stored, is.name) in known-is ∙ ap (λ (n : ℕ). among n earlier) same
 
-        pub row-five : o ≡ refuse 5 line → known ≡ true → (f : Form) → IsForm l f
-            → o ≡ form_row v line places above earlier f
+        pub row-five : (f : Form) → IsForm l f → known ≡ true → refuse 5 line ≡ form_row v line places above earlier f
         unfolding form_row
-        row-five q e f is = q ∙ sym (row-refuses (not (among f.name earlier)) 5 line []
+        row-five f is e = sym (row-refuses (not (among f.name earlier)) 5 line []
             (ap not (sym (known-form f is) ∙ e)) refl) ∙ sym (three-on f is _)
 
-        pub row-none : o ≡ pass → known ≡ false → (f : Form) → IsForm l f → o ≡ form_row v line places above earlier f
+        pub row-none : (f : Form) → IsForm l f → known ≡ false → pass ≡ form_row v line places above earlier f
         unfolding form_row
-        row-none q e f is = q ∙ sym rows_end ∙ sym
+        row-none f is e = sym rows_end ∙ sym
             (row-passes (not (among f.name earlier)) 5 line [] (ap not (sym (known-form f is) ∙ e)))
             ∙ sym (three-on f is _)

@@ -1,6 +1,5 @@
 // The lines, each made of its tokens.
 ghost use Rattle.std.specs.Prelude.{◌≡◌, ◌&&◌, ◌+◌, ◌≤◌, eqb, length, get_or};
-ghost use Rattle.version.specs.Limits.{Limits};
 ghost use Rattle.line_reader.specs.inner.Lines.{NumberedOn, ListedOn, EndingOn, StepOn};
 
 use crate::{Ending, StepLine};
@@ -12,8 +11,7 @@ use version::Version;
 
 // A line of one word and one number: its first text, the number, and the end.
 pub fn numbered(v: Version, s: &[u8], from: usize, w: &[u8]) -> Result<Numeral, Broken>
-    requires limits { Limits v }
-    requires from_in_bounds { from ≤ length s.now }
+    requires { from ≤ length s.now }
     ensures { NumberedOn v s.now from w.now result }
 {
     let end = texts::END;
@@ -66,8 +64,7 @@ fn line_end(v: Version, s: &[u8], from: usize) -> Result<Ending, Broken>
 // A list: its text, and its entries. Inlined, as both are.
 #[inline(always)]
 fn listed(v: Version, s: &[u8], from: usize, w: &[u8]) -> Result<Listed, Broken>
-    requires limits { Limits v }
-    requires from_in_bounds { from ≤ length s.now }
+    requires { from ≤ length s.now }
     ensures { ListedOn v s.now from w.now result }
 {
     let at = text(s, from, w)?;
@@ -75,8 +72,7 @@ fn listed(v: Version, s: &[u8], from: usize, w: &[u8]) -> Result<Listed, Broken>
 }
 
 pub fn step(v: Version, s: &[u8], from: usize) -> Result<StepLine, Broken>
-    requires limits { Limits v }
-    requires from_in_bounds { from ≤ length s.now }
+    requires { from ≤ length s.now }
     ensures { StepOn v s.now from result }
 {
     let step = texts::STEP;

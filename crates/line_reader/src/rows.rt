@@ -3,6 +3,7 @@ ghost use Rattle.std.specs.Prelude.{◌≡◌, true, ℕ, ◌≤◌, length};
 ghost use Rattle.route.specs.Steps.{names};
 ghost use Rattle.name_set.specs.inner.Hints.{Hinted};
 ghost use Rattle.flat.specs.Flat.{steps_in};
+ghost use Rattle.refusal.specs.Refusal.{outcome_of};
 ghost use Rattle.version.specs.Limits.{Limits};
 ghost use Rattle.version.specs.declared.Version.{Version};
 ghost use Rattle.job.specs.Lines.{done_row};
@@ -13,50 +14,49 @@ ghost use Rattle.line_reader.specs.inner.Rows.{head_row, new_row, job_row};
 
 use crate::StepLine;
 use job::lines::places_fit;
-use refusal::Outcome;
+use refusal::{Refusal, Row};
 use route::{Route, Step};
 use tokens::Entries;
 use version::Version;
 
-pub fn head_row(n: u64, line: u64) -> Outcome
-    ensures { result ≡ head_row line n }
+pub fn head_row(n: u64, line: u64) -> Result<(), Refusal>
+    ensures { outcome_of result ≡ head_row line n }
 {
-    if places_fit(n) {
-        Outcome::pass()
-    } else {
-        Outcome::refuse(2, line)
+    if !places_fit(n) {
+        return Err(Row::OutOfRange.at(line));
     }
+    Ok(())
 }
 
 // Row 4 of the route above, and then the head's own.
-pub fn new_row(above: usize, n: u64, line: u64) -> Outcome
-    ensures { result ≡ new_row line above n }
+pub fn new_row(above: usize, n: u64, line: u64) -> Result<(), Refusal>
+    ensures { outcome_of result ≡ new_row line above n }
 {
     if above == 0 {
-        return Outcome::refuse(4, line);
+        return Err(Row::BadLength.at(line));
     }
     head_row(n, line)
 }
 
-pub fn job_row(above: usize, line: u64) -> Outcome
-    ensures { result ≡ job_row line above }
+pub fn job_row(above: usize, line: u64) -> Result<(), Refusal>
+    ensures { outcome_of result ≡ job_row line above }
 {
     if above == 0 {
-        return Outcome::refuse(4, line);
+        return Err(Row::BadLength.at(line));
     }
-    Outcome::pass()
+    Ok(())
 }
 
-pub fn done_row(v: Version, above: usize, n: u64, line: u64) -> Outcome
-    ensures { result ≡ done_row v line above n }
+pub fn done_row(v: Version, above: usize, n: u64, line: u64) -> Result<(), Refusal>
+    ensures { outcome_of result ≡ done_row v line above n }
 {
     if Route::STEPS <= above {
-        return Outcome::refuse(4, line);
+        return Err(Row::BadLength.at(line));
     }
     if !v.name_fits(n) {
-        return Outcome::refuse(2, line);
+        return Err(Row::OutOfRange.at(line));
     }
-    Outcome::pass()
+    Ok(())
 }
 
 // Few enough entries, each above the one before.
@@ -98,26 +98,25 @@ pub fn step_row(
     places: u64,
     l: StepLine,
     line: u64,
-) -> Outcome
-    requires limits { Limits v }
-    requires hinted { Hinted (names (steps_in steps.now)) hint.now }
+) -> Result<(), Refusal>
+    requires { Hinted (names (steps_in steps.now)) hint.now }
     ensures { (f : Form) → IsForm l f
-        → result ≡ form_row v line places (length (steps_in steps.now))
+        → outcome_of result ≡ form_row v line places (length (steps_in steps.now))
         (names (steps_in steps.now)) f }
 {
     if Route::STEPS <= flat::count(steps) {
-        return Outcome::refuse(4, line);
+        return Err(Row::BadLength.at(line));
     }
     if !line_fits(v, places, l) {
-        return Outcome::refuse(2, line);
+        return Err(Row::OutOfRange.at(line));
     }
     if !line_lists(l) {
-        return Outcome::refuse(3, line);
+        return Err(Row::BadList.at(line));
     }
     if name_set::has(hint, steps, (l.name % 4294967296) as u32) {
-        return Outcome::refuse(5, line);
+        return Err(Row::NameTwice.at(line));
     }
-    Outcome::pass()
+    Ok(())
 }
 
 pub fn step_of(l: StepLine) -> Step

@@ -1,3 +1,4 @@
 -- Promises between inner functions. No contract of an open operation and no theorem rests on what they mean.
 pub mod Matched
 pub mod Matches
+pub mod Pairs

@@ -1,6 +1,7 @@
 // Rows 10, 11 and 12: what stops a job whose done list has run.
 ghost use Rattle.std.specs.Prelude.{◌≡◌, List, true, ◌||◌, ℕ, ◌≤◌, ◌<◌, leb, length, is_some};
 ghost use Rattle.mask.specs.Mask.{has, members, count};
+ghost use Rattle.refusal.specs.Refusal.{outcome_of};
 ghost use Rattle.refusal.specs.Rows.{first};
 ghost use Rattle.route.specs.declared.Step.{Step};
 ghost use Rattle.flat.specs.Flat.{steps_in};
@@ -10,7 +11,7 @@ ghost use Rattle.matching.specs.inner.Matched.{straight_end};
 ghost use Rattle.matching.specs.inner.Matches.{MatchesOf, same_mask};
 
 use mask::Mask;
-use refusal::Outcome;
+use refusal::{Refusal, Row};
 use route::{Marking, Route};
 
 // At most 16 are kept, or the job is straight.
@@ -21,21 +22,21 @@ fn limited(straight: Option<Marking>, kept: u64) -> bool
 }
 
 // Rows 11 and 12 at the first of the kept that isn't the same in the new route; `line` is that of the first done line.
-fn kept_lines(kept: u64, same: u64, matches: &[u64], line: u64) -> Outcome
+fn kept_lines(kept: u64, same: u64, matches: &[u64], line: u64) -> Result<(), Refusal>
     requires line_bound { line ≤ 1000 }
     requires by_index { (i : ℕ) → has kept i ≡ true → (i < 64) × (i < length (steps_in matches.now)) }
     ensures { (new l : List Step) → MatchesOf new l matches.now → same ≡ same_mask new l
-        → result ≡ first (kept_lines new l line (members 64 kept)) }
+        → outcome_of result ≡ first (kept_lines new l line (members 64 kept)) }
 {
     let wrong = kept.without(same);
     if wrong == 0 {
-        return Outcome::pass();
+        return Ok(());
     }
     let i = wrong.lowest();
     if flat::name_at(matches, i) == 0 {
-        return Outcome::refuse(11, line + i as u64);
+        return Err(Row::NotInNewRoute.at(line + i as u64));
     }
-    Outcome::refuse(12, line + i as u64)
+    Err(Row::UsesDiffer.at(line + i as u64))
 }
 
 // Row 10 at the job line, then 11 and 12.
@@ -45,14 +46,14 @@ pub fn kept_rows(
     matches: &[u64],
     straight: Option<Marking>,
     line: u64,
-) -> Outcome
+) -> Result<(), Refusal>
     requires line_bound { line ≤ 900 }
     requires by_index { (i : ℕ) → has kept i ≡ true → (i < 64) × (i < length (steps_in matches.now)) }
     ensures { (from : ℕ) (new l : List Step) → MatchesOf new l matches.now → kept ≡ kept_of new l
-        → same ≡ same_mask new l → straight ≡ straight_end from new l → result ≡ kept_rows line from new l }
+        → same ≡ same_mask new l → straight ≡ straight_end from new l → outcome_of result ≡ kept_rows line from new l }
 {
     if !limited(straight, kept) {
-        return Outcome::refuse(10, line);
+        return Err(Row::TooManyKept.at(line));
     }
     kept_lines(kept, same, matches, line + 1)
 }

@@ -1,10 +1,11 @@
 // Which occurrences the new route has with the same reads, writes and mark.
-ghost use Rattle.std.specs.Prelude.{◌≡◌, List, ◌≤◌, length};
+ghost use Rattle.std.specs.Prelude.{◌≡◌, List};
 ghost use Rattle.route.specs.declared.Step.{Step};
-ghost use Rattle.flat.specs.Flat.{steps_in};
 ghost use Rattle.matching.specs.Straight.{same_data};
 ghost use Rattle.matching.specs.inner.Matches.{MatchesOf, present, same_mask};
+ghost use Rattle.matching.specs.inner.Pairs.{done_in};
 
+use crate::Pairs;
 use mask::Mask;
 use route::Step;
 
@@ -17,15 +18,16 @@ fn same_data(s: Step, t: Step) -> bool
 }
 
 // By one pass over both lists.
-pub fn same_mask(occurrences: &[u64], matches: &[u64]) -> u64
-    requires occurrences_len_bound { length (steps_in occurrences.now) ≤ 64 }
-    requires matches_len { length (steps_in matches.now) ≡ length (steps_in occurrences.now) }
-    ensures { (new : List Step) → MatchesOf new (steps_in occurrences.now) matches.now
-        → result ≡ same_mask new (steps_in occurrences.now) }
+pub fn same_mask(pairs: Pairs) -> u64
+    ensures { (new : List Step) → MatchesOf new (done_in pairs.entry) pairs.entry.matches.now
+        → result ≡ same_mask new (done_in pairs.entry) }
 {
     let mut same = 0;
-    for i in 0..flat::count(occurrences) {
-        if same_data(flat::step_at(occurrences, i), flat::step_at(matches, i)) {
+    for i in 0..flat::count(pairs.occurrences) {
+        if same_data(
+            flat::step_at(pairs.occurrences, i),
+            flat::step_at(pairs.matches, i),
+        ) {
             same |= u64::bit(i);
         }
     }

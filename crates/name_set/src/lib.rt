@@ -26,11 +26,5 @@ pub fn has(hint: &[u8; 256], steps: &[u64], name: u32) -> bool
     ensures { result ≡ among name (names (steps_in steps.now)) }
 {
     let k = hint[(name % 256) as usize] as usize;
-    if k == 0 {
-        return false;
-    }
-    if flat::name_at(steps, k - 1) == name {
-        return true;
-    }
-    lookup::first(steps, name).is_some()
+    k != 0 && (flat::name_at(steps, k - 1) == name || lookup::first(steps, name).is_some())
 }

@@ -7,7 +7,6 @@ use Rattle.route.specs.Firing.{start}
 use Rattle.route.specs.declared.Step.{Step}
 use Rattle.refusal.specs.declared.Outcome.{Outcome}
 use Rattle.refusal.specs.Rows.{unless, first}
-use Rattle.opening.specs.declared.Opened.{Opened}
 
 -- 6: a place in no step; 7: no start place; both at the head's line
 unfoldable pub net_row : ℕ → ℕ → List Step → Outcome
@@ -16,7 +15,3 @@ net_row line places l =
     (unless (within (below places) (bit_or (union (λ (s : Step). s.ins) l) (union (λ (s : Step). s.outs) l))) 6 line
     ∷ unless (not (eqb (start places l) 0)) 7 line
     ∷ [])
-
--- both, and the start
-unfoldable pub opened : ℕ → ℕ → List Step → Opened
-opened line places l = record { outcome = net_row line places l; marking = record { tokens = start places l } }

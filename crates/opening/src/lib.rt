@@ -1,13 +1,15 @@
 // A list of steps as a whole: the places that they take from and put to, the start, and rows 6 and 7.
 #![tactic(auto)]
 
-ghost use Rattle.std.specs.Prelude.{◌≡◌, ◌≤◌};
+ghost use Rattle.std.specs.Prelude.{◌≡◌, ◌≤◌, IfOk};
 ghost use Rattle.flat.specs.Flat.{steps_in};
-ghost use Rattle.opening.specs.Net.{opened};
+ghost use Rattle.route.specs.Firing.{start};
+ghost use Rattle.refusal.specs.Refusal.{outcome_of};
+ghost use Rattle.opening.specs.Net.{net_row};
 ghost use Rattle.opening.specs.Ends.{EndsOf};
 
 use mask::Mask;
-use refusal::Outcome;
+use refusal::{Refusal, Row};
 use route::Marking;
 
 // The places that some step takes from, and those that some step puts to.
@@ -15,13 +17,6 @@ use route::Marking;
 pub struct Ends {
     pub ins: u64,
     pub outs: u64,
-}
-
-// What rows 6 and 7 say of a route, and its start.
-#[derive(Clone, Copy)]
-pub struct Opened {
-    pub outcome: Outcome,
-    pub marking: Marking,
 }
 
 // All in-places and all out-places, by one pass.
@@ -37,30 +32,20 @@ fn ends_of(steps: &[u64]) -> Ends
     Ends { ins, outs }
 }
 
-// Rows 6 and 7 at the line of the route's head, and the start.
-pub fn open(places: u64, steps: &[u64], line: u64) -> Opened
+// The start, unless row 6 or 7 refuses at the line of the route's head.
+pub fn open(places: u64, steps: &[u64], line: u64) -> Result<Marking, Refusal>
     requires { places ≤ 64 }
-    ensures { result ≡ opened line places (steps_in steps.now) }
+    ensures outcome { outcome_of result ≡ net_row line places (steps_in steps.now) }
+    ensures start { IfOk result (λ m. m.tokens ≡ start places (steps_in steps.now)) }
 {
     let e = ends_of(steps);
     let all = u64::below(places);
-    let marking = Marking {
-        tokens: all.without(e.outs),
-    };
     if !all.within(e.ins | e.outs) {
-        return Opened {
-            outcome: Outcome::refuse(6, line),
-            marking,
-        };
+        return Err(Row::UnusedPlace.at(line));
     }
-    if marking.tokens == 0 {
-        return Opened {
-            outcome: Outcome::refuse(7, line),
-            marking,
-        };
+    let tokens = all.without(e.outs);
+    if tokens == 0 {
+        return Err(Row::NoStart.at(line));
     }
-    Opened {
-        outcome: Outcome::pass(),
-        marking,
-    }
+    Ok(Marking { tokens })
 }

@@ -4,9 +4,10 @@ use mathlib.Core.Bool.{Bool, true, false, cond}
 use mathlib.Core.List.{List}
 use Prim.Native.Nat.{ℕ, ◌*◌, ◌≤◌, ◌<◌}
 use native.Mathlib.Omega.{arith}
+use Rattle.std.specs.Prelude.{Ok, Err}
 use lib.Dec.{eqb, leb}
 use lib.ListN.{length, take}
-use borrow.Author.Tests.{leb-true, le-leb, lt-leb, eq-eqb, ne_eqb}
+use borrow.Author.Tests.{leb-true, le-leb, lt-leb, eq-eqb}
 use Rattle.facts.specs.Facts.{read_of, job_read}
 use Rattle.job.specs.Job.{Job, flat_job}
 use Rattle.judging.specs.Judge.{judged, work_after}
@@ -17,7 +18,11 @@ use Rattle.listing.specs.Listing.{listing}
 use Rattle.out_slice.specs.OutSlice.{unwritten, whole, wrote_text, out_with}
 use Rattle.out_slice.specs.declared.Wrote.{Wrote}
 use Rattle.reader.specs.inner.Read.{ReadTo}
-use Rattle.reader.specs.declared.Counts.{Counts}
+use Rattle.reader.specs.Refused.{counts_of}
+use Rattle.reader.specs.declared.Lengths.{Lengths}
+use Rattle.refusal.specs.Refusal.{number_of}
+use Rattle.refusal.specs.declared.Refusal.{Refusal}
+use Rattle.refusal.proofs.Answered.{number-some}
 use Rattle.ops.specs.Print.{sheet_answer, listing_of, printed, out_printed, work_printed}
 use Rattle.ops.proofs.ReadJob.{read-job}
 use Rattle.mask.proofs.Truth.{cond_yes, cond_no}
@@ -29,38 +34,35 @@ pub enough-work : (j : Job) (room : ℕ) → 8192 ≤ room → judged j room ≡
 unfolding judged
 enough-work j room h = sym (cond_yes _ _ refl (le-leb 8192 room h))
 
-module _ (s : List ℕ) (r : Counts) (old new done : List ℕ) (k : ReadTo s r old new done) where
-  abbrev job : Job
-  job = flat_job r.old_places (take (4 * r.old_len) old) r.new_places (take (4 * r.new_len) new)
-      (take r.done_len done)
+module _ (s : List ℕ) (e : Refusal) (old new done : List ℕ) (k : ReadTo s (counts_of (Err e)) old new done) where
+  refused : eqb (read_of s).number 0 ≡ false
+  refused = ap (λ (n : ℕ). eqb n 0) (sym k.number) ∙ number-some e.row
 
-  module _ (off : r.number ≡ 0 → ⊥) where
-    refused : eqb (read_of s).number 0 ≡ false
-    refused = ne_eqb (read_of s).number 0 (λ e. off (k.number ∙ e))
+  pub answer-refused : judge_stopped (number_of e.row) e.second ≡ sheet_answer s
+  unfolding sheet_answer
+  answer-refused = (λ i. judge_stopped (k.number i) (k.second i)) ∙ cond_no _ _ refl refused
 
-    pub answer-refused : (a : Judged) → a ≡ judge_stopped r.number r.second → a ≡ sheet_answer s
-    unfolding sheet_answer
-    answer-refused a e = e ∙ (λ i. judge_stopped (k.number i) (k.second i)) ∙ cond_no _ _ refl refused
+  pub work-refused : (w : List ℕ) → w ≡ work_printed s w
+  unfolding work_printed
+  work-refused w = cond_no _ w refl refused
 
-    pub work-refused : (w : List ℕ) → w ≡ work_printed s w
-    unfolding work_printed
-    work-refused w = cond_no _ w refl refused
+module _ (s : List ℕ) (c : Lengths) (old new done : List ℕ) (k : ReadTo s (counts_of (Ok c)) old new done)
+    (j : Job) (is : j ≡ flat_job c.old_places (take (4 * c.old_len) old) c.new_places (take (4 * c.new_len) new)
+    (take c.done_len done)) where
+  reads : eqb (read_of s).number 0 ≡ true
+  reads = eq-eqb (read_of s).number 0 (sym k.number)
 
-  module _ (z : r.number ≡ 0) where
-    reads : eqb (read_of s).number 0 ≡ true
-    reads = eq-eqb (read_of s).number 0 (sym k.number ∙ z)
+  pub answer-judged : (w : List ℕ) → 8192 ≤ length w → (a : Judged) → a ≡ judged j (length w) → a ≡ sheet_answer s
+  unfolding sheet_answer
+  answer-judged w long a e =
+      e
+      ∙ ap (λ (j : Job). judged j (length w)) (read-job s c old new done k j is)
+      ∙ enough-work (job_read (read_of s)) (length w) long
+      ∙ cond_yes _ _ refl reads
 
-    pub answer-judged : (w : List ℕ) → 8192 ≤ length w → (a : Judged) → a ≡ judged job (length w) → a ≡ sheet_answer s
-    unfolding sheet_answer
-    answer-judged w long a e =
-        e
-        ∙ ap (λ (j : Job). judged j (length w)) (read-job s r old new done k z)
-        ∙ enough-work (job_read (read_of s)) (length w) long
-        ∙ cond_yes _ _ refl reads
-
-    pub work-judged : (w x : List ℕ) → x ≡ work_after job w → x ≡ work_printed s w
-    unfolding work_printed
-    work-judged w x e = e ∙ ap (λ (j : Job). work_after j w) (read-job s r old new done k z) ∙ cond_yes _ w refl reads
+  pub work-judged : (w x : List ℕ) → x ≡ work_after j w → x ≡ work_printed s w
+  unfolding work_printed
+  work-judged w x e = e ∙ ap (λ (j : Job). work_after j w) (read-job s c old new done k j is) ∙ cond_yes _ w refl reads
 
 -- ---- the operation
 

@@ -1,26 +1,27 @@
 -- A sheet that reads into lists: the job of the lists is the job of the sheet's facts, so its lines pass.
-use mathlib.Core.Path.{◌≡◌, sym, ap, ap₂, subst, ◌∙◌}
+use mathlib.Core.Path.{◌≡◌, refl, sym, ap, ap₂, subst, ◌∙◌}
 use mathlib.Core.List.{List, ◌++◌, append-nil}
 use Prim.Native.Nat.{ℕ, ◌*◌, ◌-◌, ◌≤◌}
 use native.Mathlib.Omega.{arith}
+use Rattle.std.specs.Prelude.{Ok}
 use lib.ListN.{length, take, replicate, length-append, length-replicate, length-map}
 use Rattle.route.specs.Steps.{blank, steps_of}
 use Rattle.flat.specs.Flat.{steps_in}
 use Rattle.route.specs.declared.Step.{Step}
 use Rattle.route.specs.declared.Route.{Route}
-use Rattle.flat.proofs.FlatSteps.{length-flat, flat-take}
-use Rattle.job.specs.Job.{flat_job}
+use Rattle.flat.proofs.FlatSteps.{flat-take}
+use Rattle.job.specs.Job.{Job, flat_job}
 use Rattle.job.specs.Lines.{LinesPass}
 use Rattle.version.specs.Limits.{present}
 use Rattle.facts.specs.Forms.{record_of}
 use Rattle.facts.specs.Facts.{read_of, job_read}
 use Rattle.facts.specs.SheetRows.{filled, facts_record}
 use Rattle.facts.specs.declared.Sheet.{Sheet}
-use Rattle.facts.proofs.DoneNames.{read-dones}
 use Rattle.facts.proofs.PassingLines.{lines-fine}
-use Rattle.facts.proofs.Records.{reads_as, read-lines}
+use Rattle.facts.proofs.ReadRecords.{reads_as, read-lines}
 use Rattle.reader.specs.inner.Read.{ReadTo}
-use Rattle.reader.specs.declared.Counts.{Counts}
+use Rattle.reader.specs.Refused.{counts_of}
+use Rattle.reader.specs.declared.Lengths.{Lengths}
 
 filled-length : (n : ℕ) (l : List Step) → length l ≤ 64 → length (filled n l).steps ≡ 64
 unfolding filled
@@ -63,29 +64,23 @@ steps-in : (w : List ℕ) (n : ℕ) (r : Route) → n ≤ 64 → n ≡ r.len →
 steps-in w n r h e is =
     flat-take w n ∙ ap₂ (λ (k : ℕ) (l : List Step). take k l) e is ∙ steps_of-short r (omega (arith, e))
 
-module _ (s : List ℕ) (r : Counts) (old new done : List ℕ) (k : ReadTo s r old new done) (z : r.number ≡ 0) where
+module _ (s : List ℕ) (c : Lengths) (old new done : List ℕ) (k : ReadTo s (counts_of (Ok c)) old new done) where
   reads : (read_of s).number ≡ 0
-  reads = sym k.number ∙ z
+  reads = sym k.number
 
-  pub old-room : 4 * r.old_len ≤ length old
-  old-room = omega (arith, length-flat old, ap length (k.old-steps z) ∙ old-records s reads, k.old-few)
+  pub lengths-few : (c.old_len ≤ 64) × ((c.new_len ≤ 64) × (c.done_len ≤ 64))
+  lengths-few = (k.old-few, (k.new-few, k.done-few))
 
-  pub new-room : 4 * r.new_len ≤ length new
-  new-room = omega (arith, length-flat new, ap length (k.new-steps z) ∙ new-records s reads, k.new-few)
+  module _ (j : Job) (is : j ≡ flat_job c.old_places (take (4 * c.old_len) old) c.new_places
+      (take (4 * c.new_len) new) (take c.done_len done)) where
+    pub read-job : j ≡ job_read (read_of s)
+    read-job = is ∙ (λ i. record {
+      old_places = k.old-places i;
+      old = steps-in old c.old_len (read_of s).old k.old-few k.old-len (k.old-steps refl) i;
+      new_places = k.new-places i;
+      new = steps-in new c.new_len (read_of s).new k.new-few k.new-len (k.new-steps refl) i;
+      done = ap₂ (λ (n : ℕ) (l : List ℕ). take n l) k.done-len (k.done-names refl) i;
+    })
 
-  pub done-room : r.done_len ≤ length done
-  done-room = omega (arith, ap length (k.done-names z) ∙ (read-dones present s).room, k.done-few)
-
-  pub read-job : flat_job r.old_places (take (4 * r.old_len) old) r.new_places (take (4 * r.new_len) new)
-      (take r.done_len done) ≡ job_read (read_of s)
-  read-job = λ i. record {
-    old_places = k.old-places i;
-    old = steps-in old r.old_len (read_of s).old k.old-few k.old-len (k.old-steps z) i;
-    new_places = k.new-places i;
-    new = steps-in new r.new_len (read_of s).new k.new-few k.new-len (k.new-steps z) i;
-    done = ap₂ (λ (n : ℕ) (l : List ℕ). take n l) k.done-len (k.done-names z) i;
-  }
-
-  pub read-passes : LinesPass (flat_job r.old_places (take (4 * r.old_len) old) r.new_places
-      (take (4 * r.new_len) new) (take r.done_len done))
-  read-passes = subst LinesPass (sym read-job) (read-lines s reads)
+    pub read-passes : LinesPass j
+    read-passes = subst LinesPass (sym read-job) (read-lines s reads)

@@ -1,50 +1,36 @@
 // The operation print: a sheet in, its listing out.
 ghost use Rattle.std.specs.Prelude.{◌≡◌, ◌≤◌, length};
+ghost use Rattle.answering.specs.Answer.{judged_of};
+ghost use Rattle.out_slice.specs.OutSlice.{wrote_of};
 ghost use Rattle.ops.specs.Print.{sheet_answer, printed, out_printed, work_printed};
 
-use answering::Judged;
-use answering::answers::stop;
+use answering::Moved;
 use judging::judging::judge_checked;
 use listing::printing::write_listing;
-use out_slice::Wrote;
-use reader::lists::read_lists;
+use reader::lists::{Lists, read_lists};
+use refusal::{Refusal, Row};
 use work_slice::WORK;
 
-// What judge answers of a sheet, whose lines reading has checked; a refused sheet's number and place stand for it.
-fn answer(sheet: &[u8], work: &mut [u8]) -> Judged
+// What judge answers of a sheet, whose lines reading has checked; a refused sheet's row and place stand for it.
+fn answer(sheet: &[u8], work: &mut [u8]) -> Result<Moved, Refusal>
     requires { 8192 ≤ length work.old }
-    ensures value { result ≡ sheet_answer sheet.now }
+    ensures value { judged_of result ≡ sheet_answer sheet.now }
     ensures work_after { work.new ≡ work_printed sheet.now work.old }
 {
-    let mut old = [0u64; 256];
-    let mut new = [0u64; 256];
-    let mut done = [0u32; 64];
-    let c = read_lists(sheet, &mut old, &mut new, &mut done);
-    if c.number != 0 {
-        return stop(c.number, c.second);
-    }
-    let o = 4 * c.old_len;
-    let n = 4 * c.new_len;
-    let d = c.done_len;
-    judge_checked(
-        c.old_places,
-        &old[..o],
-        c.new_places,
-        &new[..n],
-        &done[..d],
-        work,
-    )
+    let mut lists = Lists::empty();
+    let c = read_lists(sheet, &mut lists)?;
+    judge_checked(lists.job(c), work)
 }
 
 // Any sheet, any work slice, any out slice.
-pub fn print(sheet: &[u8], work: &mut [u8], out: &mut [u8]) -> Wrote
-    ensures value { result ≡ printed sheet.now (length work.old) (length out.old) }
+pub fn print(sheet: &[u8], work: &mut [u8], out: &mut [u8]) -> Result<usize, Refusal>
+    ensures value { wrote_of result ≡ printed sheet.now (length work.old) (length out.old) }
     ensures work_after { work.new ≡ work_printed sheet.now work.old }
     ensures out_after { out.new ≡ out_printed sheet.now (length work.old)
         out.old }
 {
     if work.len() < WORK {
-        return Wrote::refuse(14, 0);
+        return Err(Row::ShortWork.at(0));
     }
     let a = answer(sheet, work);
     write_listing(a, out)

@@ -1,10 +1,13 @@
 -- Rows 16, 17 and 18: the entries of an order that somebody hands in.
-use Rattle.std.specs.Prelude.{Bool, not, cond, ◌&&◌, List, [], ◌∷◌, map, ℕ, ◌+◌, ◌-◌, eqb, leb, get_or}
+use Rattle.std.specs.Prelude.{Bool, not, cond, ◌&&◌, List, [], ◌∷◌, map, ℕ, ◌+◌, ◌-◌, eqb, leb, get_or, Result, Ok, Err}
 use Rattle.std.specs.Int.Bits.{bit_or}
 use Rattle.mask.specs.Mask.{has, bit}
 use Rattle.route.specs.Steps.{blank, lookup}
 use Rattle.route.specs.Firing.{if_fires}
 use Rattle.refusal.specs.Rows.{pass, refuse}
+use Rattle.refusal.specs.Refusal.{number_of}
+use Rattle.refusal.specs.declared.Refusal.{Refusal}
+use Rattle.route.specs.declared.Marking.{Marking}
 use Rattle.route.specs.declared.Step.{Step}
 use Rattle.refusal.specs.declared.Outcome.{Outcome}
 use Rattle.precedence.specs.Precedence.{comes_after}
@@ -19,6 +22,11 @@ try_stopped n k = record { number = n; second = k; marking = record { tokens = 0
 -- "Accepted": 0, 0 and the marking at the end
 abbrev pub try_accepted : ℕ → Tried
 try_accepted m = record { number = 0; second = 0; marking = record { tokens = m } }
+
+-- the answer in numbers
+abbrev pub tried_of : Result Marking Refusal → Tried
+tried_of (Ok m) = record { number = 0; second = 0; marking = m }
+tried_of (Err e) = try_stopped (number_of e.row) e.second
 
 -- occurrence number b is kept
 unfoldable pub is_kept : ℕ → ℕ → Bool

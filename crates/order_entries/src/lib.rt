@@ -3,18 +3,19 @@
 
 ghost use Rattle.std.specs.Prelude.{◌≡◌, true, not, ◌&&◌, List, map, ℕ, ◌-◌, ◌≤◌, ◌<◌, length};
 ghost use Rattle.mask.specs.Mask.{has};
+ghost use Rattle.refusal.specs.Refusal.{outcome_of};
 ghost use Rattle.flat.specs.Flat.{steps_in};
 ghost use Rattle.route.specs.declared.Step.{Step};
 ghost use Rattle.precedence.specs.Table.{table};
-ghost use Rattle.order_entries.specs.Entries.{try_stopped, is_kept, list_row, try_from, try_entries};
+ghost use Rattle.order_entries.specs.Entries.{tried_of, is_kept, list_row, try_from, try_entries};
 ghost use Rattle.order_entries.specs.inner.Replayable.{Replayable};
 
 use mask::Mask;
 use precedence::table_of;
-use refusal::Outcome;
+use refusal::{Refusal, Row};
 use route::Marking;
 
-// The marking at the end of the order, where it is accepted.
+// Try's answer in plain numbers: a refusal's two, or 0, 0 and the marking at the end of the order.
 #[derive(Clone, Copy)]
 pub struct Tried {
     pub number: u32,
@@ -22,15 +23,21 @@ pub struct Tried {
     pub marking: Marking,
 }
 
-impl Tried {
-    // A refusal: no marking.
-    pub fn stop(number: u32, second: u64) -> Tried
-        ensures { result ≡ try_stopped number second }
-    {
-        Tried {
-            number,
-            second,
-            marking: Marking { tokens: 0 },
+impl From<Result<Marking, Refusal>> for Tried {
+    ghost from_gives = { λ r a. a ≡ tried_of r };
+
+    fn from(r: Result<Marking, Refusal>) -> Tried {
+        match r {
+            Ok(marking) => Tried {
+                number: 0,
+                second: 0,
+                marking,
+            },
+            Err(e) => Tried {
+                number: e.row.number(),
+                second: e.second,
+                marking: Marking { tokens: 0 },
+            },
         }
     }
 }
@@ -43,30 +50,36 @@ fn fresh(kept: u64, seen: u64, b: usize) -> bool
 }
 
 // Row 16 over the whole list.
-fn check_list(order: &[u8], kept: u64) -> Outcome
-    ensures { result ≡ list_row kept 0 1 order.now }
+fn check_list(order: &[u8], kept: u64) -> Result<(), Refusal>
+    ensures { outcome_of result ≡ list_row kept 0 1 order.now }
 {
     let mut seen = 0;
     for (i, &b) in order.iter().enumerate() {
         let b = b as usize;
         if !fresh(kept, seen, b) {
-            return Outcome::refuse(16, i as u64 + 1);
+            return Err(Row::BadOrder.at(i as u64 + 1));
         }
         seen |= u64::bit(b - 1);
     }
     if seen != kept {
-        return Outcome::refuse(16, order.len() as u64 + 1);
+        return Err(Row::BadOrder.at(order.len() as u64 + 1));
     }
-    Outcome::pass()
+    Ok(())
 }
 
 // Rows 17 and 18 for each entry, by the precedence table. The entries still to come are the kept ones that are not
 // placed.
-fn fire_list(order: &[u8], kept: u64, rows: [u64; 64], matches: &[u64], from: Marking) -> Tried
+fn fire_list(
+    order: &[u8],
+    kept: u64,
+    rows: [u64; 64],
+    matches: &[u64],
+    from: Marking,
+) -> Result<Marking, Refusal>
     requires order_value { (list_row kept 0 1 order.now).number ≡ 0 }
     requires by_index { (i : ℕ) → has kept i ≡ true → i < length (steps_in matches.now) }
     ensures { (new l : List Step) → Replayable new l kept (steps_in matches.now) → rows ≡ table l
-        → result ≡ try_from new l from.tokens 1 (map (λ (b : ℕ). b - 1) order.now) }
+        → tried_of result ≡ try_from new l from.tokens 1 (map (λ (b : ℕ). b - 1) order.now) }
 {
     let mut placed = 0;
     let mut m = from;
@@ -74,20 +87,16 @@ fn fire_list(order: &[u8], kept: u64, rows: [u64; 64], matches: &[u64], from: Ma
         let at = i as u64 + 1;
         let k = b as usize - 1;
         if !(rows[k] & kept).within(placed) {
-            return Tried::stop(17, at);
+            return Err(Row::TooEarly.at(at));
         }
         let s = flat::step_at(matches, k);
         if !m.enables(s) {
-            return Tried::stop(18, at);
+            return Err(Row::StepCannotFire.at(at));
         }
         m = m.next(s);
         placed |= u64::bit(k);
     }
-    Tried {
-        number: 0,
-        second: 0,
-        marking: m,
-    }
+    Ok(m)
 }
 
 // Row 16, and then 17 and 18.
@@ -97,16 +106,14 @@ pub fn by_rows(
     occurrences: &[u64],
     matches: &[u64],
     from: Marking,
-) -> Tried
+) -> Result<Marking, Refusal>
     requires occurrences_len_bound { length (steps_in occurrences.now) ≤ 64 }
     requires by_index { (i : ℕ) → has kept i ≡ true → i < length (steps_in matches.now) }
     ensures { (new : List Step)
         → Replayable new (steps_in occurrences.now) kept (steps_in matches.now)
-        → result ≡ try_entries new (steps_in occurrences.now) from.tokens order.now }
+        → tried_of result ≡ try_entries new (steps_in occurrences.now) from.tokens order.now }
 {
-    let o = check_list(order, kept);
-    if !o.passed() {
-        return Tried::stop(o.number, o.second);
-    }
-    fire_list(order, kept, table_of(occurrences), matches, from)
+    check_list(order, kept)?;
+    let rows = table_of(occurrences);
+    fire_list(order, kept, rows, matches, from)
 }

@@ -16,9 +16,9 @@ use Rattle.out_slice.specs.declared.Wrote.{Wrote}
 
 -- the slice is too short
 module _ (t out : List ℕ) (short : length out < length t) where
-  pub short-answer : (a : Wrote) → a ≡ unwritten 15 (length t) → a ≡ wrote_text t (length out)
+  pub short-answer : unwritten 15 (length t) ≡ wrote_text t (length out)
   unfolding wrote_text
-  short-answer a e = rw (lt-leb (length t) (length out) short) e
+  short-answer = rw (lt-leb (length t) (length out) short) refl
 
   pub short-out : out ≡ out_with t out
   unfolding out_with
@@ -47,8 +47,8 @@ text-room t o fits = record { fits = omega (arith, fits) }
 
 -- and the text is written from the slice's start
 module _ (t o p : List ℕ) (end : ℕ) (fits : length t ≤ length o) (w : Emits t o 0 p end) where
-  pub whole-answer : (a : Wrote) → a ≡ whole end → a ≡ wrote_text t (length o)
-  whole-answer a e = e ∙ ap whole (emits-end w) ∙ sym (fits-answer t (length o) fits)
+  pub whole-answer : whole end ≡ wrote_text t (length o)
+  whole-answer = ap whole (emits-end w) ∙ sym (fits-answer t (length o) fits)
 
   pub whole_out : p ≡ out_with t o
   whole_out = emits-whole (text-room t o fits) w ∙ sym (fits_out t o fits)

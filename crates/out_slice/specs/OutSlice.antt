@@ -1,5 +1,7 @@
 -- A whole text in the out slice: what is answered, and what the slice holds then.
-use Rattle.std.specs.Prelude.{cond, List, ◌++◌, ℕ, leb, length, drop}
+use Rattle.std.specs.Prelude.{cond, List, ◌++◌, ℕ, leb, length, drop, Result, Ok, Err}
+use Rattle.refusal.specs.Refusal.{number_of}
+use Rattle.refusal.specs.declared.Refusal.{Refusal}
 use Rattle.out_slice.specs.declared.Wrote.{Wrote}
 
 -- "A refusal gives its number and a second number, all else 0"
@@ -9,6 +11,11 @@ unwritten n k = record { number = n; second = k; written = 0 }
 -- "success returns the bytes written"
 abbrev pub whole : ℕ → Wrote
 whole n = record { number = 0; second = 0; written = n }
+
+-- the answer in numbers
+abbrev pub wrote_of : Result ℕ Refusal → Wrote
+wrote_of (Ok n) = whole n
+wrote_of (Err e) = unwritten (number_of e.row) e.second
 
 -- "15: out too short", and "bytes needed"; `room` is the slice's length
 unfoldable pub wrote_text : List ℕ → ℕ → Wrote

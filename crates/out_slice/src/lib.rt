@@ -3,9 +3,11 @@
 
 ghost use Rattle.std.specs.Prelude.{◌≡◌, List, ℕ, ◌^◌, ◌<◌, ◌≤◌, length};
 ghost use Rattle.emit.specs.Emit.{Emits};
-ghost use Rattle.out_slice.specs.OutSlice.{unwritten, whole, wrote_text, out_with};
+ghost use Rattle.out_slice.specs.OutSlice.{wrote_of, wrote_text, out_with};
 
-// 0, 0 and the bytes written; or a refusal and its second number, and nothing written.
+use refusal::{Refusal, Row};
+
+// What a write answers in plain numbers: 0, 0 and the bytes written; or a refusal's two, and nothing written.
 #[derive(Clone, Copy)]
 pub struct Wrote {
     pub number: u32,
@@ -13,49 +15,49 @@ pub struct Wrote {
     pub written: u64,
 }
 
-impl Wrote {
-    pub fn refuse(number: u32, second: u64) -> Wrote
-        ensures { result ≡ unwritten number second }
-    {
-        Wrote {
-            number,
-            second,
-            written: 0,
-        }
-    }
+impl From<Result<usize, Refusal>> for Wrote {
+    ghost from_gives = { λ r a. a ≡ wrote_of r };
 
-    pub fn all(bytes: usize) -> Wrote
-        ensures { result ≡ whole bytes }
-    {
-        Wrote {
-            number: 0,
-            second: 0,
-            written: bytes as u64,
+    fn from(r: Result<usize, Refusal>) -> Wrote {
+        match r {
+            Ok(bytes) => Wrote {
+                number: 0,
+                second: 0,
+                written: bytes as u64,
+            },
+            Err(e) => Wrote {
+                number: e.row.number(),
+                second: e.second,
+                written: 0,
+            },
         }
     }
 }
 
-// A text that was written apart is copied, if it fits.
-pub fn copy(text: &[u8], out: &mut [u8]) -> Wrote
-    ensures value { result ≡ wrote_text text.now (length out.old) }
+// A text that was written apart is copied, if it fits; the answer is the bytes written.
+pub fn copy(text: &[u8], out: &mut [u8]) -> Result<usize, Refusal>
+    ensures value { wrote_of result ≡ wrote_text text.now (length out.old) }
     ensures out_after { out.new ≡ out_with text.now out.old }
 {
     let n = text.len();
     if out.len() < n {
-        return Wrote::refuse(15, n as u64);
+        return Err(Row::ShortSlice.at(n as u64));
     }
     out[..n].copy_from_slice(text);
-    Wrote::all(n)
+    Ok(n)
 }
 
 // Where the slice may be too short for N bytes, the text is written apart and copied if it fits.
-fn write_apart<const N: usize, F: FnOnce(&mut [u8]) -> usize>(out: &mut [u8], f: F) -> Wrote
+fn write_apart<const N: usize, F: FnOnce(&mut [u8]) -> usize>(
+    out: &mut [u8],
+    f: F,
+) -> Result<usize, Refusal>
     requires size { N < 2 ^ 63 }
     requires ready { (x : _) → N ≤ length x.now → F.pre f x }
     requires inside { (x : _) (n : _) (y : _) → N ≤ length x.now → F.post f x n y → n ≤ length y.now }
     ensures { (t : List ℕ) → length t ≤ N →
         ((x : _) (n : _) (y : _) → F.post f x n y → Emits t x.now 0 y.now n) →
-        (result ≡ wrote_text t (length out.old)) × (out.new ≡ out_with t out.old) }
+        (wrote_of result ≡ wrote_text t (length out.old)) × (out.new ≡ out_with t out.old) }
 {
     let mut apart = [0u8; N];
     let end = f(&mut apart);
@@ -63,17 +65,20 @@ fn write_apart<const N: usize, F: FnOnce(&mut [u8]) -> usize>(out: &mut [u8], f:
 }
 
 // A text of at most N bytes, which `f` writes from a slice's start and gives the end of.
-pub fn write<const N: usize, F: FnOnce(&mut [u8]) -> usize>(out: &mut [u8], f: F) -> Wrote
+pub fn write<const N: usize, F: FnOnce(&mut [u8]) -> usize>(
+    out: &mut [u8],
+    f: F,
+) -> Result<usize, Refusal>
     requires size { N < 2 ^ 63 }
     requires ready { (x : _) → N ≤ length x.now → F.pre f x }
     requires inside { (x : _) (n : _) (y : _) → N ≤ length x.now → F.post f x n y → n ≤ length y.now }
     ensures { (t : List ℕ) → length t ≤ N →
         ((x : _) (n : _) (y : _) → F.post f x n y → Emits t x.now 0 y.now n) →
-        (result ≡ wrote_text t (length out.old)) × (out.new ≡ out_with t out.old) }
+        (wrote_of result ≡ wrote_text t (length out.old)) × (out.new ≡ out_with t out.old) }
 {
     if out.len() < N {
         return write_apart::<N, F>(out, f);
     }
     let end = f(out);
-    Wrote::all(end)
+    Ok(end)
 }

@@ -11,6 +11,7 @@ use lib.Dec.{eqb, ltb}
 use lib.ListN.{length, set}
 use borrow.Author.Tests.{eq-eqb, ltb-true}
 use Rattle.refusal.specs.Rows.{unless}
+use Rattle.refusal.specs.Refusal.{outcome_of}
 use Rattle.refusal.specs.declared.Outcome.{Outcome}
 use Rattle.job.specs.Lines.{done_row}
 use Rattle.version.specs.Limits.{name_fits, Limits}
@@ -27,7 +28,7 @@ use Rattle.refusal.proofs.Rows.{head_passed, unless-elim}
 use Rattle.tokens.specs.declared.Numeral.{Numeral}
 use Rattle.line_reader.specs.inner.Lines.{head_word, NumberedTo, NumberedBreaks}
 use Rattle.part_reader.specs.inner.Prefix.{back_dones, old_state, new_state, job_state, state_of, Prefix, passed}
-use Rattle.part_reader.specs.inner.Prefix.{Placed, with_dones, DonesTo, DonesBreak}
+use Rattle.part_reader.specs.inner.Prefix.{Rows, Placed, with_dones, DonesTo, DonesBreak}
 use Rattle.part_reader.specs.declared.Pass.{Pass}
 use Rattle.line_reader.proofs.LineTexts.{done-spells}
 use Rattle.part_reader.proofs.PrefixStep.{settled-no, more-on, more-refused, prefix-of}
@@ -63,7 +64,7 @@ pub record Named (v : Version) (s : List ℕ) (list₀ list : List ℕ) (from li
       → Prefix v s at JobPart (passed lines outcome (with_dones len list z))
 
 pub named-init : (v : Version) (limits : Limits v) (s list : List ℕ) (p : Pass) → Placed s p
-    → Named v s list list p.at p.lines p.outcome p.outcome p.lines p.at 0
+    → Named v s list list p.at p.lines (outcome_of p.rows) (outcome_of p.rows) p.lines p.at 0
 named-init v limits s list p hp = record {
   limits = limits;
   within = hp.within;
@@ -156,8 +157,8 @@ module _ (v : Version) (s w : List ℕ) (at : ℕ) (n : Numeral) (hn : NumberedT
 
 -- ---- its ends
 
-module _ (v : Version) (s : List ℕ) (p : Pass) (list₀ list : List ℕ) (outcome : Outcome) (lines at len : ℕ)
-    (h : Named v s list₀ list p.at p.lines p.outcome outcome lines at len) where
+module _ (v : Version) (s : List ℕ) (p : Pass) (list₀ list : List ℕ) (rows : Rows) (lines at len : ℕ)
+    (h : Named v s list₀ list p.at p.lines (outcome_of p.rows) (outcome_of rows) lines at len) where
   pub dones-break : (i : ℕ) → at < length s → NumberedBreaks v s at (40 ∷ 100 ∷ 111 ∷ 110 ∷ 101 ∷ 32 ∷ []) i
       → DonesBreak v s p list₀ i
   unfolding head_word
@@ -171,5 +172,5 @@ module _ (v : Version) (s : List ℕ) (p : Pass) (list₀ list : List ℕ) (outc
       }
 
   pub dones-done : length s ≤ at → DonesTo v s p (record
-      { pass = record { at = at; lines = lines; outcome = outcome }; len = len }) list₀ list
+      { pass = record { at = at; lines = lines; rows = rows }; len = len }) list₀ list
   dones-done over = record { within = h.within; few = h.few; all = over; goes = h.goes }

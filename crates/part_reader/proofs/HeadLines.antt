@@ -12,6 +12,7 @@ use lib.ListN.{length}
 use borrow.Author.Tests.{eq-eqb, leb-true}
 use Rattle.mask.proofs.Truth.{both}
 use Rattle.refusal.specs.Rows.{unless}
+use Rattle.refusal.specs.Refusal.{outcome_of}
 use Rattle.refusal.specs.declared.Outcome.{Outcome}
 use Rattle.job.specs.Lines.{places_fit}
 use Rattle.version.specs.declared.Version.{Version}
@@ -28,7 +29,7 @@ use Rattle.tokens.specs.declared.Numeral.{Numeral}
 use Rattle.line_reader.specs.inner.Rows.{head_row, new_row, job_row}
 use Rattle.line_reader.specs.inner.Lines.{head_word, NumberedTo, NumberedBreaks}
 use Rattle.part_reader.specs.inner.Prefix.{back_steps, back_dones, old_state, new_state, job_state, state_of, Prefix}
-use Rattle.part_reader.specs.inner.Prefix.{passed, Placed, NoStep, bare, OldTo, NewTo, HeadBreaks, JobTo}
+use Rattle.part_reader.specs.inner.Prefix.{Rows, passed, Placed, NoStep, bare, OldTo, NewTo, HeadBreaks, JobTo}
 use Rattle.part_reader.specs.declared.Pass.{Pass}
 use Rattle.part_reader.specs.declared.Head.{Head}
 use Rattle.line_reader.proofs.LineTexts.{old-spells, new-spells, job-spells}
@@ -57,17 +58,17 @@ old-breaks v s at h = h.goes Start no_line no_lines Old OldRoute refl (old-spell
     (start-reading v s)
 
 pub old-on : (v : Version) (s : List ℕ) (n : Numeral) → NumberedTo v s 0 (40 ∷ 111 ∷ 108 ∷ 100 ∷ 32 ∷ []) n
-    → (o : Outcome) → o ≡ head_row 1 n.value
-    → OldTo v s (record { pass = record { at = n.at; lines = 1; outcome = o }; places = n.value })
+    → (r : Rows) → outcome_of r ≡ head_row 1 n.value
+    → OldTo v s (record { pass = record { at = n.at; lines = 1; rows = r }; places = n.value })
 unfolding head_word head_row
-old-on v s n h o e =
+old-on v s n h r e =
     record {
       placed = record { within = h.within; few = h.past };
       fits = λ z. fits-places n.value (unless-elim (places_fit n.value) 2 1 refl
-          (ap (λ (x : Outcome). eqb x.number 0) (sym e) ∙ eq-eqb o.number 0 z));
+          (ap (λ (x : Outcome). eqb x.number 0) (sym e) ∙ eq-eqb (outcome_of r).number 0 z));
       goes = prefix-of v s n.at OldRoute _ _
           (h.goes Start no_line no_lines Old OldRoute refl (old-spells v s 0 no_line no_lines) (start-reading v s))
-          (old-state v n.value o e);
+          (old-state v n.value (outcome_of r) e);
     }
 
 -- ---- the new route's head
@@ -104,8 +105,9 @@ new-breaks v s p at h = record {
 
 module _ (v : Version) (s : List ℕ) (p : Pass) (above : ℕ) (n : Numeral) (hp : Placed s p)
     (hn : NumberedTo v s p.at (40 ∷ 110 ∷ 101 ∷ 119 ∷ 32 ∷ []) n) where
-  reads-new : (z : Sheet) → NoStep s p.at → Prefix v s p.at OldRoute (passed p.lines p.outcome z) → (k : State)
-      → ((t : Lines) → old_state v t ≡ passed p.lines p.outcome z
+  reads-new : (z : Sheet) → NoStep s p.at → Prefix v s p.at OldRoute (passed p.lines (outcome_of p.rows) z)
+      → (k : State)
+      → ((t : Lines) → old_state v t ≡ passed p.lines (outcome_of p.rows) z
       → state_of v NewRoute (put_line New NewRoute (stored New (with_num n.value no_line)) t) ≡ k)
       → Prefix v s n.at NewRoute k
   unfolding head_word state_of
@@ -119,11 +121,12 @@ module _ (v : Version) (s : List ℕ) (p : Pass) (above : ℕ) (n : Numeral) (hp
   pub new-fits : length s < 2 ^ 64 → Fits w64 (p.lines + 1)
   new-fits wide = omega (arith, later, hn.within)
 
-  module _ (o : Outcome) where
+  module _ (r : Rows) where
     abbrev head : Head
-    head = record { pass = record { at = n.at; lines = p.lines + 1; outcome = o }; places = n.value }
+    head = record { pass = record { at = n.at; lines = p.lines + 1; rows = r }; places = n.value }
 
-    pub new-on : p.outcome.number ≡ 0 → o ≡ new_row (p.lines + 1) above n.value → NewTo v s p above head
+    pub new-on : (outcome_of p.rows).number ≡ 0 → outcome_of r ≡ new_row (p.lines + 1) above n.value
+        → NewTo v s p above head
     unfolding new_row
     new-on z₀ e =
         record {
@@ -131,19 +134,19 @@ module _ (v : Version) (s : List ℕ) (p : Pass) (above : ℕ) (n : Numeral) (hp
           fits = λ z. fits-places n.value
               (unless-elim (places_fit n.value) 2 (p.lines + 1) refl
               (head_passed _ [] (head_passed (unless (not (eqb above 0)) 4 (p.lines + 1)) _
-              (ap (λ (x : Outcome). eqb x.number 0) (sym e) ∙ eq-eqb o.number 0 z)).1).0);
+              (ap (λ (x : Outcome). eqb x.number 0) (sym e) ∙ eq-eqb (outcome_of r).number 0 z)).1).0);
           goes = λ z zero a far pre. reads-new z far pre _
-              (λ t k. new-passing v t n.value p.lines p.outcome z zero k above o z₀ a e);
+              (λ t k. new-passing v t n.value p.lines (outcome_of p.rows) z zero k above (outcome_of r) z₀ a e);
         }
 
-    pub new-past : (p.outcome.number ≡ 0 → ⊥) → o ≡ p.outcome → NewTo v s p above head
+    pub new-past : ((outcome_of p.rows).number ≡ 0 → ⊥) → r ≡ p.rows → NewTo v s p above head
     new-past z₀ e =
         record {
           placed = record { within = hn.within; few = later };
-          fits = λ z. absurd (z₀ (ap (λ (x : Outcome). x.number) (sym e) ∙ z));
+          fits = λ z. absurd (z₀ (ap (λ (x : Rows). (outcome_of x).number) (sym e) ∙ z));
           goes = λ z zero a far pre. reads-new z far pre _
-              (λ t k. new-refused v t n.value p.lines p.outcome z zero k z₀
-              ∙ ap (λ (x : Outcome). passed (p.lines + 1) x (with_new (headed n.value z.new) z)) (sym e));
+              (λ t k. new-refused v t n.value p.lines (outcome_of p.rows) z zero k z₀
+              ∙ ap (λ (x : Rows). passed (p.lines + 1) (outcome_of x) (with_new (headed n.value z.new) z)) (sym e));
         }
 
 -- ---- the job line
@@ -174,8 +177,9 @@ job-breaks s p at h v = record {
 
 module _ (s : List ℕ) (p : Pass) (above at : ℕ) (hp : Placed s p)
     (h : TextTo s p.at (40 ∷ 106 ∷ 111 ∷ 98 ∷ 41 ∷ 10 ∷ []) at) where
-  reads-job : (v : Version) (z : Sheet) → NoStep s p.at → Prefix v s p.at NewRoute (passed p.lines p.outcome z)
-      → (k : State) → ((t : Lines) → new_state v t ≡ passed p.lines p.outcome z
+  reads-job : (v : Version) (z : Sheet) → NoStep s p.at → Prefix v s p.at NewRoute (passed p.lines
+      (outcome_of p.rows) z)
+      → (k : State) → ((t : Lines) → new_state v t ≡ passed p.lines (outcome_of p.rows) z
       → state_of v JobPart (put_line Job JobPart no_line t) ≡ k) → Prefix v s at JobPart k
   unfolding state_of
   reads-job v z far pre k e = prefix-of v s at JobPart _ k
@@ -187,22 +191,22 @@ module _ (s : List ℕ) (p : Pass) (above at : ℕ) (hp : Placed s p)
   pub job-fits : length s < 2 ^ 64 → Fits w64 (p.lines + 1)
   job-fits wide = omega (arith, job-later, h.within)
 
-  module _ (o : Outcome) where
-    pub job-on : p.outcome.number ≡ 0 → o ≡ job_row (p.lines + 1) above
-        → JobTo s p above (record { at = at; lines = p.lines + 1; outcome = o })
+  module _ (r : Rows) where
+    pub job-on : (outcome_of p.rows).number ≡ 0 → outcome_of r ≡ job_row (p.lines + 1) above
+        → JobTo s p above (record { at = at; lines = p.lines + 1; rows = r })
     job-on z₀ e =
         record {
           placed = record { within = h.within; few = job-later };
           goes = λ v z zero a far pre. reads-job v z far pre _
-              (λ t k. job-passing v t p.lines p.outcome z zero k above o z₀ a e);
+              (λ t k. job-passing v t p.lines (outcome_of p.rows) z zero k above (outcome_of r) z₀ a e);
         }
 
-    pub job-past : (p.outcome.number ≡ 0 → ⊥) → o ≡ p.outcome
-        → JobTo s p above (record { at = at; lines = p.lines + 1; outcome = o })
+    pub job-past : ((outcome_of p.rows).number ≡ 0 → ⊥) → r ≡ p.rows
+        → JobTo s p above (record { at = at; lines = p.lines + 1; rows = r })
     job-past z₀ e =
         record {
           placed = record { within = h.within; few = job-later };
           goes = λ v z zero a far pre. reads-job v z far pre _
-              (λ t k. job-refused v t p.lines p.outcome z zero k z₀
-              ∙ ap (λ (x : Outcome). passed (p.lines + 1) x z) (sym e));
+              (λ t k. job-refused v t p.lines (outcome_of p.rows) z zero k z₀
+              ∙ ap (λ (x : Rows). passed (p.lines + 1) (outcome_of x) z) (sym e));
         }

@@ -1,11 +1,14 @@
 -- One more line over the lines so far, and the lines so far at the end of the bytes.
 -- Assumes nothing.
 use mathlib.Core.Path.{◌≡◌, refl, sym, ap, ◌∙◌}
-use mathlib.Core.Bool.{Bool, cond}
+use mathlib.Core.Bool.{Bool, true, false, cond, false≢true}
 use mathlib.Core.List.{List, [], ◌∷◌, reverse_aux}
 use Prim.Native.Nat.{ℕ, ◌+◌}
 use lib.Dec.{eqb}
-use borrow.Author.Tests.{eq-eqb, ne_eqb}
+use borrow.Author.Tests.{eq-eqb, ne_eqb, eqb-false}
+use Rattle.std.specs.Prelude.{Ok, Err, is_ok}
+use Rattle.refusal.specs.Refusal.{outcome_of}
+use Rattle.refusal.proofs.Answered.{number-some}
 use Rattle.refusal.specs.declared.Outcome.{Outcome}
 use Rattle.version.specs.declared.Version.{Version}
 use Rattle.layout.specs.Text.{Form, Lines}
@@ -17,9 +20,17 @@ use Rattle.facts.specs.Facts.{State, failed, settled, new_head, job_head, more, 
 use Rattle.facts.specs.declared.Sheet.{Sheet}
 use Rattle.tokens.specs.inner.Tokens.{Reading}
 use Rattle.part_reader.specs.inner.Prefix.{back_steps, back_dones, old_state, new_state, job_state, state_of, Prefix}
-use Rattle.part_reader.specs.inner.Prefix.{passed}
+use Rattle.part_reader.specs.inner.Prefix.{Rows, passed}
 
--- ---- an outcome over the facts
+-- ---- the rows so far, and an outcome over the facts
+
+pub rows-ok : (r : Rows) → is_ok r ≡ true → (outcome_of r).number ≡ 0
+rows-ok (Ok x) is = refl
+rows-ok (Err e) is = absurd (false≢true is)
+
+pub rows-err : (r : Rows) → is_ok r ≡ false → (outcome_of r).number ≡ 0 → ⊥
+rows-err (Ok x) is = absurd (false≢true (sym is))
+rows-err (Err e) is = eqb-false _ 0 (number-some e.row)
 
 pub settled-yes : (o : Outcome) (z : Sheet) → o.number ≡ 0 → settled o z ≡ z
 unfolding settled

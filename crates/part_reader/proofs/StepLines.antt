@@ -13,6 +13,7 @@ use lib.ListN.{length, get_or, take, set, replicate, length-replicate}
 use lib.Seq.{length-take-le}
 use borrow.Author.Tests.{eq-eqb, eqb-true, eqb-false, ltb-true, lt-ltb}
 use Rattle.refusal.specs.Rows.{unless}
+use Rattle.refusal.specs.Refusal.{outcome_of}
 use Rattle.refusal.specs.declared.Outcome.{Outcome}
 use Rattle.route.specs.Steps.{blank, steps_of, names}
 use Rattle.name_set.specs.inner.Hints.{Hinted}
@@ -34,7 +35,7 @@ use Rattle.facts.specs.declared.Sheet.{Sheet}
 use Rattle.refusal.proofs.Rows.{head_passed, unless-elim}
 use Rattle.line_reader.specs.inner.Lines.{has_steps, IsForm, StepTo, StepBreaks}
 use Rattle.part_reader.specs.inner.Prefix.{back_steps, old_state, new_state, state_of, Prefix, passed}
-use Rattle.part_reader.specs.inner.Prefix.{Placed, bare, with_route, StepsTo, StepsBreak}
+use Rattle.part_reader.specs.inner.Prefix.{Rows, Placed, bare, with_route, StepsTo, StepsBreak}
 use Rattle.line_reader.specs.declared.StepLine.{StepLine}
 use Rattle.part_reader.specs.declared.Pass.{Pass}
 use Rattle.part_reader.proofs.PrefixStep.{settled-no, more-on, more-refused, prefix-of}
@@ -107,12 +108,13 @@ pub record Stepped (v : Version) (s : List ℕ) (places : ℕ) (list hint : List
   pub hinted : Hinted (names (take len (steps_in list))) hint
   pub goes : (q : Part) (z : Sheet) → has_steps q ≡ true → z.number ≡ 0
       → Prefix v s from q (passed lines₀ outcome₀ (with_route q (bare places) z))
-      → Prefix v s at q (passed lines outcome (with_route q (record { places = places; len = len; steps = steps_in list })
+      → Prefix v s at q (passed lines outcome (with_route q
+      (record { places = places; len = len; steps = steps_in list })
       z))
 
 pub stepped-init : (v : Version) (limits : Limits v) (s : List ℕ) (places : ℕ) (list hint : List ℕ) (p : Pass)
-    → Placed s p → (p.outcome.number ≡ 0 → places ≤ 64) → list ≡ replicate 256 0
-    → hint ≡ replicate 256 0 → Stepped v s places list hint p.at p.lines p.outcome p.outcome p.lines
+    → Placed s p → ((outcome_of p.rows).number ≡ 0 → places ≤ 64) → list ≡ replicate 256 0
+    → hint ≡ replicate 256 0 → Stepped v s places list hint p.at p.lines (outcome_of p.rows) (outcome_of p.rows) p.lines
     p.at 0
 unfolding names
 stepped-init v limits s places list hint p hp fits is hs =
@@ -125,8 +127,9 @@ stepped-init v limits s places list hint p hp fits is hs =
       fits = fits;
       hinted = subst (Hinted []) (sym hs) hinted-none;
       goes = λ q z r nil pre. subst (λ (l : List Step).
-          Prefix v s p.at q (passed p.lines p.outcome
-          (with_route q (record { places = places; len = 0; steps = l }) z))) (sym (ap steps_in is ∙ flat-zeros 64)) pre;
+          Prefix v s p.at q (passed p.lines (outcome_of p.rows)
+          (with_route q (record { places = places; len = 0; steps = l }) z))) (sym (ap steps_in is
+          ∙ flat-zeros 64)) pre;
     }
 
 module _ (v : Version) (s : List ℕ) (places : ℕ) (list hint : List ℕ) (from lines₀ : ℕ) (outcome₀ outcome : Outcome)
@@ -287,8 +290,8 @@ module _ (v : Version) (s : List ℕ) (places : ℕ) (list hint : List ℕ) (fro
 
 -- ---- its ends
 
-module _ (v : Version) (s : List ℕ) (p : Pass) (places : ℕ) (list hint : List ℕ) (outcome : Outcome) (lines at len : ℕ)
-    (h : Stepped v s places list hint p.at p.lines p.outcome outcome lines at len) (x : Bool)
+module _ (v : Version) (s : List ℕ) (p : Pass) (places : ℕ) (list hint : List ℕ) (rows : Rows) (lines at len : ℕ)
+    (h : Stepped v s places list hint p.at p.lines (outcome_of p.rows) (outcome_of rows) lines at len) (x : Bool)
     (test : x ≡ eqb (get_or s (at + 1) 0) 115) where
   pub steps-break : (i : ℕ) → x ≡ true → StepBreaks v s at i → StepsBreak v s p places i
   steps-break i so no-step =
@@ -300,7 +303,7 @@ module _ (v : Version) (s : List ℕ) (p : Pass) (places : ℕ) (list hint : Lis
       }
 
   pub steps-done : x ≡ false → StepsTo v s p places (record {
-    pass = record { at = at; lines = lines; outcome = outcome };
+    pass = record { at = at; lines = lines; rows = rows };
     len = len;
   }) (steps_in list)
   steps-done other =

@@ -1,16 +1,17 @@
 // One part of a sheet at a time, and where reading stands between two.
 #![tactic(auto)]
 
-use refusal::Outcome;
+use refusal::Refusal;
 
 pub mod parts;
 
-// Where reading stands between two lines: the place, how many lines there were, and their outcome.
+// Where reading stands between two lines: the place, how many lines there were, and the first row that refuses one, if
+// any does.
 #[derive(Clone, Copy)]
 pub struct Pass {
     pub at: usize,
     pub lines: u64,
-    pub outcome: Outcome,
+    pub rows: Result<(), Refusal>,
 }
 
 // Past a route's head: where reading stands, and the place count.

@@ -1,6 +1,6 @@
 // The parts of a sheet in turn: a head, the steps below it, the done lines. Each ends where the layout breaks.
 ghost use Rattle.std.specs.Prelude.{◌≡◌, ◌≤◌, replicate};
-ghost use Rattle.version.specs.Limits.{Limits};
+ghost use Rattle.refusal.specs.Refusal.{outcome_of};
 ghost use Rattle.flat.specs.Flat.{steps_in};
 ghost use Rattle.part_reader.specs.inner.Prefix.{Placed, OldOn, NewOn, JobOn, StepsOn, DonesOn};
 
@@ -12,17 +12,16 @@ use tokens::{Broken, texts};
 use version::Version;
 
 pub fn old_head(v: Version, s: &[u8]) -> Result<Head, Broken>
-    requires { Limits v }
     ensures { OldOn v s.now result }
 {
     let w = texts::OLD;
     let n = numbered(v, s, 0, &w)?;
-    let outcome = head_row(n.value, 1);
+    let rows = head_row(n.value, 1);
     Ok(Head {
         pass: Pass {
             at: n.at,
             lines: 1,
-            outcome,
+            rows,
         },
         places: n.value,
     })
@@ -30,22 +29,21 @@ pub fn old_head(v: Version, s: &[u8]) -> Result<Head, Broken>
 
 // `above` is how many steps the old route has.
 pub fn new_head(v: Version, s: &[u8], p: Pass, above: usize) -> Result<Head, Broken>
-    requires limits { Limits v }
-    requires placed { Placed s.now p }
+    requires { Placed s.now p }
     ensures { NewOn v s.now p above result }
 {
     let w = texts::NEW;
     let n = numbered(v, s, p.at, &w)?;
     let lines = p.lines + 1;
-    let mut outcome = p.outcome;
-    if outcome.number == 0 {
-        outcome = new_row(above, n.value, lines);
+    let mut rows = p.rows;
+    if rows.is_ok() {
+        rows = new_row(above, n.value, lines);
     }
     Ok(Head {
         pass: Pass {
             at: n.at,
             lines,
-            outcome,
+            rows,
         },
         places: n.value,
     })
@@ -59,23 +57,22 @@ pub fn job_head(s: &[u8], p: Pass, above: usize) -> Result<Pass, Broken>
     let w = texts::JOB;
     let at = text(s, p.at, &w)?;
     let lines = p.lines + 1;
-    let mut outcome = p.outcome;
-    if outcome.number == 0 {
-        outcome = job_row(above, lines);
+    let mut rows = p.rows;
+    if rows.is_ok() {
+        rows = job_row(above, lines);
     }
-    Ok(Pass { at, lines, outcome })
+    Ok(Pass { at, lines, rows })
 }
 
 // The steps below a head, put away in place.
 pub fn steps(v: Version, s: &[u8], p: Pass, places: u64, list: &mut [u64]) -> Result<Filled, Broken>
-    requires limits { Limits v }
     requires placed { Placed s.now p }
-    requires places_bound { p.outcome.number ≡ 0 → places ≤ 64 }
+    requires places_bound { (outcome_of p.rows).number ≡ 0 → places ≤ 64 }
     requires list_value { list.old ≡ replicate 256 0 }
     ensures { StepsOn v s.now p places result (steps_in list.new) }
 {
     let mut hint = [0u8; 256];
-    let mut outcome = p.outcome;
+    let mut rows = p.rows;
     let mut lines = p.lines;
     let mut at = p.at;
     let mut len = 0;
@@ -84,12 +81,12 @@ pub fn steps(v: Version, s: &[u8], p: Pass, places: u64, list: &mut [u64]) -> Re
         let l = step(v, s, at)?;
         at = l.at;
         lines += 1;
-        if outcome.number != 0 {
+        if rows.is_err() {
             continue;
         }
         let end = 4 * len;
-        outcome = step_row(v, &hint, &list[..end], places, l, lines);
-        if outcome.number != 0 {
+        rows = step_row(v, &hint, &list[..end], places, l, lines);
+        if rows.is_err() {
             continue;
         }
         let one = step_of(l);
@@ -98,19 +95,18 @@ pub fn steps(v: Version, s: &[u8], p: Pass, places: u64, list: &mut [u64]) -> Re
         len += 1;
     }
     Ok(Filled {
-        pass: Pass { at, lines, outcome },
+        pass: Pass { at, lines, rows },
         len,
     })
 }
 
 // The done lines to the end of the bytes.
 pub fn dones(v: Version, s: &[u8], p: Pass, list: &mut [u32; 64]) -> Result<Filled, Broken>
-    requires limits { Limits v }
-    requires placed { Placed s.now p }
+    requires { Placed s.now p }
     ensures { DonesOn v s.now p result list.old list.new }
 {
     let w = texts::DONE;
-    let mut outcome = p.outcome;
+    let mut rows = p.rows;
     let mut lines = p.lines;
     let mut at = p.at;
     let mut len = 0;
@@ -118,18 +114,18 @@ pub fn dones(v: Version, s: &[u8], p: Pass, list: &mut [u32; 64]) -> Result<Fill
         let n = numbered(v, s, at, &w)?;
         at = n.at;
         lines += 1;
-        if outcome.number != 0 {
+        if rows.is_err() {
             continue;
         }
-        outcome = done_row(v, len, n.value, lines);
-        if outcome.number != 0 {
+        rows = done_row(v, len, n.value, lines);
+        if rows.is_err() {
             continue;
         }
         list[len] = (n.value % 4294967296) as u32;
         len += 1;
     }
     Ok(Filled {
-        pass: Pass { at, lines, outcome },
+        pass: Pass { at, lines, rows },
         len,
     })
 }

@@ -8,8 +8,13 @@ use native.Mathlib.Omega.{arith}
 use lib.Dec.{eqb}
 use lib.ListN.{length, take, drop, replicate, length-drop, drop_of_length-le}
 use lib.Seq.{take_all}
-use borrow.Author.Tests.{eq-eqb, ne_eqb}
-use Rattle.std.specs.Prelude.{Result, IsErrAnd}
+use borrow.Author.Tests.{eqb-false}
+use Rattle.std.specs.Prelude.{Result, Ok, Err, IsErrAnd}
+use Rattle.refusal.specs.Rows.{pass, refuse}
+use Rattle.refusal.specs.Refusal.{number_of, outcome_of}
+use Rattle.refusal.specs.declared.Refusal.{Refusal}
+use Rattle.refusal.specs.declared.Row.TheVariants.{Layout}
+use Rattle.refusal.proofs.Answered.{number-some}
 use Rattle.route.specs.Steps.{blank}
 use Rattle.flat.specs.Flat.{steps_in}
 use Rattle.route.specs.declared.Step.{Step}
@@ -25,14 +30,16 @@ use Rattle.tokens.specs.inner.Tokens.{Breaks}
 use Rattle.tokens.specs.declared.Broken.{Broken}
 use Rattle.tokens.proofs.Bytes.{handed}
 use Rattle.line_reader.specs.inner.Lines.{has_steps}
-use Rattle.part_reader.specs.inner.Prefix.{state_of, Prefix, passed, with_route, with_dones, OldTo, NewTo, HeadBreaks}
+use Rattle.part_reader.specs.inner.Prefix.{Rows, state_of, Prefix, passed, with_route, with_dones, OldTo, NewTo, HeadBreaks}
 use Rattle.part_reader.specs.inner.Prefix.{JobTo, StepsTo, StepsBreak, DonesTo, DonesBreak}
 use Rattle.reader.specs.inner.Read.{PartsInto, ReadInto, ReadTo, route_in}
 use Rattle.part_reader.specs.declared.Pass.{Pass}
 use Rattle.part_reader.specs.declared.Head.{Head}
 use Rattle.part_reader.specs.declared.Filled.{Filled}
-use Rattle.reader.specs.Refused.{no_counts}
-use Rattle.reader.specs.declared.Counts.{Counts}
+use Rattle.reader.specs.Lists.{no_lists}
+use Rattle.reader.specs.declared.lists.Lists.{Lists}
+use Rattle.reader.specs.Refused.{counts_of}
+use Rattle.reader.specs.declared.Lengths.{Lengths}
 use Rattle.part_reader.proofs.PrefixStep.{settled-yes, settled-no, whole-state}
 
 -- ---- where the bytes end
@@ -62,12 +69,13 @@ sheet_with op ol np nl dl old new done =
       done = done;
     }
 
-refused-to : (v : Version) (s old new done : List ℕ) (n k : ℕ) (r : Counts) → (n ≡ 0 → ⊥) → r ≡ no_counts n k
-    → read_by v s ≡ failed n k → ReadInto v s r old new done
+pub refused-into : (v : Version) (s old new done : List ℕ) (e : Refusal)
+    → read_by v s ≡ failed (number_of e.row) e.second
+    → ReadInto v s (counts_of (Err e)) old new done
 unfolding failed
-refused-to v s old new done n k r far is h =
-    subst (λ (x : Counts). ReadInto v s x old new done) (sym is)
-    (record {
+refused-into v s old new done e h =
+    let far = eqb-false (number_of e.row) 0 (number-some e.row) in
+    record {
       number = ap (λ (x : Sheet). x.number) (sym h);
       second = ap (λ (x : Sheet). x.second) (sym h);
       old-places = ap (λ (x : Sheet). x.old.places) (sym h);
@@ -78,21 +86,24 @@ refused-to v s old new done n k r far is h =
       old-few = omega arith;
       new-few = omega arith;
       done-few = omega arith;
-      none = λ z. absurd (far z);
       refused = λ _. h;
       old-steps = λ z. absurd (far z);
       new-steps = λ z. absurd (far z);
       done-names = λ z. absurd (far z);
-    })
+    }
 
 -- row 1
-pub read-broken : (v : Version) (s old new done : List ℕ) (at : ℕ) (r : Counts) → r ≡ no_counts 1 at
-    → read_by v s ≡ failed 1 at → ReadInto v s r old new done
-read-broken v s old new done at r is h = refused-to v s old new done 1 at r (λ z. omega (arith, z)) is h
+pub read-broken : (v : Version) (s old new done : List ℕ) (at : ℕ) (e : Refusal)
+    → e ≡ record { row = Layout; second = at }
+    → read_by v s ≡ failed 1 at → ReadInto v s (counts_of (Err e)) old new done
+read-broken v s old new done at e is h =
+    refused-into v s old new done e (h ∙ ap (λ (x : Refusal). failed (number_of x.row) x.second) (sym is))
 
-pub broken-into : (v : Version) (s : List ℕ) (r : Result Counts Broken) (e : Broken) → IsErrAnd r (λ y. y ≡ e)
+pub broken-into : (v : Version) (s : List ℕ) (r : Result (Result Lengths Refusal) Broken) (e : Broken)
+    → IsErrAnd r (λ y. y ≡ e)
     → Breaks v s e.at → (old new done : List ℕ) → PartsInto v s r old new done
-broken-into v s r e is h old new done = handed (λ (x : Result Counts Broken). PartsInto v s x old new done) r e is
+broken-into v s r e is h old new done =
+    handed (λ (x : Result (Result Lengths Refusal) Broken). PartsInto v s x old new done) r e is
     (broken-read v s e.at h)
 
 -- each part after those before it: where it breaks, no sheet goes on so
@@ -105,7 +116,7 @@ module _ (v : Version) (s : List ℕ) (a : Head) (ha : OldTo v s a) where
     abbrev one : Sheet
     one = sheet_with a.places b.len 0 0 0 (steps_in old) (replicate 64 blank) (replicate 64 0)
 
-    old-steps : Prefix v s b.pass.at OldRoute (passed b.pass.lines b.pass.outcome one)
+    old-steps : Prefix v s b.pass.at OldRoute (passed b.pass.lines (outcome_of b.pass.rows) one)
     unfolding has_steps with_route failed
     old-steps = hb.goes OldRoute (failed 0 0) refl refl ha.goes
 
@@ -113,7 +124,7 @@ module _ (v : Version) (s : List ℕ) (a : Head) (ha : OldTo v s a) where
     new-head-breaks at h = h.goes _ hb.over old-steps
 
     module _ (c : Head) (hc : NewTo v s b.pass b.len c) where
-      new-head : Prefix v s c.pass.at NewRoute (passed c.pass.lines c.pass.outcome
+      new-head : Prefix v s c.pass.at NewRoute (passed c.pass.lines (outcome_of c.pass.rows)
           (sheet_with a.places b.len c.places 0 0 (steps_in old) (replicate 64 blank) (replicate 64 0)))
       unfolding headed
       new-head = hc.goes one refl refl hb.over old-steps
@@ -126,45 +137,46 @@ module _ (v : Version) (s : List ℕ) (a : Head) (ha : OldTo v s a) where
         abbrev two : Sheet
         two = sheet_with a.places b.len c.places d.len 0 (steps_in old) (steps_in new) (replicate 64 0)
 
-        new-steps : Prefix v s d.pass.at NewRoute (passed d.pass.lines d.pass.outcome two)
+        new-steps : Prefix v s d.pass.at NewRoute (passed d.pass.lines (outcome_of d.pass.rows) two)
         unfolding has_steps with_route
         new-steps = hd.goes NewRoute one refl refl new-head
 
         pub job-head-breaks : (at : ℕ) → ((v : Version) → HeadBreaks v s d.pass NewRoute at) → Breaks v s at
         job-head-breaks at h = (h v).goes _ hd.over new-steps
 
-        module _ (e : Pass) (he : JobTo s d.pass d.len e) (done₀ : List ℕ) (none : done₀ ≡ replicate 64 0) where
-          job : Prefix v s e.at JobPart (passed e.lines e.outcome (with_dones 0 done₀ two))
-          job = subst (λ (l : List ℕ). Prefix v s e.at JobPart (passed e.lines e.outcome (with_dones 0 l two)))
-              (sym none) (he.goes v two refl refl hd.over new-steps)
+        module _ (e : Pass) (he : JobTo s d.pass d.len e) (before : Lists) (none : before ≡ no_lists) where
+          job : Prefix v s e.at JobPart (passed e.lines (outcome_of e.rows) (with_dones 0 before.done two))
+          job = subst (λ (l : List ℕ). Prefix v s e.at JobPart (passed e.lines (outcome_of e.rows)
+              (with_dones 0 l two)))
+              (ap (λ (l : Lists). l.done) (sym none)) (he.goes v two refl refl hd.over new-steps)
 
-          pub dones-break : (at : ℕ) → DonesBreak v s e done₀ at → Breaks v s at
+          pub dones-break : (at : ℕ) → DonesBreak v s e before.done at → Breaks v s at
           dones-break at h = h.goes two refl job
 
-          module _ (done : List ℕ) (f : Filled) (hf : DonesTo v s e f done₀ done) where
+          module _ (done : List ℕ) (f : Filled) (hf : DonesTo v s e f before.done done) where
             abbrev sheet : Sheet
             sheet = sheet_with a.places b.len c.places d.len f.len (steps_in old) (steps_in new) done
 
-            reads : read_by v s ≡ settled f.pass.outcome sheet
+            reads : read_by v s ≡ settled (outcome_of f.pass.rows) sheet
             reads = whole-read v s f.pass.at _ (hf.goes two refl job) hf.all
 
-            pub read-refused : (r : Counts) → r ≡ no_counts f.pass.outcome.number f.pass.outcome.second
-                → (f.pass.outcome.number ≡ 0 → ⊥) → ReadInto v s r old new done
-            read-refused r is far = refused-to v s old new done f.pass.outcome.number f.pass.outcome.second r far is
-                (reads ∙ settled-no f.pass.outcome sheet far)
+            pub read-refused : (e : Refusal) → f.pass.rows ≡ Err e → ReadInto v s (counts_of (Err e)) old new done
+            read-refused e is =
+                refused-into v s old new done e
+                (reads
+                ∙ ap (λ (x : Rows). settled (outcome_of x) sheet) is
+                ∙ settled-no (refuse (number_of e.row) e.second) sheet (eqb-false _ 0 (number-some e.row)))
 
-            pub read-facts : f.pass.outcome.number ≡ 0
-                → ReadInto v s (record {
-                  number = 0;
-                  second = 0;
+            pub read-facts : (u : Unit {0}) → f.pass.rows ≡ Ok u
+                → ReadInto v s (counts_of (Ok (record {
                   old_places = a.places;
                   old_len = b.len;
                   new_places = c.places;
                   new_len = d.len;
                   done_len = f.len;
-                }) old new done
-            read-facts zero =
-                let h = reads ∙ settled-yes f.pass.outcome sheet zero in
+                }))) old new done
+            read-facts u is =
+                let h = reads ∙ ap (λ (x : Rows). settled (outcome_of x) sheet) is ∙ settled-yes pass sheet refl in
                 record {
                   number = ap (λ (x : Sheet). x.number) (sym h);
                   second = ap (λ (x : Sheet). x.second) (sym h);
@@ -176,7 +188,6 @@ module _ (v : Version) (s : List ℕ) (a : Head) (ha : OldTo v s a) where
                   old-few = hb.few;
                   new-few = hd.few;
                   done-few = hf.few;
-                  none = λ _. refl;
                   refused = λ z. absurd (z refl);
                   old-steps = λ _. ap (λ (x : Sheet). x.old.steps) (sym h);
                   new-steps = λ _. ap (λ (x : Sheet). x.new.steps) (sym h);
@@ -185,40 +196,39 @@ module _ (v : Version) (s : List ℕ) (a : Head) (ha : OldTo v s a) where
 
 -- ---- the sheet by value, and the job part
 
-module _ (v : Version) (s : List ℕ) (r : Counts) (old new done : List ℕ) (h : ReadInto v s r old new done) where
-  pub sheet-refused : (x : Sheet) → (r.number ≡ 0 → ⊥) → x ≡ failed r.number r.second → x ≡ read_by v s
-  sheet-refused x far is = is ∙ sym (h.refused far)
+module _ (v : Version) (s old new done : List ℕ) where
+  pub sheet-refused : (e : Refusal) → ReadInto v s (counts_of (Err e)) old new done
+      → failed (number_of e.row) e.second ≡ read_by v s
+  sheet-refused e h = sym (h.refused (eqb-false _ 0 (number-some e.row)))
 
-  pub sheet-read : (a b : Route) → r.number ≡ 0 → a ≡ route_in r.old_places r.old_len (steps_in old)
-      → b ≡ route_in r.new_places r.new_len (steps_in new)
-      → record { number = 0; second = 0; old = a; new = b; done_len = r.done_len; done = done } ≡ read_by v s
-  sheet-read a b z p q =
-      let number : 0 ≡ (read_by v s).number = sym z ∙ h.number in
-      let second : 0 ≡ (read_by v s).second = sym (h.none z) ∙ h.second in
-      let old-route : a ≡ (read_by v s).old = p ∙ (λ j. route_in (h.old-places j) (h.old-len j) (h.old-steps z j)) in
-      let new-route : b ≡ (read_by v s).new = q ∙ (λ j. route_in (h.new-places j) (h.new-len j) (h.new-steps z j)) in
+  pub sheet-read : (l : Lengths) (h : ReadInto v s (counts_of (Ok l)) old new done) (a b : Route)
+      → a ≡ route_in l.old_places l.old_len (steps_in old) → b ≡ route_in l.new_places l.new_len (steps_in new)
+      → record { number = 0; second = 0; old = a; new = b; done_len = l.done_len; done = done } ≡ read_by v s
+  sheet-read l h a b p q =
+      let old-route : a ≡ (read_by v s).old = p ∙ (λ j. route_in (h.old-places j) (h.old-len j) (h.old-steps refl j)) in
+      let new-route : b ≡ (read_by v s).new = q ∙ (λ j. route_in (h.new-places j) (h.new-len j) (h.new-steps refl j)) in
       λ j. record {
-        number = number j;
-        second = second j;
+        number = h.number j;
+        second = h.second j;
         old = old-route j;
         new = new-route j;
         done_len = h.done-len j;
-        done = h.done-names z j;
+        done = h.done-names refl j;
       }
 
-module _ (s : List ℕ) (r : Counts) (old new done : List ℕ) (h : ReadTo s r old new done) where
-  pub part-refused : (r.number ≡ 0 → ⊥) → ◌≡◌ {A = List ℕ} [] (job_part s)
+module _ (s old new done : List ℕ) where
+  pub part-refused : (e : Refusal) → ReadTo s (counts_of (Err e)) old new done → ◌≡◌ {A = List ℕ} [] (job_part s)
   unfolding job_part
-  part-refused far =
+  part-refused e h =
       sym (ap (λ (t : Bool). cond t (after_lines ((read_of s).old.len + (read_of s).new.len + 2) s) [])
-      (ap (λ (n : ℕ). eqb n 0) (sym h.number) ∙ ne_eqb r.number 0 far))
+      (ap (λ (n : ℕ). eqb n 0) (sym h.number) ∙ number-some e.row))
 
-  pub part-read : (k : ℕ) → r.number ≡ 0 → PastLines (r.old_len + r.new_len + 2) s k
-      → take (length s - k) (drop k s) ≡ job_part s
+  pub part-read : (l : Lengths) (h : ReadTo s (counts_of (Ok l)) old new done) (k : ℕ)
+      → PastLines (l.old_len + l.new_len + 2) s k → take (length s - k) (drop k s) ≡ job_part s
   unfolding job_part
-  part-read k z past =
+  part-read l h k past =
       take_all (length s - k) (drop k s) (omega (arith, length-drop k s))
       ∙ past.rest
       ∙ (λ j. after_lines (h.old-len j + h.new-len j + 2) s)
       ∙ sym (ap (λ (t : Bool). cond t (after_lines ((read_of s).old.len + (read_of s).new.len + 2) s) [])
-      (ap (λ (n : ℕ). eqb n 0) (sym h.number) ∙ eq-eqb r.number 0 z))
+      (ap (λ (n : ℕ). eqb n 0) (sym h.number)))

@@ -1,3 +1,4 @@
 -- What reading tells, inside and at its end.
+pub mod Lists
 pub mod Refused
 pub mod inner

@@ -2,14 +2,25 @@
 #![tactic(auto)]
 
 ghost use Rattle.std.specs.Prelude.{◌≡◌};
-ghost use Rattle.reader.specs.Refused.{no_counts};
+ghost use Rattle.reader.specs.Refused.{counts_of};
+
+use refusal::Refusal;
 
 pub mod lists;
 pub mod part;
 pub mod reads;
 
-// What reading gives besides the lists: a refusal and its second number, or 0 and 0 and both place counts and all three
-// lengths.
+// What a sheet that reads tells besides the lists: both place counts and all three lengths.
+#[derive(Clone, Copy)]
+pub struct Lengths {
+    pub old_places: u64,
+    pub old_len: usize,
+    pub new_places: u64,
+    pub new_len: usize,
+    pub done_len: usize,
+}
+
+// The same in plain numbers: a refusal's two, or 0, 0 and the counts.
 #[derive(Clone, Copy)]
 pub struct Counts {
     pub number: u32,
@@ -21,19 +32,29 @@ pub struct Counts {
     pub done_len: usize,
 }
 
-impl Counts {
-    // A refusal: all else 0.
-    pub fn refuse(number: u32, second: u64) -> Counts
-        ensures { result ≡ no_counts number second }
-    {
-        Counts {
-            number,
-            second,
-            old_places: 0,
-            old_len: 0,
-            new_places: 0,
-            new_len: 0,
-            done_len: 0,
+impl From<Result<Lengths, Refusal>> for Counts {
+    ghost from_gives = { λ r a. a ≡ counts_of r };
+
+    fn from(r: Result<Lengths, Refusal>) -> Counts {
+        match r {
+            Ok(l) => Counts {
+                number: 0,
+                second: 0,
+                old_places: l.old_places,
+                old_len: l.old_len,
+                new_places: l.new_places,
+                new_len: l.new_len,
+                done_len: l.done_len,
+            },
+            Err(e) => Counts {
+                number: e.row.number(),
+                second: e.second,
+                old_places: 0,
+                old_len: 0,
+                new_places: 0,
+                new_len: 0,
+                done_len: 0,
+            },
         }
     }
 }

@@ -2,7 +2,7 @@
 ghost use Rattle.std.specs.Prelude.{◌≡◌};
 ghost use Rattle.facts.specs.JobPart.{job_part, PastLines};
 
-use crate::lists::read_lists;
+use crate::lists::{Lists, read_lists};
 
 // The offset past the first n lines.
 fn past_lines(s: &[u8], n: usize) -> usize
@@ -24,13 +24,10 @@ fn past_lines(s: &[u8], n: usize) -> usize
 pub fn job_part(sheet: &[u8]) -> &[u8]
     ensures { result.now ≡ job_part sheet.now }
 {
-    let mut old = [0u64; 256];
-    let mut new = [0u64; 256];
-    let mut done = [0u32; 64];
-    let c = read_lists(sheet, &mut old, &mut new, &mut done);
-    if c.number != 0 {
+    let mut lists = Lists::empty();
+    let Ok(c) = read_lists(sheet, &mut lists) else {
         return &sheet[..0];
-    }
+    };
     let k = past_lines(sheet, c.old_len + c.new_len + 2);
     &sheet[k..]
 }

@@ -1,12 +1,13 @@
 // Reading a sheet by value.
 ghost use Rattle.std.specs.Prelude.{◌≡◌};
 ghost use Rattle.flat.specs.Flat.{steps_in};
-ghost use Rattle.version.specs.Limits.{scope, Limits};
-ghost use Rattle.facts.specs.Facts.{read_by, read_of};
+ghost use Rattle.version.specs.Limits.{scope};
+ghost use Rattle.facts.specs.Facts.{read_by, read_of, sheet_told};
 ghost use Rattle.reader.specs.inner.Read.{route_in};
 
-use crate::lists::read_lists_by;
-use facts::Sheet;
+use crate::lists::{Lists, read_lists_by};
+use facts::Records;
+use refusal::Refusal;
 use route::Route;
 use version::Version;
 
@@ -23,39 +24,31 @@ fn route_in(places: u64, len: usize, list: &[u64; 256]) -> Route
     r
 }
 
-fn read_by(v: Version, sheet: &[u8]) -> Sheet
-    requires { Limits v }
-    ensures { result ≡ read_by v sheet.now }
+fn read_by(v: Version, sheet: &[u8]) -> Result<Records, Refusal>
+    ensures { sheet_told result ≡ read_by v sheet.now }
 {
-    let mut old = [0u64; 256];
-    let mut new = [0u64; 256];
-    let mut done = [0u32; 64];
-    let c = read_lists_by(v, sheet, &mut old, &mut new, &mut done);
-    if c.number != 0 {
-        return Sheet::refused(c.number, c.second);
-    }
-    let a = route_in(c.old_places, c.old_len, &old);
-    let b = route_in(c.new_places, c.new_len, &new);
-    Sheet {
-        number: 0,
-        second: 0,
+    let mut lists = Lists::empty();
+    let c = read_lists_by(v, sheet, &mut lists)?;
+    let a = route_in(c.old_places, c.old_len, &lists.old_steps);
+    let b = route_in(c.new_places, c.new_len, &lists.new_steps);
+    Ok(Records {
         old: a,
         new: b,
         done_len: c.done_len,
-        done,
-    }
+        done: lists.done,
+    })
 }
 
 // The operation read, by value.
-pub fn read(sheet: &[u8]) -> Sheet
-    ensures { result ≡ read_of sheet.now }
+pub fn read(sheet: &[u8]) -> Result<Records, Refusal>
+    ensures { sheet_told result ≡ read_of sheet.now }
 {
     read_by(Version::PRESENT, sheet)
 }
 
 // A sheet of 01's layout.
-pub fn read_scope(sheet: &[u8]) -> Sheet
-    ensures { result ≡ read_by scope sheet.now }
+pub fn read_scope(sheet: &[u8]) -> Result<Records, Refusal>
+    ensures { sheet_told result ≡ read_by scope sheet.now }
 {
     read_by(Version::SCOPE, sheet)
 }

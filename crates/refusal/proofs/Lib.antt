@@ -1,2 +1,3 @@
 -- Laws on rows.
 pub mod Rows
+pub mod Answered

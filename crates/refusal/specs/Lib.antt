@@ -1,2 +1,3 @@
 -- What a refusal is.
 pub mod Rows
+pub mod Refusal

@@ -1,7 +1,6 @@
 -- Laws on the run: its steps, its lines, what stands after row 9.
 pub mod Performed
 pub mod RunLine
-pub mod NetsInTurn
 pub mod BegunCases
 pub mod AfterRun
 pub mod FiredDone

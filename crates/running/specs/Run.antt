@@ -1,14 +1,15 @@
 -- Running the done list on the old route: rows 6 to 9, the last two done line by done line.
-use Rattle.std.specs.Prelude.{◌≡◌, cond, List, [], ◌∷◌, map, ℕ, ◌+◌, eqb}
+use Rattle.std.specs.Prelude.{◌≡◌, cond, List, [], ◌∷◌, map, ℕ, ◌+◌, eqb, Result, Ok, Err}
 use Rattle.std.proofs.Math.Option.{get_or}
-use Rattle.refusal.specs.Rows.{refuse, first}
+use Rattle.refusal.specs.declared.Refusal.{Refusal}
+use Rattle.refusal.specs.Refusal.{number_of}
+use Rattle.route.specs.declared.Marking.{Marking}
 use Rattle.route.specs.Steps.{blank, names, lookup}
 use Rattle.lookup.specs.Around.{compared_all}
 use Rattle.flat.specs.Flat.{Holds}
-use Rattle.route.specs.Firing.{start, if_fires}
-use Rattle.opening.specs.Net.{net_row}
+use Rattle.route.specs.Firing.{if_fires}
 use Rattle.route.specs.declared.Step.{Step}
-use Rattle.job.specs.Job.{Job, after_steps, job_line, old_start, new_start}
+use Rattle.job.specs.Job.{Job, job_line, old_start, new_start}
 use Rattle.job.specs.Lines.{checked}
 use Rattle.running.specs.declared.Ran.{Ran}
 use Rattle.running.specs.declared.Begun.{Begun}
@@ -16,6 +17,16 @@ use Rattle.running.specs.declared.Begun.{Begun}
 -- a refusal: its number and second number, all else 0
 abbrev pub stopped : ℕ → ℕ → Ran
 stopped n k = record { number = n; second = k; marking = record { tokens = 0 } }
+
+-- run's answer in numbers
+abbrev pub ran_of : Result Marking Refusal → Ran
+ran_of (Ok m) = record { number = 0; second = 0; marking = m }
+ran_of (Err e) = stopped (number_of e.row) e.second
+
+-- the same of what stands after row 9
+abbrev pub begun_ran : Result Begun Refusal → Ran
+begun_ran (Ok b) = ran_of (Ok b.marking)
+begun_ran (Err e) = ran_of (Err e)
 
 -- the steps done: for each done name the route's step, whose reads, writes and mark are the occurrence's
 unfoldable pub performed : List Step → List ℕ → List Step
@@ -34,26 +45,9 @@ ran j =
     (run_from j.old (old_start j) (job_line j + 1) j.done)
     (stopped (checked j).number (checked j).second)
 
--- rows 6 and 7 of the old route, then of the new, and both starts; nothing has been looked up yet
-unfoldable pub opened_both : ℕ → List Step → ℕ → List Step → Begun
-opened_both old_places old new_places new =
-    record {
-      outcome = first (net_row 1 old_places old ∷ net_row (after_steps 1 old) new_places new ∷ []);
-      marking = record { tokens = start old_places old };
-      start = record { tokens = start new_places new };
-      compared = 0;
-    }
-
--- a refusal by row 6 or 7: no markings, nothing compared
-abbrev pub begun_stopped : ℕ → ℕ → Begun
-begun_stopped n k =
-    record { outcome = refuse n k; marking = record { tokens = 0 }; start = record { tokens = 0 }; compared = 0 }
-
--- what stands of a job after row 9: run's answer and, where it is 0, the new route's start, the steps done, as numbers,
--- and how many of the old route's names their look-ups compared
-pub record BegunOf (j : Job) (b : Begun) (occurrences : List ℕ) : Type 0 where
-  pub outcome-is : b.outcome ≡ refuse (ran j).number (ran j).second
-  pub marking-is : b.marking ≡ (ran j).marking
-  pub start_is : (ran j).number ≡ 0 → b.start.tokens ≡ new_start j
-  pub done-are : (ran j).number ≡ 0 → Holds (performed j.old j.done) occurrences
-  pub compared_is : (ran j).number ≡ 0 → b.compared ≡ compared_all (names j.old) j.done
+-- what stands of a job that no row to 9 refuses: the new route's start, the steps done, as numbers, and how many of the
+-- old route's names their look-ups compared
+pub record Begins (j : Job) (b : Begun) (occurrences : List ℕ) : Type 0 where
+  pub start_is : b.start.tokens ≡ new_start j
+  pub done-are : Holds (performed j.old j.done) occurrences
+  pub compared_is : b.compared ≡ compared_all (names j.old) j.done

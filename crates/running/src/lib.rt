@@ -2,14 +2,15 @@
 #![tactic(auto)]
 
 ghost use Rattle.std.specs.Prelude.{◌≡◌};
-ghost use Rattle.running.specs.Run.{stopped, begun_stopped};
+ghost use Rattle.running.specs.Run.{ran_of};
 
-use refusal::Outcome;
+use refusal::Refusal;
 use route::Marking;
 
 pub mod lists;
 pub mod routes;
 
+// Run's answer in plain numbers: a refusal's two, or 0, 0 and the old route's marking.
 #[derive(Clone, Copy)]
 pub struct Ran {
     pub number: u32,
@@ -17,40 +18,30 @@ pub struct Ran {
     pub marking: Marking,
 }
 
-// A job whose lines pass, after row 9: the outcome of rows 6 to 9, the old route's marking, the new route's start, and
-// how many of the old route's names were compared.
+impl From<Result<Marking, Refusal>> for Ran {
+    ghost from_gives = { λ r a. a ≡ ran_of r };
+
+    fn from(r: Result<Marking, Refusal>) -> Ran {
+        match r {
+            Ok(marking) => Ran {
+                number: 0,
+                second: 0,
+                marking,
+            },
+            Err(e) => Ran {
+                number: e.row.number(),
+                second: e.second,
+                marking: Marking { tokens: 0 },
+            },
+        }
+    }
+}
+
+// A job that no row to 9 refuses: the old route's marking, the new route's start, and how many of the old route's names
+// were compared.
 #[derive(Clone, Copy)]
 pub struct Begun {
-    pub outcome: Outcome,
     pub marking: Marking,
     pub start: Marking,
     pub compared: usize,
-}
-
-impl Ran {
-    // A refusal: no marking.
-    pub fn stop(number: u32, second: u64) -> Ran
-        ensures { result ≡ stopped number second }
-    {
-        Ran {
-            number,
-            second,
-            marking: Marking { tokens: 0 },
-        }
-    }
-}
-
-impl Begun {
-    // A refusal: no markings, nothing compared.
-    pub fn stop(number: u32, second: u64) -> Begun
-        ensures { result ≡ begun_stopped number second }
-    {
-        let none = Marking { tokens: 0 };
-        Begun {
-            outcome: Outcome::refuse(number, second),
-            marking: none,
-            start: none,
-            compared: 0,
-        }
-    }
 }

@@ -1,20 +1,19 @@
-// The operation run, on records by value.
+// The operation run, on records.
 ghost use Rattle.std.specs.Prelude.{◌≡◌};
-ghost use Rattle.job.specs.Job.{job_of};
-ghost use Rattle.running.specs.Run.{ran};
+ghost use Rattle.running.specs.Run.{ran, ran_of};
 
-use crate::Ran;
 use crate::lists::run_lists;
-use flat::laying::lay;
-use route::Route;
+use job::laying::Lay;
+use refusal::Refusal;
+use route::Marking;
 
 // The rows to 9, and the old route's marking.
-pub fn run(old: Route, new: Route, done: &[u32]) -> Ran
-    ensures { result ≡ ran (job_of old new done.now) }
+#[tactic(auto, using(crate::proofs::LongLists::ran_cut))]
+pub fn run<J: Lay>(job: &J) -> Result<Marking, Refusal>
+    ensures { ran_of result ≡ ran (J.job job.now) }
 {
     let mut a = [0u64; 260];
     let mut b = [0u64; 260];
-    let n = lay(old, &mut a);
-    let m = lay(new, &mut b);
-    run_lists(old.places, &a[..n], new.places, &b[..m], done)
+    let flat = job.lay(&mut a, &mut b);
+    run_lists(flat)
 }

@@ -1,5 +1,6 @@
 // 01's examples as records. Place p is bit p, variable v is bit v.
 use crate::{one, step, three, two};
+use job::laying::RouteJob;
 use route::{Route, Step};
 
 // Both routes and the names done.
@@ -8,6 +9,16 @@ pub struct Sample {
     pub old: Route,
     pub new: Route,
     pub done: &'static [u32],
+}
+
+impl Sample {
+    pub fn job(&self) -> RouteJob<'_> {
+        RouteJob {
+            old: &self.old,
+            new: &self.new,
+            done: self.done,
+        }
+    }
 }
 
 fn job(old: Route, new: Route, done: &'static [u32]) -> Sample {

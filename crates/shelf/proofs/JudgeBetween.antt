@@ -27,10 +27,10 @@ module _ (s : Shelf) (edition target : ℕ) (done : List ℕ) where
   job = job_between s edition target done
 
   -- row 14
-  pub between-short : (room : ℕ) (r : Judged) → room < 8192 → r ≡ judge_stopped 14 0
-      → r ≡ judged_between s edition target done room
+  pub between-short : (room : ℕ) → room < 8192
+      → judge_stopped 14 0 ≡ judged_between s edition target done room
   unfolding judged_between
-  between-short room r h e = e ∙ cond_no _ _ refl (lt-leb 8192 room h)
+  between-short room h = cond_no _ _ refl (lt-leb 8192 room h)
 
   pub between-short-work : (work : List ℕ) → length work < 8192 → work ≡ work_between s edition target done work
   unfolding work_between work_job
@@ -42,17 +42,17 @@ module _ (s : Shelf) (edition target : ℕ) (done : List ℕ) where
       go false j = refl
 
   -- a bad shelf, where there is room
-  pub between-twenty-one : good_shelf s ≡ false → (room : ℕ) (r : Judged) → 8192 ≤ room → r ≡ judge_stopped 21 1
-      → r ≡ judged_between s edition target done room
+  pub between-twenty-one : good_shelf s ≡ false → (room : ℕ) → 8192 ≤ room
+      → judge_stopped 21 1 ≡ judged_between s edition target done room
   unfolding judged_between
-  between-twenty-one off room r h e = e ∙ cond_no _ _ refl off ∙ cond_yes _ _ refl (le-leb 8192 room h)
+  between-twenty-one off room h = cond_no _ _ refl off ∙ cond_yes _ _ refl (le-leb 8192 room h)
 
   -- the numbers stored say whether it is good
   module _ (v : List ℕ) (are : v ≡ numbers_in s.editions) (full : length s.editions ≡ 8) (t : Bool)
       (test : t ≡ (leb s.len (length v) && rise 0 (take s.len v))) where
     module _ (bad : not t ≡ true) where
-      pub between-bad : (room : ℕ) (r : Judged) → 8192 ≤ room → r ≡ judge_stopped 21 1
-          → r ≡ judged_between s edition target done room
+      pub between-bad : (room : ℕ) → 8192 ≤ room
+          → judge_stopped 21 1 ≡ judged_between s edition target done room
       between-bad = between-twenty-one (good-no s v are full t test bad)
 
       pub between-bad-work : (work : List ℕ) → work ≡ work_between s edition target done work
@@ -83,10 +83,10 @@ module _ (s : Shelf) (edition target : ℕ) (done : List ℕ) where
           no_job : job ≡ maybe.none
           no_job = no-job s edition target v are full t test ok f found missing done
 
-          pub between-nothing : (room : ℕ) (r : Judged) → 8192 ≤ room → r ≡ judge_stopped 19 0
-              → r ≡ judged_between s edition target done room
+          pub between-nothing : (room : ℕ) → 8192 ≤ room
+              → judge_stopped 19 0 ≡ judged_between s edition target done room
           unfolding judged_job
-          between-nothing = answer maybe.none no_job
+          between-nothing room h = answer maybe.none no_job room _ h refl
 
           pub between-nothing-work : (work : List ℕ) → work ≡ work_between s edition target done work
           unfolding work_job

@@ -8,8 +8,10 @@ use lib.Dec.{eqb, leb}
 use lib.ListN.{length, take}
 use Rattle.refusal.specs.Rows.{pass, refuse, first}
 use Rattle.refusal.specs.declared.Outcome.{Outcome}
-use Rattle.refusal.proofs.Rows.{row-passes, row-refuses, rows_end, rows_pass, rows-refuse, row-passed}
-use Rattle.refusal.proofs.Rows.{rows-passed}
+use Rattle.refusal.specs.Refusal.{number_of}
+use Rattle.refusal.specs.declared.Refusal.{Refusal}
+use Rattle.refusal.proofs.Answered.{err-rows, ok-rows}
+use Rattle.refusal.proofs.Rows.{row-passes, row-refuses, rows_end, row-passed, rows-passed}
 use Rattle.route.specs.Steps.{steps_of}
 use Rattle.route.specs.declared.Route.{Route}
 use Rattle.job.specs.Alone.{alone_rows}
@@ -21,10 +23,10 @@ use Rattle.shelf.proofs.GoodShelf.{numbers-are, good-no, good-yes}
 
 -- a shelf, the numbers in its entries, and whether it is good
 module _ (s : Shelf) (v : List ℕ) (are : v ≡ numbers_in s.editions) (full : length s.editions ≡ 8) (t : Bool)
-    (test : t ≡ (leb s.len (length v) && rise 0 (take s.len v))) (n : ℕ) (o : Outcome) where
-  pub shelf-bad : not t ≡ true → o ≡ refuse 21 1 → o ≡ first (shelf_rows s n)
+    (test : t ≡ (leb s.len (length v) && rise 0 (take s.len v))) (n : ℕ) where
+  pub shelf-bad : not t ≡ true → refuse 21 1 ≡ first (shelf_rows s n)
   unfolding shelf_rows
-  shelf-bad off is = is ∙ sym (row-refuses (good_shelf s) 21 1 _ (good-no s v are full t test off) refl)
+  shelf-bad off = sym (row-refuses (good_shelf s) 21 1 _ (good-no s v are full t test off) refl)
 
   module _ (on : not t ≡ false) (last : ℕ) (last-is : last ≡ last_of 0 (take s.len v)) (u : Bool)
       (fits : u ≡ number_fits last n) where
@@ -34,30 +36,27 @@ module _ (s : Shelf) (v : List ℕ) (are : v ≡ numbers_in s.editions) (full : 
     good : good_shelf s ≡ true
     good = good-yes s v are full t test on
 
-    pub number-bad : not u ≡ true → o ≡ refuse 20 0 → o ≡ first (shelf_rows s n)
+    pub number-bad : not u ≡ true → refuse 20 0 ≡ first (shelf_rows s n)
     unfolding shelf_rows
-    number-bad off is =
-        is
-        ∙ sym (row-refuses (number_fits (last_number s) n) 20 0 _ (sym fits-is ∙ not-true u off) refl)
+    number-bad off =
+        sym (row-refuses (number_fits (last_number s) n) 20 0 _ (sym fits-is ∙ not-true u off) refl)
         ∙ sym (row-passes (good_shelf s) 21 1 _ good)
 
     module _ (ok : not u ≡ false) where
       number-good : number_fits (last_number s) n ≡ true
       number-good = sym fits-is ∙ not-false u ok
 
-      pub shelf-full : 8 ≤ s.len → o ≡ refuse 21 0 → o ≡ first (shelf_rows s n)
+      pub shelf-full : 8 ≤ s.len → refuse 21 0 ≡ first (shelf_rows s n)
       unfolding shelf_rows
-      shelf-full h is =
-          is
-          ∙ sym (row-refuses _ 21 0 [] (le-ltb s.len 8 h) refl)
+      shelf-full h =
+          sym (row-refuses _ 21 0 [] (le-ltb s.len 8 h) refl)
           ∙ sym (row-passes (number_fits (last_number s) n) 20 0 _ number-good)
           ∙ sym (row-passes (good_shelf s) 21 1 _ good)
 
-      pub shelf-room : s.len < 8 → o ≡ pass → o ≡ first (shelf_rows s n)
+      pub shelf-room : s.len < 8 → pass ≡ first (shelf_rows s n)
       unfolding shelf_rows
-      shelf-room h is =
-          is
-          ∙ sym rows_end
+      shelf-room h =
+          sym rows_end
           ∙ sym (row-passes _ 21 0 [] (lt-ltb s.len 8 h))
           ∙ sym (row-passes (number_fits (last_number s) n) 20 0 _ number-good)
           ∙ sym (row-passes (good_shelf s) 21 1 _ good)
@@ -72,18 +71,16 @@ shelf-passes s n e =
     (good, (fits, ltb-true s.len 8 (row-passed _ 21 0 [] refl last).0))
 
 -- the first rows are those of the shelf and the number
-module _ (s : Shelf) (n : ℕ) (r : Route) (o : Outcome) (is : o ≡ first (shelf_rows s n)) (t : Bool)
-    (test : t ≡ eqb o.number 0) where
-  rows_of : eqb (first (shelf_rows s n)).number 0 ≡ t
-  rows_of = ap (λ (x : Outcome). eqb x.number 0) (sym is) ∙ sym test
-
-  pub put-stops : t ≡ false → o ≡ put_row s n r
+module _ (s : Shelf) (n : ℕ) (r : Route) where
+  pub put-stops : (e : Refusal) → refuse (number_of e.row) e.second ≡ first (shelf_rows s n)
+      → refuse (number_of e.row) e.second ≡ put_row s n r
   unfolding put_row
-  put-stops off = is ∙ sym (rows-refuse (shelf_rows s n) _ (rows_of ∙ off))
+  put-stops e is = err-rows e (shelf_rows s n) is _
 
-  pub put-goes-on : t ≡ true → (p : Outcome) → p ≡ first (alone_rows r.places (steps_of r)) → p ≡ put_row s n r
+  pub put-goes-on : pass ≡ first (shelf_rows s n)
+      → (p : Outcome) → p ≡ first (alone_rows r.places (steps_of r)) → p ≡ put_row s n r
   unfolding put_row
-  put-goes-on on p rows = rows ∙ sym (rows_pass (shelf_rows s n) _ (rows_of ∙ on))
+  put-goes-on is p rows = rows ∙ sym (ok-rows (shelf_rows s n) is _)
 
 -- where all rows pass there is room
 module _ (s : Shelf) (n : ℕ) (r : Route) (o : Outcome) (is : o ≡ put_row s n r) (t : Bool)

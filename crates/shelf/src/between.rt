@@ -1,12 +1,14 @@
 // The operation judge between two editions: row 14, a bad shelf, the editions; then judge for their routes.
 ghost use Rattle.std.specs.Prelude.{◌≡◌, length};
+ghost use Rattle.answering.specs.Answer.{judged_of};
 ghost use Rattle.shelf.specs.Judge.{judged_between, work_between};
 ghost use Rattle.shelf.specs.inner.Entries.{entries_in};
 
-use crate::Shelf;
 use crate::editions::{is_good, numbers_in, position_of};
-use answering::Judged;
-use answering::answers::stop;
+use crate::{Edition, Shelf};
+use answering::Moved;
+use job::laying::RouteJob;
+use refusal::{Refusal, Row};
 use work_slice::WORK;
 
 // Where both editions stand, where the target is later.
@@ -21,22 +23,29 @@ fn entries_of(numbers: &[u32], edition: u32, target: u32) -> Option<(usize, usiz
     Some((i, j))
 }
 
-pub fn judge(s: Shelf, edition: u32, target: u32, done: &[u32], work: &mut [u8]) -> Judged
-    ensures value { result ≡ judged_between s edition target done.now (length work.old) }
-    ensures work_after { work.new ≡ work_between s edition target done.now work.old }
+pub fn judge(
+    s: &Shelf,
+    edition: u32,
+    target: u32,
+    done: &[u32],
+    work: &mut [u8],
+) -> Result<Moved, Refusal>
+    ensures value { judged_of result ≡ judged_between s.now edition target done.now (length work.old) }
+    ensures work_after { work.new ≡ work_between s.now edition target done.now work.old }
 {
     if work.len() < WORK {
-        return stop(14, 0);
+        return Err(Row::ShortWork.at(0));
     }
     let len = s.len;
-    let numbers = numbers_in(&s);
+    let numbers = numbers_in(s);
     if !is_good(len, &numbers) {
-        return stop(21, 1);
+        return Err(Row::BadShelf.at(1));
     }
     let Some((i, j)) = entries_of(&numbers[..len], edition, target) else {
-        return stop(19, 0);
+        return Err(Row::NoEdition.at(0));
     };
-    let old = s.editions[i].route;
-    let new = s.editions[j].route;
-    judging::judging::judge(old, new, done, work)
+    let editions: &[Edition] = &s.editions;
+    let old = &editions[i].route;
+    let new = &editions[j].route;
+    judging::judging::judge(&RouteJob { old, new, done }, work)
 }

@@ -1,6 +1,7 @@
 // The operation put: a bad shelf, the number, a full shelf, the rows of the route; then one edition more.
 ghost use Rattle.std.specs.Prelude.{◌≡◌, ◌<◌};
 ghost use Rattle.refusal.specs.Rows.{first};
+ghost use Rattle.refusal.specs.Refusal.{outcome_of};
 ghost use Rattle.route.specs.Steps.{steps_of};
 ghost use Rattle.job.specs.Alone.{alone_rows};
 ghost use Rattle.shelf.specs.Put.{shelf_rows, put_row, with_edition, stored};
@@ -9,45 +10,42 @@ use crate::editions::{is_good, last_of, number_fits, numbers_in};
 use crate::{Edition, Shelf, Stored};
 use flat::laying::lay;
 use job::checks::check_alone;
-use refusal::Outcome;
+use refusal::{Outcome, Refusal, Row};
 use route::Route;
 
 // The rows of the shelf and of the number.
-fn check_number(s: &Shelf, number: u32) -> Outcome
-    ensures { result ≡ first (shelf_rows s.now number) }
+fn check_number(s: &Shelf, number: u32) -> Result<(), Refusal>
+    ensures { outcome_of result ≡ first (shelf_rows s.now number) }
 {
     let len = s.len;
     let numbers = numbers_in(s);
     if !is_good(len, &numbers) {
-        return Outcome::refuse(21, 1);
+        return Err(Row::BadShelf.at(1));
     }
     if !number_fits(last_of(&numbers[..len]), number) {
-        return Outcome::refuse(20, 0);
+        return Err(Row::BadEdition.at(0));
     }
     if Shelf::EDITIONS <= len {
-        return Outcome::refuse(21, 0);
+        return Err(Row::BadShelf.at(0));
     }
-    Outcome::pass()
+    Ok(())
 }
 
 // The rows of the route, as an old route's.
-fn check_edition(r: Route) -> Outcome
-    ensures { result ≡ first (alone_rows r.places (steps_of r)) }
+fn check_edition(r: Route) -> Result<(), Refusal>
+    ensures { outcome_of result ≡ first (alone_rows r.places (steps_of r)) }
 {
     let mut a = [0u64; 260];
-    let n = lay(r, &mut a);
-    let opened = check_alone(r.places, &a[..n]);
-    opened.outcome
+    let n = lay(&r, &mut a);
+    check_alone(r.places, &a[..n])?;
+    Ok(())
 }
 
 // All rows of put in turn.
-fn check(s: &Shelf, number: u32, route: Route) -> Outcome
-    ensures { result ≡ put_row s.now number route }
+fn check(s: &Shelf, number: u32, route: Route) -> Result<(), Refusal>
+    ensures { outcome_of result ≡ put_row s.now number route }
 {
-    let o = check_number(s, number);
-    if !o.passed() {
-        return o;
-    }
+    check_number(s, number)?;
     check_edition(route)
 }
 
@@ -65,7 +63,7 @@ fn store(s: &mut Shelf, number: u32, route: Route)
 pub fn put(s: Shelf, number: u32, route: Route) -> Stored
     ensures { result ≡ stored s number route }
 {
-    let o = check(&s, number, route);
+    let o = Outcome::from(check(&s, number, route));
     let mut shelf = s;
     if o.passed() {
         store(&mut shelf, number, route);

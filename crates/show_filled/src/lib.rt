@@ -1,9 +1,8 @@
 // A part of show_lent: a sheet read into lent lists, and what stands in them then.
 #![tactic(auto)]
 
-ghost use Rattle.std.specs.Prelude.{◌≤◌};
-
-use arrays::Filled;
+use arrays::Array;
+use reader::Counts;
 use route::Step;
 use std::io;
 
@@ -24,54 +23,40 @@ fn names(rt: &impl Print, l: [Step; 100]) -> io::Result<()> {
     name(rt, l[99].name)
 }
 
-fn show_filled(rt: &impl Print, r: Filled) -> io::Result<()> {
-    let c = r.counts;
-    number(rt, c.number as u64)?;
+fn show_counts(rt: &impl Print, c: Counts) -> io::Result<()> {
+    number(rt, u64::from(c.number))?;
     number(rt, c.second)?;
     number(rt, c.old_places)?;
     number(rt, c.old_len as u64)?;
     number(rt, c.new_places)?;
     number(rt, c.new_len as u64)?;
-    number(rt, c.done_len as u64)?;
-    let old = r.old;
-    names(rt, old)?;
-    let new = r.new;
-    names(rt, new)
+    number(rt, c.done_len as u64)
 }
 
-// A sheet read into n and m records and room for three names, which all hold 7: the answer, and what stands in the
+// A sheet read into the records lent and room for three names, which all hold 7: the answer, and what stands in the
 // lists after it.
-fn show_sheet(rt: &impl Print, sheet: &[u8], n: usize, m: usize) -> io::Result<()>
-    requires { (n ≤ 100) × (m ≤ 100) }
-{
-    let c = [samples::step(7, 0, 0, 0, 0); 100];
+fn show_sheet(rt: &impl Print, sheet: &[u8], old: Array, new: Array) -> io::Result<()> {
+    let mut a = old;
+    let mut b = new;
     let mut done = [7u32; 3];
-    let r = arrays::read(sheet, c, n, c, m, &mut done);
-    show_filled(rt, r)?;
-    name(rt, done[0])?;
-    name(rt, done[1])?;
-    name(rt, done[2])
-}
-
-// The first k bytes.
-fn show_part(rt: &impl Print, out: &[u8], k: usize, n: usize, m: usize) -> io::Result<()>
-    requires { (n ≤ 100) × (m ≤ 100) }
-{
-    if k <= out.len() {
-        show_sheet(rt, &out[..k], n, m)?;
+    let r = arrays::read(sheet, &mut a, &mut b, &mut done);
+    show_counts(rt, Counts::from(r))?;
+    names(rt, a.steps)?;
+    names(rt, b.steps)?;
+    for n in done {
+        name(rt, n)?;
     }
     Ok(())
 }
 
-// A sheet of s steps a route and two names done, read into n and m records.
-pub fn show_read(rt: &impl Print, a: [Step; 100], s: usize, n: usize, m: usize) -> io::Result<()>
-    requires { (s ≤ 100) × ((n ≤ 100) × (m ≤ 100)) }
-{
-    rt.print(s as u64)?;
-    number(rt, n as u64)?;
-    number(rt, m as u64)?;
+// A sheet of these steps in both routes and two names done, read into the records lent.
+pub fn show_read(rt: &impl Print, steps: Array, old: Array, new: Array) -> io::Result<()> {
+    rt.print(steps.len as u64)?;
+    number(rt, old.len as u64)?;
+    number(rt, new.len as u64)?;
     let mut out = [46u8; 6000];
-    let w = arrays::write(64, a, s, 64, a, s, &[100, 101], &mut out);
-    show_part(rt, &out, w.written as usize, n, m)?;
+    let job = arrays::job(64, &steps, 64, &steps, &[100, 101]);
+    let n = writer::writes::write(&job, &mut out).unwrap_or(0);
+    show_sheet(rt, &out[..counts::within(n, &out)], old, new)?;
     rt.write_all(b"\n")
 }

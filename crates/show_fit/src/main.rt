@@ -2,15 +2,16 @@
 // worst, work slices and orders of every kind.
 #![tactic(auto)]
 
-use answering::Judged;
-use samples::letters::Sample;
+use job::laying::RouteJob;
 use std::io;
 
 mod letters;
 mod searches;
 
-fn judge_in(x: Sample, work: &mut [u8]) -> Judged {
-    judging::judging::judge(x.old, x.new, x.done, work)
+// A work slice of 8,192 bytes is enough; what it holds doesn't matter.
+fn say(rt: &impl Print, label: &[u8], job: RouteJob) -> io::Result<()> {
+    let mut work = [7u8; 8192];
+    show_judged::say(rt, label, judging::judging::judge(&job, &mut work))
 }
 
 fn main(rt: HostRuntime) -> io::Result<()> {

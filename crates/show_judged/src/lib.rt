@@ -1,7 +1,8 @@
 // An answer of judge: a line with its number and second number, and for a job that moves what the listing shows.
 #![tactic(auto)]
 
-use answering::Judged;
+use answering::Moved;
+use refusal::{Outcome, Refusal};
 use samples::lines;
 use samples::lines::number;
 use std::io;
@@ -55,7 +56,7 @@ fn say_writers(rt: &impl Print, writers: [u8; 32]) -> io::Result<()> {
     Ok(())
 }
 
-fn say_moved(rt: &impl Print, a: Judged) -> io::Result<()> {
+fn say_moved(rt: &impl Print, a: Moved) -> io::Result<()> {
     number(rt, b"  kept mask ", a.kept)?;
     number(rt, b" dropped ", a.dropped as u64)?;
     number(rt, b" marking mask ", a.marking.tokens)?;
@@ -68,11 +69,12 @@ fn say_moved(rt: &impl Print, a: Judged) -> io::Result<()> {
     say_writers(rt, writers)
 }
 
-pub fn say(rt: &impl Print, label: &[u8], a: Judged) -> io::Result<()> {
-    lines::head(rt, label, a.number, a.second)?;
+pub fn say(rt: &impl Print, label: &[u8], r: Result<Moved, Refusal>) -> io::Result<()> {
+    let o = Outcome::from(r);
+    lines::head(rt, label, o.number, o.second)?;
     lines::end(rt)?;
-    if a.number == 0 {
-        say_moved(rt, a)?;
+    if let Ok(m) = r {
+        say_moved(rt, m)?;
     }
     Ok(())
 }

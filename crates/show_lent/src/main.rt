@@ -7,8 +7,15 @@
 
 ghost use Rattle.std.specs.Prelude.{◌≤◌};
 
+use answering::Judged;
+use arrays::Array;
+use lent::LentJob;
+use order_entries::Tried;
+use out_slice::Wrote;
 use route::Step;
+use running::Ran;
 use show_filled::{number, show_read};
+use slicing::Sliced;
 use std::io;
 
 // A route of 64 steps, and 36 records that hold 0.
@@ -27,67 +34,63 @@ fn begins(rt: &impl Print, s: &[u8]) -> io::Result<()> {
     Ok(())
 }
 
-fn show_run(rt: &impl Print, a: [Step; 100], n: usize, b: [Step; 100], m: usize) -> io::Result<()>
-    requires { (n ≤ 100) × (m ≤ 100) }
-{
-    let r = arrays::run(64, a, n, 64, b, m, &[100, 101]);
-    number(rt, r.number as u64)?;
+fn show_run(rt: &impl Print, job: LentJob) -> io::Result<()> {
+    let r = Ran::from(running::routes::run(&job));
+    number(rt, u64::from(r.number))?;
     number(rt, r.second)?;
     number(rt, r.marking.tokens)
 }
 
-fn show_slice(rt: &impl Print, a: [Step; 100], n: usize, b: [Step; 100], m: usize) -> io::Result<()>
-    requires { (n ≤ 100) × (m ≤ 100) }
-{
-    let r = arrays::slice(64, a, n, 64, b, m, &[100, 101]);
-    number(rt, r.number as u64)?;
+fn show_slice(rt: &impl Print, job: LentJob) -> io::Result<()> {
+    let r = Sliced::from(slicing::slice(&job));
+    number(rt, u64::from(r.number))?;
     number(rt, r.second)?;
     number(rt, r.kept)
 }
 
-fn show_try(rt: &impl Print, a: [Step; 100], n: usize, b: [Step; 100], m: usize) -> io::Result<()>
-    requires { (n ≤ 100) × (m ≤ 100) }
-{
-    let r = arrays::try_order(64, a, n, 64, b, m, &[100, 101], &[1, 2]);
-    number(rt, r.number as u64)?;
+fn show_try(rt: &impl Print, job: LentJob) -> io::Result<()> {
+    let r = Tried::from(trying::trying::try_order(&job, &[1, 2]));
+    number(rt, u64::from(r.number))?;
     number(rt, r.second)?;
     number(rt, r.marking.tokens)
 }
 
-fn show_judge(rt: &impl Print, a: [Step; 100], n: usize, b: [Step; 100], m: usize) -> io::Result<()>
-    requires { (n ≤ 100) × (m ≤ 100) }
-{
+fn show_judge(rt: &impl Print, job: LentJob) -> io::Result<()> {
     let mut work = [46u8; 8192];
-    let r = arrays::judge(64, a, n, 64, b, m, &[100, 101], &mut work);
-    number(rt, r.number as u64)?;
+    let r = Judged::from(judging::judging::judge(&job, &mut work));
+    number(rt, u64::from(r.number))?;
     number(rt, r.second)?;
-    number(rt, r.len as u64)?;
+    number(rt, u64::from(r.len))?;
     number(rt, r.marking.tokens)?;
     begins(rt, &work)
 }
 
-fn show_write(rt: &impl Print, a: [Step; 100], n: usize, b: [Step; 100], m: usize) -> io::Result<()>
-    requires { (n ≤ 100) × (m ≤ 100) }
-{
+fn show_write(rt: &impl Print, job: LentJob) -> io::Result<()> {
     let mut out = [46u8; 6000];
-    let r = arrays::write(64, a, n, 64, b, m, &[100, 101], &mut out);
-    number(rt, r.number as u64)?;
+    let r = Wrote::from(writer::writes::write(&job, &mut out));
+    number(rt, u64::from(r.number))?;
     number(rt, r.second)?;
     number(rt, r.written)?;
     begins(rt, &out)
 }
 
-fn show(rt: &impl Print, a: [Step; 100], n: usize, b: [Step; 100], m: usize) -> io::Result<()>
-    requires { (n ≤ 100) × (m ≤ 100) }
-{
-    rt.print(n as u64)?;
-    number(rt, m as u64)?;
-    show_run(rt, a, n, b, m)?;
-    show_slice(rt, a, n, b, m)?;
-    show_try(rt, a, n, b, m)?;
-    show_judge(rt, a, n, b, m)?;
-    show_write(rt, a, n, b, m)?;
+fn show(rt: &impl Print, old: Array, new: Array) -> io::Result<()> {
+    rt.print(old.len as u64)?;
+    number(rt, new.len as u64)?;
+    let job = arrays::job(64, &old, 64, &new, &[100, 101]);
+    show_run(rt, job)?;
+    show_slice(rt, job)?;
+    show_try(rt, job)?;
+    show_judge(rt, job)?;
+    show_write(rt, job)?;
     rt.write_all(b"\n")
+}
+
+// The first `len` of the records.
+fn first(steps: [Step; 100], len: usize) -> Array
+    requires { len ≤ 100 }
+{
+    Array { steps, len }
 }
 
 // The steps 100 and 101 each write a variable, and the new route has 101 before 100.
@@ -98,28 +101,34 @@ fn show_turned(rt: &impl Print, a: [Step; 100]) -> io::Result<()> {
     let mut new = a;
     new[0] = samples::step(101, 1, 2, 0, 2);
     new[1] = samples::step(100, 2, 4, 0, 1);
-    show(rt, old, 64, new, 64)
+    show(rt, first(old, 64), first(new, 64))
+}
+
+// Jobs of 0, 1, 64, 65 and 100 records.
+fn show_jobs(rt: &impl Print, a: [Step; 100]) -> io::Result<()> {
+    show(rt, first(a, 0), first(a, 64))?;
+    show(rt, first(a, 64), first(a, 0))?;
+    show(rt, first(a, 1), first(a, 1))?;
+    show(rt, first(a, 64), first(a, 64))?;
+    show(rt, first(a, 65), first(a, 64))?;
+    show(rt, first(a, 64), first(a, 65))?;
+    show(rt, first(a, 100), first(a, 64))?;
+    show(rt, first(a, 64), first(a, 100))?;
+    show(rt, first(a, 100), first(a, 100))?;
+    let mut b = a;
+    b[5] = samples::step(105, 0, 64, 0, 0);
+    show(rt, first(b, 100), first(b, 64))
 }
 
 fn main(rt: HostRuntime) -> io::Result<()> {
     let a = hundred();
-    show(&rt, a, 0, a, 64)?;
-    show(&rt, a, 64, a, 0)?;
-    show(&rt, a, 1, a, 1)?;
-    show(&rt, a, 64, a, 64)?;
-    show(&rt, a, 65, a, 64)?;
-    show(&rt, a, 64, a, 65)?;
-    show(&rt, a, 100, a, 64)?;
-    show(&rt, a, 64, a, 100)?;
-    show(&rt, a, 100, a, 100)?;
-    let mut b = a;
-    b[5] = samples::step(105, 0, 64, 0, 0);
-    show(&rt, b, 100, b, 64)?;
+    show_jobs(&rt, a)?;
     show_turned(&rt, a)?;
-    show_read(&rt, a, 1, 0, 0)?;
-    show_read(&rt, a, 1, 1, 0)?;
-    show_read(&rt, a, 1, 1, 1)?;
-    show_read(&rt, a, 1, 65, 100)?;
-    show_read(&rt, a, 64, 100, 1)?;
-    show_read(&rt, a, 64, 64, 65)
+    let seven = [samples::step(7, 0, 0, 0, 0); 100];
+    show_read(&rt, first(a, 1), first(seven, 0), first(seven, 0))?;
+    show_read(&rt, first(a, 1), first(seven, 1), first(seven, 0))?;
+    show_read(&rt, first(a, 1), first(seven, 1), first(seven, 1))?;
+    show_read(&rt, first(a, 1), first(seven, 65), first(seven, 100))?;
+    show_read(&rt, first(a, 64), first(seven, 100), first(seven, 1))?;
+    show_read(&rt, first(a, 64), first(seven, 64), first(seven, 65))
 }

@@ -1,34 +1,33 @@
 // A wrong record for each row, and for each place where it can stand.
-use crate::{say_bare, say_one, say_two};
+use crate::{say_bare, say_done};
 use route::{Route, Step};
 use samples::{letters, one, step, two};
 use std::io;
 
 // Beside a sound new route.
-fn say_old(rt: &impl Print, label: &[u8], r: Route) -> io::Result<()> {
-    say_bare(rt, label, r, letters::a_new())
+fn say_old(rt: &impl Print, label: &[u8], r: &Route) -> io::Result<()> {
+    say_bare(rt, label, r, &letters::a_new())
 }
 
 // Beside a sound old route.
-fn say_new(rt: &impl Print, label: &[u8], r: Route) -> io::Result<()> {
-    say_bare(rt, label, letters::a_old(), r)
+fn say_new(rt: &impl Print, label: &[u8], r: &Route) -> io::Result<()> {
+    say_bare(rt, label, &letters::a_old(), r)
 }
 
 fn say_step(rt: &impl Print, label: &[u8], s: Step) -> io::Result<()> {
-    say_old(rt, label, one(2, s))
+    say_old(rt, label, &one(2, s))
 }
 
 pub fn show_routes(rt: &impl Print) -> io::Result<()> {
-    let none = Route::empty();
-    let mut bare = none;
-    bare.places = 4;
+    let none = &Route::empty();
+    let bare = &Route { places: 4, ..*none };
     say_old(rt, b"4 old has no step", bare)?;
     say_new(rt, b"4 new has no step", bare)?;
     say_old(rt, b"2 no old place", none)?;
     say_new(rt, b"2 no new place", none)?;
-    say_two(rt, b"2 done 0", 10, 0)?;
-    say_one(rt, b"8 done 65536", 65536)?;
-    say_one(rt, b"8 done 4294967295", 4294967295)
+    say_done(rt, b"2 done 0", &[10, 0])?;
+    say_done(rt, b"8 done 65536", &[65536])?;
+    say_done(rt, b"8 done 4294967295", &[4294967295])
 }
 
 pub fn show_steps(rt: &impl Print) -> io::Result<()> {
@@ -40,23 +39,23 @@ pub fn show_steps(rt: &impl Print) -> io::Result<()> {
     say_step(rt, b"3 out empty", step(1, 1, 0, 0, 0))?;
     say_step(rt, b"3 nine reads", step(1, 1, 2, 511, 0))?;
     say_step(rt, b"3 nine writes", step(1, 1, 2, 0, 511))?;
-    say_old(rt, b"3 nine in-places", one(10, step(1, 511, 512, 0, 0)))?;
+    say_old(rt, b"3 nine in-places", &one(10, step(1, 511, 512, 0, 0)))?;
     let a = step(7, 1, 2, 0, 0);
-    say_old(rt, b"5 name twice", two(3, a, step(7, 2, 4, 0, 0)))?;
-    say_old(rt, b"3 before 5", two(3, a, step(7, 2, 0, 0, 0)))
+    say_old(rt, b"5 name twice", &two(3, a, step(7, 2, 4, 0, 0)))?;
+    say_old(rt, b"3 before 5", &two(3, a, step(7, 2, 0, 0, 0)))
 }
 
 // A route with a place that belongs to no step, and one with no start.
 pub fn show_starts(rt: &impl Print) -> io::Result<()> {
-    let mut loose = letters::a_old();
-    loose.places = 5;
-    let round = two(2, step(1, 1, 2, 0, 0), step(2, 2, 1, 0, 0));
+    let a = letters::a_old();
+    let loose = &Route { places: 5, ..a };
+    let round = &two(2, step(1, 1, 2, 0, 0), step(2, 2, 1, 0, 0));
     say_old(rt, b"6 old", loose)?;
     say_new(rt, b"6 new", loose)?;
     say_old(rt, b"7 old", round)?;
     say_new(rt, b"7 new", round)?;
-    say_old(rt, b"6 before 7", one(3, step(1, 1, 1, 0, 0)))?;
+    say_old(rt, b"6 before 7", &one(3, step(1, 1, 1, 0, 0)))?;
     say_bare(rt, b"old 7 before new 6", round, loose)?;
-    say_two(rt, b"9 second line", 10, 10)?;
-    say_two(rt, b"8 after 9 is not reached", 20, 40)
+    say_done(rt, b"9 second line", &[10, 10])?;
+    say_done(rt, b"8 after 9 is not reached", &[20, 40])
 }

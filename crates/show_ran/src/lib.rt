@@ -1,27 +1,28 @@
 // A part of show_run: run's answer as a line, and a wrong record for each row.
 #![tactic(auto)]
 
+use job::laying::RouteJob;
 use route::Route;
-use samples::{letters as routes, lines};
+use running::Ran;
+use samples::{letters, lines};
 use std::io;
 
 pub mod faults;
 
-pub fn say(rt: &impl Print, label: &[u8], old: Route, new: Route, done: &[u32]) -> io::Result<()> {
-    let r = running::routes::run(old, new, done);
+pub fn say(rt: &impl Print, label: &[u8], job: RouteJob) -> io::Result<()> {
+    let r = Ran::from(running::routes::run(&job));
     lines::answer(rt, label, r.number, r.second, r.marking)
 }
 
 // Nothing done.
-fn say_bare(rt: &impl Print, label: &[u8], old: Route, new: Route) -> io::Result<()> {
-    say(rt, label, old, new, &[])
+fn say_bare(rt: &impl Print, label: &[u8], old: &Route, new: &Route) -> io::Result<()> {
+    let done = &[];
+    say(rt, label, RouteJob { old, new, done })
 }
 
-// The routes of example A, and one name done.
-fn say_one(rt: &impl Print, label: &[u8], a: u32) -> io::Result<()> {
-    say(rt, label, routes::a_old(), routes::a_new(), &[a])
-}
-
-fn say_two(rt: &impl Print, label: &[u8], a: u32, b: u32) -> io::Result<()> {
-    say(rt, label, routes::a_old(), routes::a_new(), &[a, b])
+// The routes of example A.
+fn say_done(rt: &impl Print, label: &[u8], done: &[u32]) -> io::Result<()> {
+    let x = letters::a();
+    let job = x.job();
+    say(rt, label, RouteJob { done, ..job })
 }

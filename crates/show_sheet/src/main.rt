@@ -5,6 +5,7 @@
 
 ghost use Rattle.std.specs.Prelude.{◌<◌, length, IfSome};
 
+use facts::Sheet;
 use std::io;
 
 fn number(rt: &impl Print, n: u64) -> io::Result<()> {
@@ -13,7 +14,7 @@ fn number(rt: &impl Print, n: u64) -> io::Result<()> {
 }
 
 fn show(rt: &impl Print, s: &[u8]) -> io::Result<()> {
-    let x = reader::reads::read(s);
+    let x = Sheet::from(reader::reads::read(s));
     number(rt, x.number as u64)?;
     number(rt, x.second)?;
     number(rt, x.old.places)?;

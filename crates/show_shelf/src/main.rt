@@ -21,13 +21,13 @@ fn put(rt: &impl Print, s: Shelf, edition: u32, route: Route) -> io::Result<Shel
 fn judge(rt: &impl Print, s: Shelf, edition: u32, target: u32) -> io::Result<()> {
     let done = [10, 20, 30, 40, 50, 55, 60];
     let mut work = [0u8; 8192];
-    let a = shelf::between::judge(s, edition, target, &done, &mut work);
+    let a = shelf::between::judge(&s, edition, target, &done, &mut work);
     let mut out = [0u8; 7053];
-    let w = listing::printing::write_listing(a, &mut out);
+    let n = listing::printing::write_listing(a, &mut out).unwrap_or(0);
     number(rt, b"judge ", edition as u64)?;
     number(rt, b" against ", target as u64)?;
     rt.write_all(b":\n")?;
-    let k = counts::within(w.written as usize, &out);
+    let k = counts::within(n, &out);
     rt.write_all(&out[..k])
 }
 

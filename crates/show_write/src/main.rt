@@ -3,6 +3,9 @@
 // with the sheet, and the slice, which holds dots before.
 #![tactic(auto)]
 
+use facts::Sheet;
+use job::laying::RouteJob;
+use out_slice::Wrote;
 use route::Route;
 use std::io;
 
@@ -16,15 +19,8 @@ fn agree(a: &[u8], b: &[u8]) -> u64 {
     a.iter().zip(b).take_while(|(x, y)| x == y).count() as u64
 }
 
-fn show(
-    rt: &impl Print,
-    s: &[u8],
-    old: Route,
-    new: Route,
-    done: &[u32],
-    out: &mut [u8],
-) -> io::Result<()> {
-    let w = writer::writes::write(old, new, done, out);
+fn show(rt: &impl Print, s: &[u8], job: RouteJob, out: &mut [u8]) -> io::Result<()> {
+    let w = Wrote::from(writer::writes::write(&job, out));
     number(rt, w.number as u64)?;
     number(rt, w.second)?;
     number(rt, w.written)?;
@@ -34,74 +30,62 @@ fn show(
 }
 
 // With a slice of `room` bytes.
-fn room(
-    rt: &impl Print,
-    s: &[u8],
-    old: Route,
-    new: Route,
-    done: &[u32],
-    room: usize,
-) -> io::Result<()> {
+fn room(rt: &impl Print, s: &[u8], job: RouteJob, room: usize) -> io::Result<()> {
     let mut out = [46u8; 512];
     let k = counts::within(room, &out);
-    show(rt, s, old, new, done, &mut out[..k])
+    show(rt, s, job, &mut out[..k])
 }
 
-fn rooms(rt: &impl Print, s: &[u8], old: Route, new: Route, done: &[u32]) -> io::Result<()> {
+fn rooms(rt: &impl Print, s: &[u8], job: RouteJob) -> io::Result<()> {
     let n = s.len();
     if 0 < n && n < 500 {
-        room(rt, s, old, new, done, n - 1)?;
-        room(rt, s, old, new, done, n)?;
-        room(rt, s, old, new, done, n + 8)?;
+        room(rt, s, job, n - 1)?;
+        room(rt, s, job, n)?;
+        room(rt, s, job, n + 8)?;
     }
     Ok(())
 }
 
-fn no_step(r: Route) -> Route {
-    let mut q = r;
-    q.len = 0;
+fn no_step(r: &Route) -> Route {
+    Route { len: 0, ..*r }
+}
+
+fn many_places(r: &Route) -> Route {
+    Route { places: 65, ..*r }
+}
+
+fn no_in_place(r: &Route) -> Route {
+    let mut q = *r;
+    q.steps[1].ins = 0;
     q
 }
 
-fn many_places(r: Route) -> Route {
-    let mut q = r;
-    q.places = 65;
+fn name_twice(r: &Route) -> Route {
+    let mut q = *r;
+    q.steps[2].name = 10;
     q
 }
 
-fn no_in_place(r: Route) -> Route {
-    let mut q = r;
-    let mut s = q.steps[1];
-    s.ins = 0;
-    q.steps[1] = s;
-    q
-}
-
-fn name_twice(r: Route) -> Route {
-    let mut q = r;
-    let mut s = q.steps[2];
-    s.name = 10;
-    q.steps[2] = s;
-    q
-}
-
-fn refusals(rt: &impl Print, s: &[u8], old: Route, new: Route, done: &[u32]) -> io::Result<()> {
-    room(rt, s, old, no_step(new), done, 16)?;
-    room(rt, s, many_places(old), new, done, 16)?;
-    room(rt, s, no_in_place(old), new, done, 16)?;
-    room(rt, s, name_twice(old), new, done, 16)
-}
-
-fn show_records(rt: &impl Print, s: &[u8], old: Route, new: Route, done: &[u32]) -> io::Result<()> {
-    rooms(rt, s, old, new, done)?;
-    refusals(rt, s, old, new, done)
+fn refusals(rt: &impl Print, s: &[u8], job: RouteJob) -> io::Result<()> {
+    let new = &no_step(job.new);
+    room(rt, s, RouteJob { new, ..job }, 16)?;
+    let r = job.old;
+    for old in &[many_places(r), no_in_place(r), name_twice(r)] {
+        room(rt, s, RouteJob { old, ..job }, 16)?;
+    }
+    Ok(())
 }
 
 fn show_sheet(rt: &impl Print, s: &[u8]) -> io::Result<()> {
-    let x = reader::reads::read(s);
-    let done = x.done;
-    let k = counts::within(x.done_len, &done);
-    show_records(rt, s, x.old, x.new, &done[..k])
+    let x = Sheet::from(reader::reads::read(s));
+    let k = counts::within(x.done_len, &x.done);
+    let job = RouteJob {
+        old: &x.old,
+        new: &x.new,
+        done: &x.done[..k],
+    };
+    rooms(rt, s, job)?;
+    refusals(rt, s, job)
 }
 
 fn main(rt: HostRuntime) -> io::Result<()> {

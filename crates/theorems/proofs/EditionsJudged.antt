@@ -130,8 +130,8 @@ shelf-nineteen s edition target done room good h none-later =
 -- a short work slice, and a bad shelf where there is room
 pub shelf-fourteen : (s : Shelf) (edition target : ℕ) (done : List ℕ) (room : ℕ) → room < 8192
     → judged_between s edition target done room ≡ judge_stopped 14 0
-shelf-fourteen s edition target done room h = sym (between-short s edition target done room _ h refl)
+shelf-fourteen s edition target done room h = sym (between-short s edition target done room h)
 
 pub shelf-bad : (s : Shelf) (edition target : ℕ) (done : List ℕ) (room : ℕ) → good_shelf s ≡ false → 8192 ≤ room
     → judged_between s edition target done room ≡ judge_stopped 21 1
-shelf-bad s edition target done room off h = sym (between-twenty-one s edition target done off room _ h refl)
+shelf-bad s edition target done room off h = sym (between-twenty-one s edition target done off room h)

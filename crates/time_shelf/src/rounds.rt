@@ -1,7 +1,9 @@
 // Rounds of each kind, and the sum of what they answer. The done list, or the number to put, differs from round to
 // round, so that one call can't stand for all.
 use crate::usual;
-use answering::Judged;
+use answering::Moved;
+use job::laying::RouteJob;
+use refusal::Refusal;
 use shelf::Stored;
 
 #[derive(Clone, Copy)]
@@ -58,9 +60,15 @@ fn total(numbers: &[u64]) -> u64 {
 }
 
 // What a judged job adds to the sum.
-fn judged(r: &Judged) -> u64 {
+fn judged(r: &Result<Moved, Refusal>) -> u64 {
+    match r {
+        Ok(m) => moved(m),
+        Err(e) => u64::from(e.row.number()),
+    }
+}
+
+fn moved(r: &Moved) -> u64 {
     total(&[
-        u64::from(r.number),
         r.kept,
         r.after[9],
         u64::from(r.order[8]),
@@ -77,16 +85,19 @@ fn stored(r: &Stored) -> u64 {
 
 fn judge_routes(n: u64) -> u64 {
     let mut work = [0u8; 8192];
-    rounds(n, (usual::old(), usual::new()), |(old, new), round| {
-        let done = usual::done(round);
-        judged(&judging::judging::judge(old, new, &done, &mut work))
+    let old = usual::old();
+    let new = usual::new();
+    rounds(n, (&old, &new), |(old, new), round| {
+        let done = &usual::done(round);
+        judged(&judging::judging::judge(&RouteJob { old, new, done }, &mut work))
     })
 }
 
 // From the first edition to this one.
 fn judge_between(n: u64, target: u32) -> u64 {
     let mut work = [0u8; 8192];
-    rounds(n, usual::full(), |shelf, round| {
+    let full = usual::full();
+    rounds(n, &full, |shelf, round| {
         let done = usual::done(round);
         judged(&shelf::between::judge(shelf, 10, target, &done, &mut work))
     })

@@ -1,6 +1,5 @@
 // Lists: a space and a number for each entry, and the bracket that ends the list.
 ghost use Rattle.std.specs.Prelude.{◌≤◌, length};
-ghost use Rattle.version.specs.Limits.{Limits};
 ghost use Rattle.tokens.specs.inner.Tokens.{ListOn};
 
 use crate::numbers::number;
@@ -11,8 +10,7 @@ use version::Version;
 // Inlined: a step's line reads faster so.
 #[inline(always)]
 pub fn list(v: Version, s: &[u8], from: usize) -> Result<Listed, Broken>
-    requires limits { Limits v }
-    requires from_in_bounds { from ≤ length s.now }
+    requires { from ≤ length s.now }
     ensures { ListOn v s.now from result }
 {
     let mut mask = 0u64;

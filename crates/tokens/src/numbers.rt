@@ -1,14 +1,12 @@
 // Numbers: one digit to as many as the version allows, nothing after a leading 0.
 ghost use Rattle.std.specs.Prelude.{◌≤◌, length};
-ghost use Rattle.version.specs.Limits.{Limits};
 ghost use Rattle.tokens.specs.inner.Tokens.{NumberOn};
 
 use crate::{Broken, Numeral};
 use version::Version;
 
 pub fn number(v: Version, s: &[u8], from: usize) -> Result<Numeral, Broken>
-    requires limits { Limits v }
-    requires from_in_bounds { from ≤ length s.now }
+    requires { from ≤ length s.now }
     ensures { NumberOn v s.now from result }
 {
     let Some(&b) = s.get(from) else {

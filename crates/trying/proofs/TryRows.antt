@@ -1,30 +1,30 @@
 -- The operation try, row by row: which part of the definition an answer is.
 use mathlib.Core.Path.{◌≡◌, refl, sym, ap, ap₂, ◌∙◌}
-use mathlib.Core.Bool.{Bool, true, false, not, cond, ◌&&◌}
+use mathlib.Core.Bool.{Bool, true, false, cond, ◌&&◌}
 use mathlib.Core.List.{List, map}
 use mathlib.Core.Option.{get_or}
 use Prim.Native.Nat.{ℕ, suc}
 use lib.Dec.{eqb}
 use lib.ListN.{length}
-use borrow.Author.Tests.{not-true, not-false}
 use Rattle.std.specs.Prelude.{Option, Some, None}
-use Rattle.refusal.specs.Rows.{refuse, first}
-use Rattle.flat.specs.Flat.{Laid}
+use Rattle.refusal.specs.Rows.{pass, refuse, first}
+use Rattle.refusal.specs.Refusal.{number_of}
+use Rattle.refusal.specs.declared.Refusal.{Refusal}
+use Rattle.refusal.proofs.Answered.{number-some}
 use Rattle.route.specs.declared.Step.{Step}
 use Rattle.route.specs.declared.Marking.{Marking}
 use Rattle.refusal.specs.declared.Outcome.{Outcome}
-use Rattle.job.specs.Job.{Job, job_line, new_start}
+use Rattle.job.specs.Job.{Job, cut, job_line, new_start}
 use Rattle.job.specs.Lines.{line_rows}
 use Rattle.running.specs.Run.{ran, performed}
-use Rattle.running.specs.declared.Ran.{Ran}
-use Rattle.job.proofs.LongLists.{Refused, laid_job, same-laid}
+use Rattle.job.proofs.LongLists.{Refused, laid-alike}
 use Rattle.running.proofs.LongLists.{ran-alike, ran-off}
-use Rattle.running.proofs.RunLine.{ran_line}
 use Rattle.precedence.specs.Order.{in_turn}
 use Rattle.matching.specs.Straight.{fire_all, runs_straight}
 use Rattle.matching.specs.KeptRows.{kept_rows, rows_to12}
 use Rattle.matching.specs.inner.Matched.{straight_end}
 use Rattle.preparing.specs.declared.Prepared.{Prepared}
+use Rattle.preparing.proofs.Preparation.{lines-refused}
 use Rattle.order_entries.specs.Entries.{try_stopped, try_entries}
 use Rattle.trying.specs.Try.{same_list, try_list, try_rows, tried}
 use Rattle.order_entries.specs.inner.Replayable.{Replayable}
@@ -104,31 +104,22 @@ module _ (j : Job) (o : List ℕ) where
       go true e = refl
       go false e = ap (λ (b : Bool). cond b list (try_stopped (ran j).number (ran j).second)) (sym e)
 
-  module _ (w : Outcome) (t : Bool) (test : t ≡ eqb w.number 0) where
-    by_row : w ≡ rows_to12 j → (b : Bool) → t ≡ b → cond b list (try_stopped w.number w.second) ≡ tried j o
-    by_row is b e =
-        ap (λ (x : Bool). cond x list (try_stopped w.number w.second)) (sym e ∙ test)
-        ∙ ap (λ (x : Outcome). cond (eqb x.number 0) list (try_stopped x.number x.second)) is
-        ∙ sym by-outcome
+  by_row : (w : Outcome) → w ≡ rows_to12 j → cond (eqb w.number 0) list (try_stopped w.number w.second) ≡ tried j o
+  by_row w is = ap (λ (x : Outcome). cond (eqb x.number 0) list (try_stopped x.number x.second)) is ∙ sym by-outcome
 
-    pub tried-refused : (r : Tried) → w ≡ rows_to12 j → not t ≡ true → r ≡ try_stopped w.number w.second
-        → r ≡ tried j o
-    tried-refused r is off e = e ∙ by_row is false (not-true t off)
+  -- a row to 12 refuses
+  pub tried-refused : (e : Refusal) → refuse (number_of e.row) e.second ≡ rows_to12 j
+      → try_stopped (number_of e.row) e.second ≡ tried j o
+  tried-refused e is =
+      ap (λ (t : Bool). cond t list (try_stopped (number_of e.row) e.second)) (sym (number-some e.row)) ∙ by_row _ is
 
-    pub tried-list : (r : Tried) → w ≡ rows_to12 j → not t ≡ false → r ≡ list → r ≡ tried j o
-    tried-list r is on e = e ∙ by_row is true (not-false t on)
+  -- a line is refused
+  pub tried-line : (e : Refusal) → refuse (number_of e.row) e.second ≡ first (line_rows j)
+      → try_stopped (number_of e.row) e.second ≡ tried j o
+  tried-line e is = tried-refused e (lines-refused j e is)
 
-    -- a line that is refused
-    pub tried-line : (r : Tried) → w ≡ first (line_rows j) → not t ≡ true → r ≡ try_stopped w.number w.second
-        → r ≡ tried j o
-    unfolding tried
-    tried-line r is off e =
-        let stop = ran_line j w is t test _ off refl in
-        e
-        ∙ ap (λ (x : Ran). try_stopped x.number x.second) stop
-        ∙ ap (λ (b : Bool). cond b (try_rows (job_line j) (new_start j) j.new (performed j.old j.done) o)
-        (try_stopped (ran j).number (ran j).second))
-        (sym (ap (λ (x : Ran). eqb x.number 0) (sym stop) ∙ sym test ∙ not-true t off))
+  pub tried-list : pass ≡ rows_to12 j → (r : Tried) → r ≡ list → r ≡ tried j o
+  tried-list is r e = e ∙ by_row pass is
 
 -- ---- both lists laid as numbers: what a list has past its 65th step changes nothing
 
@@ -136,6 +127,5 @@ tried-alike : (o : List ℕ) (j k : Job) → Refused j k → tried j o ≡ tried
 unfolding tried
 tried-alike o j k r = rw (ran-alike j k r, ran-off j k r)
 
-pub tried-laid : (o : List ℕ) (j : Job) (n : ℕ) (a : List ℕ) (m : ℕ) (b : List ℕ) (p : Laid j.old n a)
-    (q : Laid j.new m b) (r : Tried) → r ≡ tried (laid_job j n a m b p q) o → r ≡ tried j o
-tried-laid o j n a m b p q r e = e ∙ same-laid j n a m b p q (λ (j : Job). tried j o) (tried-alike o)
+pub tried_cut : (o : List ℕ) (j k : Job) → k ≡ cut j → (r : Tried) → r ≡ tried k o → r ≡ tried j o
+tried_cut o = laid-alike (λ (j : Job). tried j o) (tried-alike o)

@@ -1,19 +1,23 @@
 // The operation try: an order that somebody hands in.
-ghost use Rattle.std.specs.Prelude.{◌≡◌, true, cond, List, map, ℕ, suc, ◌≤◌, ◌<◌, length, None};
+ghost use Rattle.std.specs.Prelude.{◌≡◌, true, cond, List, map, ℕ, suc, ◌<◌, length, None};
 ghost use Rattle.mask.specs.Mask.{has};
-ghost use Rattle.flat.specs.Flat.{steps_in};
 ghost use Rattle.route.specs.declared.Step.{Step};
-ghost use Rattle.job.specs.Job.{job_of, flat_job};
+ghost use Rattle.job.specs.Job.{job_in};
 ghost use Rattle.job.specs.Lines.{LinesPass};
 ghost use Rattle.precedence.specs.Order.{in_turn};
+ghost use Rattle.matching.specs.inner.Pairs.{done_in, matched_in};
+ghost use Rattle.order_entries.specs.Entries.{tried_of};
 ghost use Rattle.trying.specs.Try.{same_list, try_list, tried};
 ghost use Rattle.trying.specs.inner.TryPrepared.{TryPrepared};
 
-use flat::laying::lay;
+use job::FlatJob;
 use job::checks::check_lines;
-use order_entries::{Tried, by_rows};
-use preparing::{Prepared, prepare};
-use route::{Marking, Route};
+use job::laying::Lay;
+use matching::Pairs;
+use order_entries::by_rows;
+use preparing::{Prepared, pairs_of, prepare};
+use refusal::Refusal;
+use route::Marking;
 
 // The order is 1, 2, .., len.
 fn in_turn(order: &[u8], len: usize) -> bool
@@ -34,85 +38,46 @@ fn straight_end(straight: Option<Marking>, order: &[u8], len: usize) -> Option<M
 }
 
 // After row 12: the straight list first, and then the rows.
-fn try_prepared(p: Prepared, occurrences: &[u64], matches: &[u64], order: &[u8]) -> Tried
-    requires occurrences_len_bound { length (steps_in occurrences.now) ≤ 64 }
-    requires by_index { (i : ℕ) → has p.kept i ≡ true → i < length (steps_in matches.now) }
-    ensures { (from : ℕ) (new : List Step)
-        → TryPrepared from new (steps_in occurrences.now) p (steps_in matches.now)
-        → result ≡ try_list from new (steps_in occurrences.now) order.now }
+fn try_prepared(p: Prepared, pairs: Pairs, order: &[u8]) -> Result<Marking, Refusal>
+    requires { (i : ℕ) → has p.kept i ≡ true → i < length (matched_in pairs) }
+    ensures { (from : ℕ) (new : List Step) → TryPrepared from new (done_in pairs.entry) p (matched_in pairs.entry)
+        → tried_of result ≡ try_list from new (done_in pairs.entry) order.now }
 {
     let straight = p.straight;
-    let Some(marking) = straight_end(straight, order, flat::count(occurrences)) else {
+    let Some(marking) = straight_end(straight, order, flat::count(pairs.occurrences)) else {
         let start = p.start;
-        return by_rows(order, p.kept, occurrences, matches, start);
+        return by_rows(order, p.kept, pairs.occurrences, pairs.matches, start);
     };
-    Tried {
-        number: 0,
-        second: 0,
-        marking,
-    }
+    Ok(marking)
 }
 
 // Try from row 6 on.
-pub fn try_checked(
-    old_places: u64,
-    old: &[u64],
-    new_places: u64,
-    new: &[u64],
-    done: &[u32],
-    order: &[u8],
-) -> Tried
-    requires { LinesPass (flat_job old_places old.now new_places new.now done.now) }
-    ensures { result ≡ tried
-        (flat_job old_places old.now new_places new.now done.now)
-        order.now }
+pub fn try_checked(job: FlatJob, order: &[u8]) -> Result<Marking, Refusal>
+    requires { LinesPass (job_in job) }
+    ensures { tried_of result ≡ tried (job_in job.entry) order.now }
 {
     let mut occurrences = [0u64; 256];
     let mut matches = [0u64; 256];
-    let p = prepare(
-        old_places,
-        old,
-        new_places,
-        new,
-        done,
-        &mut occurrences,
-        &mut matches,
-    );
-    let o = p.outcome;
-    if !o.passed() {
-        return Tried::stop(o.number, o.second);
-    }
-    let end = 4 * done.len();
-    try_prepared(p, &occurrences[..end], &matches[..end], order)
+    let p = prepare(job, &mut occurrences, &mut matches)?;
+    let pairs = pairs_of(job, &occurrences, &matches);
+    try_prepared(p, pairs, order)
 }
 
 // Try over lists of steps.
-pub fn try_lists(
-    old_places: u64,
-    old: &[u64],
-    new_places: u64,
-    new: &[u64],
-    done: &[u32],
-    order: &[u8],
-) -> Tried
-    ensures { result ≡ tried
-        (flat_job old_places old.now new_places new.now done.now)
-        order.now }
+pub fn try_lists(job: FlatJob, order: &[u8]) -> Result<Marking, Refusal>
+    ensures { tried_of result ≡ tried (job_in job.entry) order.now }
 {
-    let o = check_lines(old_places, old, new_places, new, done);
-    if !o.passed() {
-        return Tried::stop(o.number, o.second);
-    }
-    try_checked(old_places, old, new_places, new, done, order)
+    check_lines(job)?;
+    try_checked(job, order)
 }
 
 // Any records, any done list, any order.
-pub fn try_order(old: Route, new: Route, done: &[u32], order: &[u8]) -> Tried
-    ensures { result ≡ tried (job_of old new done.now) order.now }
+#[tactic(auto, using(crate::proofs::TryRows::tried_cut))]
+pub fn try_order<J: Lay>(job: &J, order: &[u8]) -> Result<Marking, Refusal>
+    ensures { tried_of result ≡ tried (J.job job.now) order.now }
 {
     let mut a = [0u64; 260];
     let mut b = [0u64; 260];
-    let n = lay(old, &mut a);
-    let m = lay(new, &mut b);
-    try_lists(old.places, &a[..n], new.places, &b[..m], done, order)
+    let flat = job.lay(&mut a, &mut b);
+    try_lists(flat, order)
 }

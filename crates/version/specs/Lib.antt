@@ -1,2 +1,3 @@
 -- The limits of a version of the layout.
 pub mod Limits
+pub mod Numbers

@@ -4,6 +4,8 @@
 ghost use Rattle.std.specs.Prelude.{◌≡◌};
 ghost use Rattle.version.specs.Limits.{name_fits};
 
+use std::marker::Model;
+
 #[derive(Clone, Copy)]
 pub struct Version {
     // the most digits of a number
@@ -12,6 +14,21 @@ pub struct Version {
     pub greatest: u64,
     // whether a step may be marked as cloth
     pub cloth: bool,
+}
+
+// Clauses see the three numbers; every version keeps to its limits.
+impl Model for Version {
+    ghost use Rattle.version.specs.Numbers.{Numbers};
+
+    ghost Value = { Numbers };
+
+    ghost use Rattle.version.specs.Limits.{Limits};
+
+    ghost view = { λ v. record { digits = v.digits; greatest = v.greatest; cloth = v.cloth } };
+
+    ghost inverse = { λ v. record { digits = v.digits; greatest = v.greatest; cloth = v.cloth } };
+
+    ghost invariant = { λ v. Limits (record { digits = v.digits; greatest = v.greatest; cloth = v.cloth }) };
 }
 
 impl Version {

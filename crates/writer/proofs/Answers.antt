@@ -1,16 +1,19 @@
 -- What write answers: the refusal of a line, or else what is answered of the text; and the room for any text.
 -- Assumes nothing.
 use mathlib.Core.Path.{◌≡◌, refl, sym, ap, ◌∙◌}
-use mathlib.Core.Bool.{Bool, true, false, not}
+use mathlib.Core.Bool.{false}
 use mathlib.Core.List.{List}
 use Prim.Native.Nat.{ℕ, ◌≤◌}
 use native.Mathlib.Omega.{arith}
 use lib.Dec.{eqb}
 use lib.ListN.{length}
-use borrow.Author.Tests.{eq-eqb, not-true}
+use borrow.Author.Tests.{eq-eqb}
 use Rattle.mask.proofs.Truth.{cond_yes, cond_no}
-use Rattle.refusal.specs.Rows.{first}
+use Rattle.refusal.specs.Rows.{refuse, first}
+use Rattle.refusal.specs.Refusal.{number_of}
 use Rattle.refusal.specs.declared.Outcome.{Outcome}
+use Rattle.refusal.specs.declared.Refusal.{Refusal}
+use Rattle.refusal.proofs.Answered.{number-some}
 use Rattle.job.specs.Job.{Job}
 use Rattle.job.specs.Lines.{line_rows, LinesPass}
 use Rattle.writer.specs.Written.{written}
@@ -19,15 +22,14 @@ use Rattle.out_slice.specs.declared.Wrote.{Wrote}
 use Rattle.writer.specs.Writes.{wrote, out_after}
 use Rattle.writer.proofs.Bound.{written-length}
 
--- a line refuses: code has asked, and t says whether they pass
-module _ (j : Job) (o : Outcome) (is : o ≡ first (line_rows j)) (t : Bool) (test : t ≡ eqb o.number 0)
-    (fails : not t ≡ true) where
+-- a line refuses
+module _ (j : Job) (e : Refusal) (is : refuse (number_of e.row) e.second ≡ first (line_rows j)) where
   off : eqb (first (line_rows j)).number 0 ≡ false
-  off = ap (λ (x : Outcome). eqb x.number 0) (sym is) ∙ sym test ∙ not-true t fails
+  off = ap (λ (x : Outcome). eqb x.number 0) (sym is) ∙ number-some e.row
 
-  pub refused-answer : (n : ℕ) (r : Wrote) → r ≡ unwritten o.number o.second → r ≡ wrote j n
+  pub refused-answer : (n : ℕ) → unwritten (number_of e.row) e.second ≡ wrote j n
   unfolding wrote
-  refused-answer n r e = e ∙ ap (λ (x : Outcome). unwritten x.number x.second) is ∙ cond_no _ _ refl off
+  refused-answer n = ap (λ (x : Outcome). unwritten x.number x.second) is ∙ cond_no _ _ refl off
 
   pub refused-out : (l : List ℕ) → l ≡ out_after j l
   unfolding out_after

@@ -32,7 +32,7 @@ use Rattle.writer.specs.Written.{written, mark_length, longest}
 use Rattle.facts.proofs.PassingLines.{Passes, FineList, Fine, AllFine, AllLines, lines-fine, lines-short, short-marks}
 use Rattle.facts.proofs.PassingLines.{all-marks}
 use Rattle.facts.proofs.Ties.{tie}
-use Rattle.facts.proofs.Records.{reads_as}
+use Rattle.facts.proofs.ReadRecords.{reads_as}
 use Rattle.facts.proofs.Widths.{lines_same, rows-as-records, rows-wide}
 
 long-digits : (f k n : ℕ) (s : List ℕ) → n < 10 ^ suc k → length (digits f n s) ≤ suc k + length s

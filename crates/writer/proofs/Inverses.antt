@@ -24,7 +24,7 @@ use Rattle.facts.specs.LinesOf.{lines_of, AllWide, as_records}
 use Rattle.facts.specs.Marks.{MarksTo}
 use Rattle.facts.proofs.PassingLines.{Passes, AllLines, lines-fine, all-marks}
 use Rattle.facts.proofs.Ties.{tie}
-use Rattle.facts.proofs.Records.{ReadAs, records-forms, reads_as, read_back, text-reads}
+use Rattle.facts.proofs.ReadRecords.{ReadAs, records-forms, reads_as, read_back, text-reads}
 use Rattle.facts.proofs.Widths.{lines_same, rows-as-records, rows-wide}
 use Rattle.writer.specs.Written.{written}
 

@@ -1,11 +1,10 @@
 -- Where the lines are refused write answers that refusal and leaves every byte, whatever else the job holds; so steps
 -- past the 65th of a list change nothing.
-use mathlib.Core.Path.{◌≡◌, ◌∙◌}
+use mathlib.Core.Path.{◌≡◌}
 use mathlib.Core.List.{List}
 use Prim.Native.Nat.{ℕ}
-use Rattle.flat.specs.Flat.{Laid}
-use Rattle.job.specs.Job.{Job}
-use Rattle.job.proofs.LongLists.{Refused, laid_job, same-laid}
+use Rattle.job.specs.Job.{Job, cut}
+use Rattle.job.proofs.LongLists.{Refused, laid-alike}
 use Rattle.writer.specs.Writes.{wrote, out_after}
 use Rattle.out_slice.specs.declared.Wrote.{Wrote}
 
@@ -20,9 +19,8 @@ module _ (j k : Job) (r : Refused j k) where
 
 -- ---- both lists laid as numbers
 
-module _ (j : Job) (n : ℕ) (a : List ℕ) (m : ℕ) (b : List ℕ) (p : Laid j.old n a) (q : Laid j.new m b) where
-  pub wrote-laid : (room : ℕ) (r : Wrote) → r ≡ wrote (laid_job j n a m b p q) room → r ≡ wrote j room
-  wrote-laid room r e = e ∙ same-laid j n a m b p q (λ (j : Job). wrote j room) (λ j k x. wrote-alike j k x room)
+pub wrote_cut : (room : ℕ) (j k : Job) → k ≡ cut j → (r : Wrote) → r ≡ wrote k room → r ≡ wrote j room
+wrote_cut room = laid-alike (λ (j : Job). wrote j room) (λ j k x. wrote-alike j k x room)
 
-  pub out-laid : (l o : List ℕ) → o ≡ out_after (laid_job j n a m b p q) l → o ≡ out_after j l
-  out-laid l o e = e ∙ same-laid j n a m b p q (λ (j : Job). out_after j l) (λ j k x. out-alike j k x l)
+pub out_cut : (l : List ℕ) (j k : Job) → k ≡ cut j → (o : List ℕ) → o ≡ out_after k l → o ≡ out_after j l
+out_cut l = laid-alike (λ (j : Job). out_after j l) (λ j k x. out-alike j k x l)

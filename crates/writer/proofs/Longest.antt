@@ -22,7 +22,7 @@ use Rattle.facts.specs.SheetRows.{form_rows, route_form_rows, sheet_rows, facts_
 use Rattle.facts.specs.declared.Sheet.{Sheet}
 use Rattle.facts.proofs.PassingLines.{Passes}
 use Rattle.writer.specs.Written.{longest}
-use Rattle.facts.proofs.Records.{text-reads}
+use Rattle.facts.proofs.ReadRecords.{text-reads}
 
 -- the k numbers from n on
 unfoldable from : ℕ → ℕ → List ℕ

@@ -13,7 +13,7 @@ use Rattle.facts.specs.Facts.{read_of, job_read}
 use Rattle.facts.specs.LinesOf.{as_records}
 use Rattle.refusal.specs.Rows.{first}
 use Rattle.refusal.proofs.Rows.{cond-zero-elim}
-use Rattle.facts.proofs.Records.{read-lines}
+use Rattle.facts.proofs.ReadRecords.{read-lines}
 use Rattle.writer.specs.Written.{written}
 use Rattle.writer.specs.Writes.{wrote, out_after}
 use Rattle.facts.specs.SheetRows.{sheet_of}

@@ -1,70 +1,49 @@
 // Write: rows 4, 2, 3, 5, then 15.
 ghost use Rattle.std.specs.Prelude.{◌≡◌, length};
 ghost use Rattle.emit.specs.Emit.{Room, Emits};
-ghost use Rattle.job.specs.Job.{job_of, flat_job};
+ghost use Rattle.job.specs.Job.{job_in};
 ghost use Rattle.job.specs.Lines.{LinesPass};
-ghost use Rattle.out_slice.specs.OutSlice.{wrote_text, out_with};
+ghost use Rattle.out_slice.specs.OutSlice.{wrote_of, wrote_text, out_with};
 ghost use Rattle.writer.specs.Written.{written};
 ghost use Rattle.writer.specs.Writes.{wrote, out_after};
 
-use flat::laying::lay;
+use job::FlatJob;
+use job::checks::check_lines;
+use job::laying::Lay;
 use layout::Word;
-use out_slice::Wrote;
-use route::Route;
+use refusal::Refusal;
 
 // No job whose lines pass has a longer text (proofs/Bound.antt).
 const LONGEST: usize = 20120;
 
 // The whole text, from the slice's start.
-fn text(
-    out: &mut [u8],
-    old_places: u64,
-    old: &[u64],
-    new_places: u64,
-    new: &[u64],
-    done: &[u32],
-) -> usize
-    requires { Room (written (flat_job old_places old.now new_places new.now done.now)) out.old 0 }
-    ensures { Emits
-        (written (flat_job old_places old.now new_places new.now done.now))
-        out.old 0 out.new result }
+fn text(out: &mut [u8], job: FlatJob) -> usize
+    requires { Room (written (job_in job)) out.old 0 }
+    ensures { Emits (written (job_in job.entry)) out.old 0 out.new result }
 {
-    let a = sheet_lines::route_lines(out, 0, Word::Old, old_places, old);
-    let b = sheet_lines::route_lines(out, a, Word::New, new_places, new);
-    sheet_lines::job_lines(out, b, done)
+    let a = sheet_lines::route_lines(out, 0, Word::Old, job.old_places, job.old);
+    let b = sheet_lines::route_lines(out, a, Word::New, job.new_places, job.new);
+    sheet_lines::job_lines(out, b, job.done)
 }
 
-// Write over lists of steps.
-pub fn write_lists(
-    old_places: u64,
-    old: &[u64],
-    new_places: u64,
-    new: &[u64],
-    done: &[u32],
-    out: &mut [u8],
-) -> Wrote
-    ensures { (result ≡ wrote
-        (flat_job old_places old.now new_places new.now done.now)
-        (length out.old))
-        × (out.new ≡ out_after
-        (flat_job old_places old.now new_places new.now done.now)
-        out.old) }
+// Write over lists of steps: the bytes written.
+pub fn write_lists(job: FlatJob, out: &mut [u8]) -> Result<usize, Refusal>
+    ensures { (wrote_of result ≡ wrote (job_in job.entry) (length out.old))
+        × (out.new ≡ out_after (job_in job.entry) out.old) }
 {
-    let o = job::checks::check_lines(old_places, old, new_places, new, done);
-    if !o.passed() {
-        return Wrote::refuse(o.number, o.second);
-    }
-    out_slice::write::<LONGEST, _>(out, |out| text(out, old_places, old, new_places, new, done))
+    check_lines(job)?;
+    // a closure holds the parts of what is lent
+    out_slice::write::<LONGEST, _>(out, move |out| text(out, FlatJob { ..job }))
 }
 
-// The operation write, on records by value.
-pub fn write(old: Route, new: Route, done: &[u32], out: &mut [u8]) -> Wrote
-    ensures { (result ≡ wrote (job_of old new done.now) (length out.old))
-        × (out.new ≡ out_after (job_of old new done.now) out.old) }
+// The operation write, on records.
+#[tactic(auto, using(crate::proofs::LongLists::wrote_cut, crate::proofs::LongLists::out_cut))]
+pub fn write<J: Lay>(job: &J, out: &mut [u8]) -> Result<usize, Refusal>
+    ensures { (wrote_of result ≡ wrote (J.job job.now) (length out.old))
+        × (out.new ≡ out_after (J.job job.now) out.old) }
 {
     let mut a = [0u64; 260];
     let mut b = [0u64; 260];
-    let n = lay(old, &mut a);
-    let m = lay(new, &mut b);
-    write_lists(old.places, &a[..n], new.places, &b[..m], done, out)
+    let flat = job.lay(&mut a, &mut b);
+    write_lists(flat, out)
 }

@@ -1,13 +1,13 @@
 -- An inner promise: a list of occurrences with its end, and the answer that shows it.
-use Rattle.std.specs.Prelude.{◌≡◌, List, map, ℕ, suc, length}
+use Rattle.std.specs.Prelude.{◌≡◌, List, map, ℕ, suc, length, Ok}
 use Rattle.std.proofs.Math.Option.{get_or}
 use Rattle.route.specs.declared.Step.{Step}
 use Rattle.slice.specs.Slice.{variables}
 use Rattle.precedence.specs.Table.{table}
 use Rattle.matching.specs.Straight.{fire_all, steps_on}
-use Rattle.answering.specs.Answer.{padded, answer}
+use Rattle.answering.specs.Answer.{padded, answer, judged_of}
 use Rattle.answering.specs.declared.Placed.{Placed}
-use Rattle.answering.specs.declared.Judged.{Judged}
+use Rattle.answering.specs.declared.Moved.{Moved}
 
 -- a list of positions, and where its steps end on the new route
 abbrev pub placed_on : ℕ → List Step → List Step → List ℕ → Placed
@@ -19,10 +19,10 @@ placed_on from new l o =
     }
 
 -- it shows the list, with the table's rows, the new route's variables and the kept
-abbrev pub AnswersList : List ℕ → ℕ → ℕ → Placed → List Step → Judged → Type 0
+abbrev pub AnswersList : List ℕ → ℕ → ℕ → Placed → List Step → Moved → Type 0
 AnswersList rows vars kept list l r =
     (from : ℕ) (new : List Step) (o : List ℕ)
     → rows ≡ table l
     → vars ≡ variables new
     → list ≡ placed_on from new l o
-    → r ≡ answer from new l kept o
+    → judged_of (Ok r) ≡ answer from new l kept o

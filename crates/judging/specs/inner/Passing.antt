@@ -1,5 +1,5 @@
 -- An inner promise: a job that no row to 12 refuses, as judge goes on from there.
-use Rattle.std.specs.Prelude.{◌≡◌, List, ◌≤◌, length}
+use Rattle.std.specs.Prelude.{◌≡◌, List}
 use Rattle.route.specs.declared.Step.{Step}
 use Rattle.slice.specs.Slice.{variables}
 use Rattle.matching.specs.Fit.{kept_of}
@@ -10,7 +10,6 @@ use Rattle.preparing.specs.declared.Prepared.{Prepared}
 -- the steps done are l, and t the new route's steps for them
 pub record Passing (p : Prepared) (l t : List Step) : Type 0 where
   pub new : List Step
-  pub short : length l ≤ 64
   pub matches-are : t ≡ matched new l
   pub straight-is : p.straight ≡ straight_end p.start.tokens new l
   pub kept-is : p.kept ≡ kept_of new l

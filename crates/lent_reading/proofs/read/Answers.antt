@@ -1,29 +1,23 @@
 -- `read`: what the arrays hold of the sheet is laid over each list, as many entries as the answer says.
 use mathlib.Core.Path.{◌∙◌}
-use native.Mathlib.Omega.{arith}
-use Rattle.flat.proofs.FlatSteps.{length-flat}
-use Rattle.records.proofs.Overlaid.{overlaid-same}
+use borrow.Author.Rules.{rules}
+use Rattle.records.proofs.Overlaid.{overlaid-none, overlaid-same}
 use Rattle.lent_reading.proofs.read.Goals as goal
 
-pub fill-requires : goal.fill-requires
-fill-requires c =
-    let e = c.read_counted-c in
-    (omega (arith, e.ensures.old-fits, e.array_long, length-flat e.new.a), e.ensures.old-fits.1)
-
-pub fill-requires-2 : goal.fill-requires-2
-fill-requires-2 c =
-    let e = c.read_counted-c in
-    (omega (arith, e.ensures.new-fits, e.array_long2, length-flat e.new.b), e.ensures.new-fits.1)
+pub returns-in_err-c : goal.returns-in_err-c
+returns-in_err-c c = record {
+  answer = search rules;
+  old_list = search (rules, overlaid-none);
+  new_list = search (rules, overlaid-none);
+  done_list = search (rules, overlaid-none);
+}
 
 pub returns : goal.returns
 returns c =
-    let e = c.read_counted-c.ensures in (
-      e.answer,
-      (
-        c.fill.ensures ∙ overlaid-same _ _ _ _ e.old-steps,
-        (
-          c.fill-2.ensures ∙ overlaid-same _ _ _ _ e.new-steps,
-          c.put.ensures ∙ overlaid-same _ _ _ _ e.done-names,
-        ),
-      ),
-    )
+    let e = c.in_ok-c.ensures.held in
+    record {
+      answer = c.in_ok-c.ensures.answer;
+      old_list = c.fill.ensures ∙ overlaid-same _ _ _ _ e.old-steps;
+      new_list = c.fill-2.ensures ∙ overlaid-same _ _ _ _ e.new-steps;
+      done_list = c.put.ensures ∙ overlaid-same _ _ _ _ e.done-names;
+    }

@@ -1,28 +1,32 @@
 -- `read_counted`: each way through its tests has its law (Counting).
 use native.Mathlib.Omega.{arith}
-use Rattle.lent_reading.proofs.Counting.{told-refused, told-old, told-new, told-done, told-all}
+use borrow.Author.Rules.{rules}
+use Rattle.lent_reading.proofs.Counting.{told-refused, told-old, told-new, told-done, told-all, told-lists}
 use Rattle.lent_reading.proofs.read_counted.Goals as goal
 
-pub returns-then-c-ne0 : goal.returns-then-c-ne0
-returns-then-c-ne0 c =
-    told-refused c.read_lists-c.ensures c.args.old c.args.new c.args.done c.refuse.result c.refuse.ensures c.if-c-ne0.true
+pub returns-in_err-c-clause-answer : goal.returns-in_err-c-clause-answer
+returns-in_err-c-clause-answer c =
+    let refused = told-refused _ _ _ _ c.args.old c.args.new c.args.done _ c.in_err-c.ensures in search rules
 
-pub returns-then-old-c : goal.returns-then-old-c
-returns-then-old-c c =
-    told-old c.read_lists-c.ensures c.args.old c.args.new c.args.done c.refuse-then-old-c.result (omega arith)
-    c.refuse-then-old-c.ensures (omega arith)
+pub returns-then-old-c-clause-answer : goal.returns-then-old-c-clause-answer
+returns-then-old-c-clause-answer c =
+    let short = told-old _ _ _ _ c.args.old c.args.new c.args.done _ c.in_ok-c.ensures (omega arith) in search rules
 
-pub returns-then-new-c : goal.returns-then-new-c
-returns-then-new-c c =
-    told-new c.read_lists-c.ensures c.args.old c.args.new c.args.done c.refuse-then-new-c.result (omega arith)
-    (omega arith) c.refuse-then-new-c.ensures (omega arith)
+pub returns-then-new-c-clause-answer : goal.returns-then-new-c-clause-answer
+returns-then-new-c-clause-answer c =
+    let short =
+    told-new _ _ _ _ c.args.old c.args.new c.args.done _ c.in_ok-c.ensures (omega arith) (omega arith) in search rules
 
-pub returns-then-done-c : goal.returns-then-done-c
-returns-then-done-c c =
-    told-done c.read_lists-c.ensures c.args.old c.args.new c.args.done c.refuse-then-done-c.result (omega arith)
-    (omega arith) c.refuse-then-done-c.ensures (omega arith) (omega arith)
+pub returns-then-done-c-clause-answer : goal.returns-then-done-c-clause-answer
+returns-then-done-c-clause-answer c =
+    let short =
+    told-done _ _ _ _ c.args.old c.args.new c.args.done _ c.in_ok-c.ensures (omega arith) (omega arith) (omega arith) in
+    search rules
 
 pub returns : goal.returns
 returns c =
-    told-all c.read_lists-c.ensures c.args.old c.args.new c.args.done (omega arith) (omega arith) (omega arith)
-    (omega arith)
+    let t = c.in_ok-c.ensures in
+    record {
+      answer = told-all _ _ _ _ _ _ _ _ t (omega arith) (omega arith) (omega arith);
+      held = told-lists _ _ _ _ _ _ _ _ t (omega arith) (omega arith) (omega arith);
+    }

@@ -11,7 +11,9 @@ pub bounds-rows-k : goal.bounds-rows-k
 bounds-rows-k c = search (rules, entry-below)
 
 pub returns-then-not-within : goal.returns-then-not-within
-returns-then-not-within c = search (rules, placed-early)
+returns-then-not-within c =
+    placed-early _ _ _ _ _ _ _ _ c.loop-i.invariant (search rules) (search rules) _ c.within.ensures _ (search rules)
+    (search rules)
 
 pub step_at-s-requires : goal.step_at-s-requires
 step_at-s-requires c = search (rules, entry-step)

@@ -6,4 +6,4 @@ use Rattle.out_slice.proofs.write.Goals as goal
 pub returns : goal.returns
 returns g c t short writes =
     let w = writes _ _ _ c.f-end.ensures in
-    (whole-answer t _ _ _ (omega arith) w _ c.all.ensures, whole_out t _ _ _ (omega arith) w)
+    (whole-answer t _ _ _ (omega arith) w, whole_out t _ _ _ (omega arith) w)

@@ -1,6 +1,8 @@
 -- The lines so far: where reading stands between two lines, and what the lines before gave.
 use Rattle.std.specs.Prelude.{◌≡◌, true, List, [], ◌∷◌, ℕ, ◌+◌, ◌≤◌, length, get_or, replicate, Result, Ok, Err}
+use Rattle.refusal.specs.Refusal.{outcome_of}
 use Rattle.refusal.specs.declared.Outcome.{Outcome}
+use Rattle.refusal.specs.declared.Refusal.{Refusal}
 use Rattle.route.specs.Steps.{blank}
 use Rattle.route.specs.declared.Step.{Step}
 use Rattle.route.specs.declared.Route.{Route}
@@ -47,6 +49,10 @@ state_of v JobPart t = job_state v t
 
 -- ---- where reading stands
 
+-- the first row that refuses a line, if any does
+abbrev pub Rows : Type 0
+Rows = Result (Unit {0}) Refusal
+
 -- at the start of a line of the part q, after lines that gave k
 pub record Prefix (v : Version) (s : List ℕ) (i : ℕ) (q : Part) (k : State) : Type 0 where
   pub lines : Lines
@@ -73,9 +79,9 @@ bare n = record { places = n; len = 0; steps = replicate 64 blank }
 
 pub record OldTo (v : Version) (s : List ℕ) (r : Head) : Type 0 where
   pub placed : Placed s r.pass
-  pub fits : r.pass.outcome.number ≡ 0 → r.places ≤ 64
+  pub fits : (outcome_of r.pass.rows).number ≡ 0 → r.places ≤ 64
   pub goes : Prefix v s r.pass.at OldRoute
-      (passed r.pass.lines r.pass.outcome (with_old (bare r.places) (failed 0 0)))
+      (passed r.pass.lines (outcome_of r.pass.rows) (with_old (bare r.places) (failed 0 0)))
 
 abbrev pub OldOn : Version → List ℕ → Result Head Broken → Type 0
 OldOn v s (Ok r) = OldTo v s r
@@ -83,11 +89,11 @@ OldOn v s (Err e) = Breaks v s e.at
 
 pub record NewTo (v : Version) (s : List ℕ) (p : Pass) (above : ℕ) (r : Head) : Type 0 where
   pub placed : Placed s r.pass
-  pub fits : r.pass.outcome.number ≡ 0 → r.places ≤ 64
+  pub fits : (outcome_of r.pass.rows).number ≡ 0 → r.places ≤ 64
   pub goes : (z : Sheet) → z.number ≡ 0 → z.old.len ≡ above → NoStep s p.at
-      → Prefix v s p.at OldRoute (passed p.lines p.outcome z)
+      → Prefix v s p.at OldRoute (passed p.lines (outcome_of p.rows) z)
       → Prefix v s r.pass.at NewRoute
-      (passed r.pass.lines r.pass.outcome (with_new (headed r.places z.new) z))
+      (passed r.pass.lines (outcome_of r.pass.rows) (with_new (headed r.places z.new) z))
 
 -- below the steps of the part q a head's line breaks, whatever the lines gave
 pub record HeadBreaks (v : Version) (s : List ℕ) (p : Pass) (q : Part) (at : ℕ) : Type 0 where
@@ -101,8 +107,8 @@ NewOn v s p above (Err e) = HeadBreaks v s p OldRoute e.at
 pub record JobTo (s : List ℕ) (p : Pass) (above : ℕ) (r : Pass) : Type 0 where
   pub placed : Placed s r
   pub goes : (v : Version) (z : Sheet) → z.number ≡ 0 → z.new.len ≡ above → NoStep s p.at
-      → Prefix v s p.at NewRoute (passed p.lines p.outcome z)
-      → Prefix v s r.at JobPart (passed r.lines r.outcome z)
+      → Prefix v s p.at NewRoute (passed p.lines (outcome_of p.rows) z)
+      → Prefix v s r.at JobPart (passed r.lines (outcome_of r.rows) z)
 
 abbrev pub JobOn : List ℕ → Pass → ℕ → Result Pass Broken → Type 0
 JobOn s p above (Ok r) = JobTo s p above r
@@ -120,14 +126,14 @@ pub record StepsTo (v : Version) (s : List ℕ) (p : Pass) (places : ℕ) (r : F
   pub few : r.len ≤ 64
   pub over : NoStep s r.pass.at
   pub goes : (q : Part) (z : Sheet) → has_steps q ≡ true → z.number ≡ 0
-      → Prefix v s p.at q (passed p.lines p.outcome (with_route q (bare places) z))
-      → Prefix v s r.pass.at q (passed r.pass.lines r.pass.outcome
+      → Prefix v s p.at q (passed p.lines (outcome_of p.rows) (with_route q (bare places) z))
+      → Prefix v s r.pass.at q (passed r.pass.lines (outcome_of r.pass.rows)
       (with_route q (record { places = places; len = r.len; steps = list }) z))
 
 pub record StepsBreak (v : Version) (s : List ℕ) (p : Pass) (places at : ℕ) : Type 0 where
   pub within : at ≤ length s
   pub goes : (q : Part) (z : Sheet) → has_steps q ≡ true → z.number ≡ 0
-      → Prefix v s p.at q (passed p.lines p.outcome (with_route q (bare places) z)) → Breaks v s at
+      → Prefix v s p.at q (passed p.lines (outcome_of p.rows) (with_route q (bare places) z)) → Breaks v s at
 
 abbrev pub StepsOn : Version → List ℕ → Pass → ℕ → Result Filled Broken → List Step → Type 0
 StepsOn v s p places (Ok r) list = StepsTo v s p places r list
@@ -147,12 +153,14 @@ pub record DonesTo (v : Version) (s : List ℕ) (p : Pass) (r : Filled) (before 
   pub within : r.pass.at ≤ length s
   pub few : r.len ≤ 64
   pub all : length s ≤ r.pass.at
-  pub goes : (z : Sheet) → z.number ≡ 0 → Prefix v s p.at JobPart (passed p.lines p.outcome (with_dones 0 before z))
-      → Prefix v s r.pass.at JobPart (passed r.pass.lines r.pass.outcome (with_dones r.len after z))
+  pub goes : (z : Sheet) → z.number ≡ 0 → Prefix v s p.at JobPart (passed p.lines (outcome_of p.rows)
+      (with_dones 0 before z))
+      → Prefix v s r.pass.at JobPart (passed r.pass.lines (outcome_of r.pass.rows) (with_dones r.len after z))
 
 pub record DonesBreak (v : Version) (s : List ℕ) (p : Pass) (before : List ℕ) (at : ℕ) : Type 0 where
   pub within : at ≤ length s
-  pub goes : (z : Sheet) → z.number ≡ 0 → Prefix v s p.at JobPart (passed p.lines p.outcome (with_dones 0 before z))
+  pub goes : (z : Sheet) → z.number ≡ 0 → Prefix v s p.at JobPart (passed p.lines (outcome_of p.rows)
+      (with_dones 0 before z))
       → Breaks v s at
 
 abbrev pub DonesOn : Version → List ℕ → Pass → Result Filled Broken → List ℕ → List ℕ → Type 0

@@ -1,37 +1,42 @@
 -- `preparing::prepare`: the rows from 6 to 9, and else the occurrences against the new route's steps for them.
-use mathlib.Core.Path.{ap}
-use mathlib.Core.Bool.{not}
 use borrow.Author.Rules.{rules}
+use Rattle.std.proofs.lemmas.Result.{IfOk-weaker}
+use Rattle.job.specs.Job.{job_in}
 use Rattle.job.proofs.Rows.{lists-fit}
-use Rattle.running.proofs.Performed.{holds-room, holds-count}
-use Rattle.preparing.proofs.Preparation.{prepared-refused, prepared-weighed, lent-few, lent_alike}
+use Rattle.running.proofs.AfterRun.{run-stops}
+use Rattle.preparing.proofs.Preparation.{run-refused, gathers-filled, rows-weighed, prepared-weighed}
 use Rattle.preparing.proofs.prepare.Goals as goal
 
 pub job_line-line-requires : goal.job_line-line-requires
 job_line-line-requires c = search lists-fit
 
-pub returns-then-not-passed : goal.returns-then-not-passed
-returns-then-not-passed c = search (rules, prepared-refused)
+pub returns-in_err-g-clause-rows : goal.returns-in_err-g-clause-rows
+returns-in_err-g-clause-rows c = search (rules, run-refused)
 
-pub slice_bounds-weigh-end : goal.slice_bounds-weigh-end
-slice_bounds-weigh-end c = search (lists-fit, holds-room)
+pub returns-in_err-g-clause-filled : goal.returns-in_err-g-clause-filled
+returns-in_err-g-clause-filled c = λ passes.
+    absurd (run-stops (job_in c.args.job) c.in_err-g.field-0.0 c.in_err-g.ensures.ran passes)
 
-pub slice_bounds-weigh-end-2 : goal.slice_bounds-weigh-end-2
-slice_bounds-weigh-end-2 c = search (lists-fit, holds-count)
-
-pub slice_bounds-weigh-end-3 : goal.slice_bounds-weigh-end-3
-slice_bounds-weigh-end-3 c = search (lists-fit, holds-room)
-
-pub slice_bounds-weigh-end-4 : goal.slice_bounds-weigh-end-4
-slice_bounds-weigh-end-4 c = search (lists-fit, holds-count)
-
-pub weigh-requires : goal.weigh-requires
-weigh-requires c = record {
-  occurrences_len_bound = (search (lists-fit, lent-few), search rules);
-  matches_len = search (rules, lent_alike);
+pub pairs_of-pairs-requires : goal.pairs_of-pairs-requires
+pairs_of-pairs-requires c = record {
+  in_bounds = search rules;
+  filled = gathers-filled (job_in c.args.job) c.in_ok-g.g c.in_ok-g.ensures.ran _ _ c.in_ok-g.ensures.gathers
+      c.requires.lines_pass;
 }
 
 pub returns : goal.returns
 returns c =
-    prepared-weighed _ _ _ _ c.gather-g.ensures _ c.passed.ensures _ c.job_line-line.ensures.value
-    c.requires.lines_pass (ap not c.if-not-passed.false) _ c.weigh.ensures
+    let j = job_in c.args.job in
+    let g = c.in_ok-g.g in
+    let ran = c.in_ok-g.ensures.ran in
+    let gathers = c.in_ok-g.ensures.gathers in
+    let lines = c.requires.lines_pass in
+    let line = c.job_line-line.ensures.value in
+    let pairs = c.pairs_of-pairs.ensures in
+    record {
+      filled = λ passes. gathers-filled j g ran _ _ gathers lines;
+      rows = rows-weighed j g ran _ _ gathers lines _ line _ pairs _ c.weigh.ensures.rows;
+      prepared =
+          IfOk-weaker c.weigh.result _ _ (prepared-weighed j g ran _ _ gathers lines _ line _ pairs)
+          c.weigh.ensures.weighed;
+    }

@@ -7,7 +7,10 @@ use Rattle.version.specs.Limits.{present}
 use Rattle.version.specs.declared.Version.{Version}
 use Rattle.facts.specs.Facts.{failed, read_by}
 use Rattle.tokens.specs.declared.Broken.{Broken}
+use Rattle.refusal.specs.declared.Refusal.{Refusal}
+use Rattle.reader.specs.Refused.{counts_of}
 use Rattle.reader.specs.declared.Counts.{Counts}
+use Rattle.reader.specs.declared.Lengths.{Lengths}
 
 -- the counts are those of the sheet's facts, and where it reads, the lists hold its steps and its done names, 64
 -- entries each
@@ -22,15 +25,14 @@ pub record ReadInto (v : Version) (s : List ℕ) (r : Counts) (old new done : Li
   pub old-few : r.old_len ≤ 64
   pub new-few : r.new_len ≤ 64
   pub done-few : r.done_len ≤ 64
-  pub none : r.number ≡ 0 → r.second ≡ 0
   pub refused : (r.number ≡ 0 → ⊥) → read_by v s ≡ failed r.number r.second
   pub old-steps : r.number ≡ 0 → steps_in old ≡ (read_by v s).old.steps
   pub new-steps : r.number ≡ 0 → steps_in new ≡ (read_by v s).new.steps
   pub done-names : r.number ≡ 0 → done ≡ (read_by v s).done
 
 -- where the layout breaks, the sheet is refused by row 1 at that byte
-abbrev pub PartsInto : Version → List ℕ → Result Counts Broken → List ℕ → List ℕ → List ℕ → Type 0
-PartsInto v s (Ok r) old new done = ReadInto v s r old new done
+abbrev pub PartsInto : Version → List ℕ → Result (Result Lengths Refusal) Broken → List ℕ → List ℕ → List ℕ → Type 0
+PartsInto v s (Ok r) old new done = ReadInto v s (counts_of r) old new done
 PartsInto v s (Err e) old new done = read_by v s ≡ failed 1 e.at
 
 -- by the present version

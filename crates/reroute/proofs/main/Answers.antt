@@ -4,9 +4,9 @@ use Rattle.ops.proofs.Prints.{written-fits}
 use Rattle.reroute.proofs.main.Goals as goal
 
 pub slice_bounds-out-end : goal.slice_bounds-out-end
-slice_bounds-out-end c = omega (arith, written-fits _ _ _ _ c.print-w.ensures.value, c.print-w.auto.out)
+slice_bounds-out-end c = omega (arith, written-fits _ _ _ _ c.in-Ok.ensures.value, c.print.auto.out)
 
 pub slice_bounds-write_all-end : goal.slice_bounds-write_all-end
 slice_bounds-write_all-end c =
-    let fits = written-fits _ _ _ _ c.print-w.ensures.value in
-    sym (length-take-le _ _ (omega (arith, fits, c.print-w.auto.out)))
+    let fits = written-fits _ _ _ _ c.in-Ok.ensures.value in
+    sym (length-take-le _ _ (omega (arith, fits, c.print.auto.out)))

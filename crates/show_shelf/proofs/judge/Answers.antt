@@ -3,5 +3,5 @@ use Rattle.std.proofs.Common.{rules}
 use Rattle.show_shelf.proofs.ListingLength.{between-length}
 use Rattle.show_shelf.proofs.judge.Goals as goal
 
-pub write_listing-w-requires : goal.write_listing-w-requires
-write_listing-w-requires g c = search (rules, between-length)
+pub write_listing-requires : goal.write_listing-requires
+write_listing-requires g c = search (rules, between-length)

@@ -60,7 +60,7 @@ impl Edit {
                 .any(|word| text.contains(word))
         };
         let code = |change: &Change| change.file.starts_with("src/") && !clause(&change.old);
-        self.crate_name != "engine" && self.changes.iter().all(code)
+        !["engine", "counts"].contains(&self.crate_name.as_str()) && self.changes.iter().all(code)
     }
 }
 

@@ -52,7 +52,7 @@ pub fn all() -> Vec<Script> {
     let by_hand = [
         own + &chosen::script() + &chosen_shelves::script(),
         chosen_lookups::script() + &chosen_names::script(),
-        chosen_cloth::script() + &chosen_marks::script(),
+        chosen_cloth::script() + &chosen_marks::script() + TOO_LONG,
     ];
     assert!(by_hand.iter().all(|text| text.len() <= MOST_BYTES));
     let random = (0..SCRIPTS).map(|number| long(script, number));
@@ -61,6 +61,9 @@ pub fn all() -> Vec<Script> {
     let texts = by_hand.into_iter().chain(random).chain([shelves, lookups]);
     texts.map(Script::of).collect()
 }
+
+/// A sheet by value with an out slice of one byte more than the longest: it ends the script.
+const TOO_LONG: &str = "8 1 0 0 1 0 0 0 21001 0\n";
 
 /// An operation, to see whether the script before it ends with a whole one.
 const FIRE: &str = "1 1 10 1 2 0 1 0\n";

@@ -6,14 +6,14 @@ use Rattle.job.proofs.checks.check_route.Goals as goal
 pub returns-then-not-places_fit : goal.returns-then-not-places_fit
 returns-then-not-places_fit c = search (rules, route-two)
 
-pub check_steps-o-requires : goal.check_steps-o-requires
-check_steps-o-requires c = search (rules, head-places)
+pub check_steps-requires : goal.check_steps-requires
+check_steps-requires c = search (rules, head-places)
 
-pub returns-then-not-passed : goal.returns-then-not-passed
-returns-then-not-passed c = search (rules, route-steps)
+pub returns-in_err-check_steps : goal.returns-in_err-check_steps
+returns-in_err-check_steps c = search (rules, route-steps)
 
 pub returns-then-count-eq0 : goal.returns-then-count-eq0
-returns-then-count-eq0 c = search (rules, route-none)
+returns-then-count-eq0 c = let passed = c.in_ok-check_steps.ensures in search (rules, route-none)
 
 pub returns : goal.returns
-returns c = search (rules, route-pass)
+returns c = let passed = c.in_ok-check_steps.ensures in search (rules, route-pass)

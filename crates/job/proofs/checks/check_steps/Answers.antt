@@ -9,7 +9,6 @@ use Rattle.route.specs.declared.Step.{Step}
 use Rattle.flat.proofs.FlatSteps.{flat-prefix, flat-few, flat-names}
 use Rattle.name_set.proofs.DigitHints.{hinted-none, hinted-on, hinted-prefix}
 use Rattle.job.specs.Lines.{step_rows}
-use mathlib.Core.Bool.{not}
 use borrow.Author.Rules.{rules}
 use Rattle.job.proofs.StepRows.{steps-end, steps-over, steps-refused, steps-passed}
 use Rattle.job.proofs.checks.check_steps.Goals as goal
@@ -29,17 +28,20 @@ slice_bounds-check_step-end c =
     let start = c in
     flat-prefix start.args.steps.now at.loop-i.i (omega (arith, at.count-i-end.ensures))
 
-pub check_step-o-requires : goal.check_step-o-requires
-check_step-o-requires c =
+pub check_step-requires : goal.check_step-requires
+check_step-requires c =
     record { places_bound = (search rules, flat-few _ _ 64 c.if-i-ge-STEPS.false); hinted = search (rules, hinted-prefix) }
 
-pub returns-then-not-passed : goal.returns-then-not-passed
-returns-then-not-passed c = search (rules, steps-refused, flat-names)
+pub returns-in_err-check_step : goal.returns-in_err-check_step
+returns-in_err-check_step c =
+    let refused =
+    steps-refused c.args.line c.args.places c.loop-i.i _ _ _ c.count-i-end.ensures c.loop-i.invariant.1.1 (omega arith) _
+    c.step_at-s.ensures _ (flat-names _ c.loop-i.i) c.in_err-check_step.field-0.0 c.in_err-check_step.ensures in
+    search rules
 
 pub loop-i-preserved : goal.loop-i-preserved
 loop-i-preserved c =
-    let test = c in
-    let checked = c in
+    let passed = c.in_ok-check_step.ensures in
     let step = c in
     let at = c in
     let start = c in
@@ -48,9 +50,8 @@ loop-i-preserved c =
       (
         hinted-on (steps_in start.args.steps.now) at.loop-i.hint at.loop-i.i _ counted at.loop-i.invariant.1.0 _ _
             (omega arith) (ap (λ (s : Step). s.name) step.step_at-s.ensures) c.add.ensures,
-        steps-passed start.args.line start.args.places at.loop-i.i _ _ _ _ counted at.loop-i.invariant.1.1
-            (omega arith) _ step.step_at-s.ensures _ _ (flat-names _ at.loop-i.i) checked.check_step-o.ensures
-            test.passed.ensures (ap not test.if-not-passed.false),
+        steps-passed start.args.line start.args.places at.loop-i.i _ _ _ counted at.loop-i.invariant.1.1
+            (omega arith) _ step.step_at-s.ensures _ (flat-names _ at.loop-i.i) passed,
       ),
     )
 

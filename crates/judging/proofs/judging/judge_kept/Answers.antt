@@ -12,7 +12,7 @@ pub answered-requires : goal.answered-requires
 answered-requires c = search (rules, order-short, passing-few)
 
 pub returns-in_default-clause-answers_first : goal.returns-in_default-clause-answers_first
-returns-in_default-clause-answers_first c = search (rules, none-judged)
+returns-in_default-clause-answers_first c = λ k. search (rules, none-judged k)
 
 pub returns-clause-answers_first : goal.returns-clause-answers_first
 returns-clause-answers_first c = search (rules, order-judged)

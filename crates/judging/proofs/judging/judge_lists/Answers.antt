@@ -9,8 +9,8 @@ returns-then-work-lt-WORK c = record {
   work_after = search (rules, work-short);
 }
 
-pub returns-then-not-passed : goal.returns-then-not-passed
-returns-then-not-passed c = record {
+pub returns-in_err-check_lines : goal.returns-in_err-check_lines
+returns-in_err-check_lines c = record {
   value = search (rules, judged-line);
   work_after = search (rules, work-line);
 }

@@ -13,14 +13,14 @@ use Rattle.line_reader.specs.inner.Rows.{head_row, new_row}
 use borrow.Author.Rules.{rules}
 use Rattle.line_reader.proofs.rows.new_row.Goals as goal
 
-module _ (line above n : ℕ) (o : Outcome) where
-  four : above ≡ 0 → o ≡ refuse 4 line → o ≡ new_row line above n
+module _ (line above n : ℕ) where
+  four : above ≡ 0 → refuse 4 line ≡ new_row line above n
   unfolding new_row
-  four h q = q ∙ sym (row-refuses (not (eqb above 0)) 4 line _ (ap not (eq-eqb above 0 h)) refl)
+  four h = sym (row-refuses (not (eqb above 0)) 4 line _ (ap not (eq-eqb above 0 h)) refl)
 
-  then : (above ≡ 0 → ⊥) → o ≡ head_row line n → o ≡ new_row line above n
+  then : (o : Outcome) → (above ≡ 0 → ⊥) → o ≡ head_row line n → o ≡ new_row line above n
   unfolding new_row head_row
-  then h q = q ∙ sym (row-passes (not (eqb above 0)) 4 line (unless (places_fit n) 2 line ∷ [])
+  then o h q = q ∙ sym (row-passes (not (eqb above 0)) 4 line (unless (places_fit n) 2 line ∷ [])
       (ap not (ne_eqb above 0 h)) ∙ alone (places_fit n))
     where
       alone : (t : Bool) → first (unless t 2 line ∷ []) ≡ unless t 2 line
@@ -28,7 +28,7 @@ module _ (line above n : ℕ) (o : Outcome) where
       alone false = unfold first unless in refl
 
 pub returns-then-above-eq0 : goal.returns-then-above-eq0
-returns-then-above-eq0 c = search (rules, four, then)
+returns-then-above-eq0 c = search (rules, four)
 
 pub returns : goal.returns
-returns c = search (rules, four, then)
+returns c = search (rules, then)

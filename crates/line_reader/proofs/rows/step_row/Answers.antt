@@ -4,16 +4,16 @@ use borrow.Author.Rules.{rules}
 use Rattle.line_reader.proofs.rows.step_row.Goals as goal
 
 pub returns-then-count-ge-STEPS : goal.returns-then-count-ge-STEPS
-returns-then-count-ge-STEPS c = search (rules, row-four)
+returns-then-count-ge-STEPS c = λ f is. search (rules, row-four)
 
 pub returns-then-not-line_fits : goal.returns-then-not-line_fits
-returns-then-not-line_fits c = search (rules, row-two)
+returns-then-not-line_fits c = λ f is. search (rules, row-two)
 
 pub returns-then-not-line_lists : goal.returns-then-not-line_lists
-returns-then-not-line_lists c = search (rules, row-three)
+returns-then-not-line_lists c = λ f is. search (rules, row-three)
 
 pub returns-then-has : goal.returns-then-has
-returns-then-has c = search (rules, row-five)
+returns-then-has c = λ f is. search (rules, row-five)
 
 pub returns : goal.returns
-returns c = search (rules, row-none)
+returns c = λ f is. search (rules, row-none)

@@ -10,7 +10,7 @@ pub name_at-requires : goal.name_at-requires
 name_at-requires c = search (rules, lowest-room)
 
 pub returns-then-name_at-eq0 : goal.returns-then-name_at-eq0
-returns-then-name_at-eq0 c = search wrong-missing
+returns-then-name_at-eq0 c = search (rules, wrong-missing)
 
 pub returns : goal.returns
-returns c = search wrong-differs
+returns c = search (rules, wrong-differs)

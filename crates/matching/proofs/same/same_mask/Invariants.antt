@@ -4,4 +4,4 @@ use Rattle.matching.proofs.SameMask.{SameSoFar}
 use Rattle.matching.proofs.same.same_mask.Given as goal
 
 abbrev pub invariant-loop-i : goal.invariant-loop-i
-invariant-loop-i l = SameSoFar (steps_in l.occurrences) l.matches l.i l.same
+invariant-loop-i l = SameSoFar (steps_in l.pairs.occurrences.now) l.pairs.matches.now l.i l.same

@@ -5,6 +5,7 @@ use Rattle.tokens.proofs.Bytes.{handed}
 use Rattle.part_reader.specs.inner.Prefix.{DonesOn}
 use Rattle.part_reader.proofs.DoneLines.{named-init, named_past, named-row, named-name, done-room}
 use Rattle.part_reader.proofs.DoneLines.{done-line-fits, done-later, dones-break, dones-done}
+use Rattle.part_reader.proofs.PrefixStep.{rows-ok, rows-err}
 use Rattle.part_reader.proofs.parts.dones.Goals as goal
 
 pub loop-at-init : goal.loop-at-init
@@ -18,26 +19,27 @@ returns-in_err-n c =
 pub overflow_add-lines : goal.overflow_add-lines
 overflow_add-lines c = search (rules, done-line-fits)
 
-pub loop-at-smaller-then-outcome-ne0 : goal.loop-at-smaller-then-outcome-ne0
-loop-at-smaller-then-outcome-ne0 c = search (rules, done-later)
+pub loop-at-smaller-then-is_err : goal.loop-at-smaller-then-is_err
+loop-at-smaller-then-is_err c = search (rules, done-later)
 
-pub loop-at-preserved-then-outcome-ne0 : goal.loop-at-preserved-then-outcome-ne0
-loop-at-preserved-then-outcome-ne0 c =
-    named_past _ _ _ _ _ _ _ _ _ _ _ c.loop-at.invariant c.loop-at-test.true _ c.in_ok-n.ensures c.if-outcome-ne0.true
+pub loop-at-preserved-then-is_err : goal.loop-at-preserved-then-is_err
+loop-at-preserved-then-is_err c =
+    named_past _ _ _ _ _ _ _ _ _ _ _ c.loop-at.invariant c.loop-at-test.true _ c.in_ok-n.ensures
+    (rows-err _ c.if-is_err.ensures.negation)
 
-pub loop-at-smaller-then-outcome-ne0-2 : goal.loop-at-smaller-then-outcome-ne0-2
-loop-at-smaller-then-outcome-ne0-2 c = search (rules, done-later)
+pub loop-at-smaller-then-is_err-2 : goal.loop-at-smaller-then-is_err-2
+loop-at-smaller-then-is_err-2 c = search (rules, done-later)
 
-pub loop-at-preserved-then-outcome-ne0-2 : goal.loop-at-preserved-then-outcome-ne0-2
-loop-at-preserved-then-outcome-ne0-2 c =
+pub loop-at-preserved-then-is_err-2 : goal.loop-at-preserved-then-is_err-2
+loop-at-preserved-then-is_err-2 c =
     named-row _ _ _ _ _ _ _ _ _ _ _ c.loop-at.invariant c.loop-at-test.true _ c.in_ok-n.ensures
-    c.if-outcome-ne0.false _ c.done_row-outcome.ensures c.if-outcome-ne0-2.true
+    (rows-ok _ c.if-is_err.ensures.negation) _ c.done_row-rows.ensures (rows-err _ c.if-is_err-2.ensures.negation)
 
 pub bounds-list-len : goal.bounds-list-len
 bounds-list-len c =
     let test = c in
     let row = c in
-    let less = done-room _ _ _ _ _ row.done_row-outcome.ensures test.if-outcome-ne0-2.false in
+    let less = done-room _ _ _ _ _ row.done_row-rows.ensures (rows-ok _ test.if-is_err-2.ensures.negation) in
     omega (arith, less)
 
 pub loop-at-smaller : goal.loop-at-smaller
@@ -46,7 +48,7 @@ loop-at-smaller c = search (rules, done-later)
 pub loop-at-preserved : goal.loop-at-preserved
 loop-at-preserved c =
     named-name _ _ _ _ _ _ _ _ _ _ _ c.loop-at.invariant c.loop-at-test.true _ c.in_ok-n.ensures
-    c.if-outcome-ne0.false _ c.done_row-outcome.ensures c.if-outcome-ne0-2.false
+    (rows-ok _ c.if-is_err.ensures.negation) _ c.done_row-rows.ensures (rows-ok _ c.if-is_err-2.ensures.negation)
 
 pub returns : goal.returns
 returns c = search (rules, dones-done)

@@ -9,4 +9,4 @@ returns-in_err-n c = handed (OldOn c.args.v c.args.s.now) _ _ c.from_residual.en
     (old-breaks _ _ _ c.in_err-n.ensures)
 
 pub returns : goal.returns
-returns c = old-on _ _ _ c.in_ok-n.ensures _ c.head_row-outcome.ensures
+returns c = old-on _ _ _ c.in_ok-n.ensures _ c.head_row-rows.ensures

@@ -8,6 +8,7 @@ use Rattle.part_reader.specs.inner.Prefix.{StepsOn}
 use Rattle.part_reader.proofs.StepLines.{stepped-init, stepped-past, stepped-row, stepped-step}
 use Rattle.part_reader.proofs.StepLines.{step_room, hinted-above, part_room, put-room}
 use Rattle.part_reader.proofs.StepLines.{line-fits, line-later, steps-break, steps-done}
+use Rattle.part_reader.proofs.PrefixStep.{rows-ok, rows-err}
 use Rattle.part_reader.proofs.parts.steps.Goals as goal
 
 pub loop-v-init : goal.loop-v-init
@@ -22,37 +23,38 @@ returns-in_err-l c =
 pub overflow_add-lines : goal.overflow_add-lines
 overflow_add-lines c = search (rules, line-fits)
 
-pub loop-v-smaller-then-outcome-ne0 : goal.loop-v-smaller-then-outcome-ne0
-loop-v-smaller-then-outcome-ne0 c = search (rules, line-later)
+pub loop-v-smaller-then-is_err : goal.loop-v-smaller-then-is_err
+loop-v-smaller-then-is_err c = search (rules, line-later)
 
-pub loop-v-preserved-then-outcome-ne0 : goal.loop-v-preserved-then-outcome-ne0
-loop-v-preserved-then-outcome-ne0 c =
+pub loop-v-preserved-then-is_err : goal.loop-v-preserved-then-is_err
+loop-v-preserved-then-is_err c =
     stepped-past _ _ _ _ _ _ _ _ _ _ _ _ c.loop-v.invariant _ c.in_ok-l.ensures _ c.stepping.ensures (search)
-    c.if-outcome-ne0.true
+    (rows-err _ c.if-is_err.ensures.negation)
 
 pub slice_bounds-step_row-end-in-loop-v : goal.slice_bounds-step_row-end-in-loop-v
 slice_bounds-step_row-end-in-loop-v c = sym (search part_room)
 
-pub step_row-outcome-requires : goal.step_row-outcome-requires
-step_row-outcome-requires c = search (rules, hinted-above)
+pub step_row-rows-requires : goal.step_row-rows-requires
+step_row-rows-requires c = search (rules, hinted-above)
 
-pub loop-v-smaller-then-outcome-ne0-2 : goal.loop-v-smaller-then-outcome-ne0-2
-loop-v-smaller-then-outcome-ne0-2 c = search (rules, line-later)
+pub loop-v-smaller-then-is_err-2 : goal.loop-v-smaller-then-is_err-2
+loop-v-smaller-then-is_err-2 c = search (rules, line-later)
 
-pub loop-v-preserved-then-outcome-ne0-2 : goal.loop-v-preserved-then-outcome-ne0-2
-loop-v-preserved-then-outcome-ne0-2 c =
+pub loop-v-preserved-then-is_err-2 : goal.loop-v-preserved-then-is_err-2
+loop-v-preserved-then-is_err-2 c =
     stepped-row _ _ _ _ _ _ _ _ _ _ _ _ c.loop-v.invariant _ c.in_ok-l.ensures _ c.stepping.ensures
-    (search) c.if-outcome-ne0.false _ c.step_row-outcome.ensures c.if-outcome-ne0-2.true
+    (search) (rows-ok _ c.if-is_err.ensures.negation) _ c.step_row-rows.ensures
+    (rows-err _ c.if-is_err-2.ensures.negation)
 
 pub put-requires : goal.put-requires
 put-requires c =
-    put-room _ _ _ _ _ _ _ _ _ _ _ _ c.loop-v.invariant _ c.in_ok-l.ensures _ c.step_row-outcome.ensures
-    c.if-outcome-ne0-2.false
+    put-room _ _ _ _ _ _ _ _ _ _ _ _ c.loop-v.invariant _ c.in_ok-l.ensures _ c.step_row-rows.ensures
+    (rows-ok _ c.if-is_err-2.ensures.negation)
 
 pub add-requires : goal.add-requires
 add-requires c =
-    step_room _ _ _ _ _ _ _ _ _ _ _ _ c.loop-v.invariant _ c.in_ok-l.ensures _ c.step_row-outcome.ensures
-    c.if-outcome-ne0-2.false
+    step_room _ _ _ _ _ _ _ _ _ _ _ _ c.loop-v.invariant _ c.in_ok-l.ensures _ c.step_row-rows.ensures
+    (rows-ok _ c.if-is_err-2.ensures.negation)
 
 pub overflow_add-len : goal.overflow_add-len
 overflow_add-len c = omega arith
@@ -63,7 +65,8 @@ loop-v-smaller c = search (rules, line-later)
 pub loop-v-preserved : goal.loop-v-preserved
 loop-v-preserved c =
     stepped-step _ _ _ _ _ _ _ _ _ _ _ _ c.loop-v.invariant _ c.in_ok-l.ensures _ c.stepping.ensures
-    (search) c.if-outcome-ne0.false _ c.step_row-outcome.ensures c.if-outcome-ne0-2.false _ _ _
+    (search) (rows-ok _ c.if-is_err.ensures.negation) _ c.step_row-rows.ensures
+    (rows-ok _ c.if-is_err-2.ensures.negation) _ _ _
     c.step_of-one.ensures c.put.ensures.steps_after c.put.ensures.steps_len_unchanged c.add.ensures
 
 pub returns : goal.returns

@@ -30,12 +30,13 @@ returns-in_err-e c =
 pub returns-in_err-f : goal.returns-in_err-f
 returns-in_err-f c =
     broken-into _ _ _ _ c.from_residual-in_err-f.ensures.1 (dones-break _ _ _ c.in_ok-a.ensures _ _ c.in_ok-b.ensures
-    _ c.in_ok-c.ensures _ _ c.in_ok-d.ensures _ c.in_ok-e.ensures _ c.requires.done_value _ c.in_err-f.ensures) _ _ _
+    _ c.in_ok-c.ensures _ _ c.in_ok-d.ensures _ c.in_ok-e.ensures _ c.requires _ c.in_err-f.ensures) _ _ _
 
-pub returns-then-outcome-ne0 : goal.returns-then-outcome-ne0
-returns-then-outcome-ne0 c = read-refused _ _ _ c.in_ok-a.ensures _ _ c.in_ok-b.ensures _ c.in_ok-c.ensures _ _
-    c.in_ok-d.ensures _ c.in_ok-e.ensures _ c.requires.done_value _ _ c.in_ok-f.ensures _ c.refuse.ensures (search)
+pub returns-in-Err : goal.returns-in-Err
+returns-in-Err c = read-refused _ _ _ c.in_ok-a.ensures _ _ c.in_ok-b.ensures _ c.in_ok-c.ensures _
+    _ c.in_ok-d.ensures _
+    c.in_ok-e.ensures _ c.requires _ _ c.in_ok-f.ensures _ c.in-Err.is
 
 pub returns : goal.returns
 returns c = read-facts _ _ _ c.in_ok-a.ensures _ _ c.in_ok-b.ensures _ c.in_ok-c.ensures _ _ c.in_ok-d.ensures _
-    c.in_ok-e.ensures _ c.requires.done_value _ _ c.in_ok-f.ensures (search)
+    c.in_ok-e.ensures _ c.requires _ _ c.in_ok-f.ensures _ c.in_default.is

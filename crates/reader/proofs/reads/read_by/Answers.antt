@@ -3,8 +3,8 @@ use Rattle.reader.proofs.WholeSheet.{sheet-refused, sheet-read}
 use borrow.Author.Rules.{rules}
 use Rattle.reader.proofs.reads.read_by.Goals as goal
 
-pub returns-then-c-ne0 : goal.returns-then-c-ne0
-returns-then-c-ne0 c = search (rules, sheet-refused)
+pub returns-in_err-c : goal.returns-in_err-c
+returns-in_err-c c = search (rules, sheet-refused)
 
 pub returns : goal.returns
 returns c = search (rules, sheet-read)

@@ -10,17 +10,17 @@ use Rattle.shelf.proofs.between.judge.Goals as goal
 
 ruleset inside = (rules, entry-fits, edition-inside, target-inside)
 
-pub offset_bounds-s-i : goal.offset_bounds-s-i
-offset_bounds-s-i c = search inside
+pub offset_bounds-editions-i : goal.offset_bounds-editions-i
+offset_bounds-editions-i c = search inside
 
-pub bounds-s-i : goal.bounds-s-i
-bounds-s-i c = search inside
+pub bounds-editions-i : goal.bounds-editions-i
+bounds-editions-i c = search inside
 
-pub offset_bounds-s-j : goal.offset_bounds-s-j
-offset_bounds-s-j c = search inside
+pub offset_bounds-editions-j : goal.offset_bounds-editions-j
+offset_bounds-editions-j c = search inside
 
-pub bounds-s-j : goal.bounds-s-j
-bounds-s-j c = search inside
+pub bounds-editions-j : goal.bounds-editions-j
+bounds-editions-j c = search inside
 
 pub returns-then-work-lt-WORK : goal.returns-then-work-lt-WORK
 returns-then-work-lt-WORK c = record {

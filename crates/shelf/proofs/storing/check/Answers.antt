@@ -3,10 +3,10 @@ use borrow.Author.Rules.{rules}
 use Rattle.shelf.proofs.PutRows.{put-stops, put-goes-on}
 use Rattle.shelf.proofs.storing.check.Goals as goal
 
-pub returns-then-not-passed : goal.returns-then-not-passed
-returns-then-not-passed c =
-    put-stops c.args.s.now c.args.number c.args.route _ (search rules) c.passed.result c.passed.ensures
-    c.if-not-passed.true
+pub returns-in_err-check_number : goal.returns-in_err-check_number
+returns-in_err-check_number c = search (rules, put-stops)
 
 pub returns : goal.returns
-returns c = search (rules, put-goes-on)
+returns c =
+    let passed = c.in_ok-check_number.ensures in
+    search (rules, put-goes-on)

@@ -10,3 +10,6 @@ slice_bounds-check_alone-end c = sym (length-take-le _ _ (search rules))
 
 pub returns : goal.returns
 returns c = search (rules, alone-laid)
+
+pub returns-in_err-check_alone : goal.returns-in_err-check_alone
+returns-in_err-check_alone c = search (rules, alone-laid)

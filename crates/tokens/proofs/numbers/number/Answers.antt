@@ -7,13 +7,13 @@ use Rattle.tokens.proofs.numbers.number.Goals.{then-not-is_ascii_digit-2-via-els
 use Rattle.tokens.proofs.numbers.number.Goals as goal
 
 pub returns-in_default : goal.returns-in_default
-returns-in_default c = number-over _ _ _ c.requires.from_in_bounds c.in_default.ensures.lookup.3
+returns-in_default c = number-over _ _ _ c.requires c.in_default.ensures.lookup.3
 
 pub returns-then-not-is_ascii_digit : goal.returns-then-not-is_ascii_digit
 returns-then-not-is_ascii_digit c = search (
   rules,
   number-other c.args.v c.args.s.now c.args.from
-      c.requires.from_in_bounds c.in-Some.field-0.now,
+      c.requires c.in-Some.field-0.now,
 )
 
 pub returns-then-b-eq48 : goal.returns-then-b-eq48

@@ -4,25 +4,28 @@ use lib.ListN.{length}
 use borrow.Author.Rules.{rules}
 use Rattle.running.proofs.RunLine.{lines-pass}
 use Rattle.out_slice.proofs.TextInSlice.{text-room, end-inside}
-use Rattle.job.specs.Job.{flat_job}
+use Rattle.job.specs.Job.{job_in}
 use Rattle.writer.specs.Written.{written}
 use Rattle.writer.proofs.Answers.{refused-answer, refused-out, text-answer, text_out, text-fits, text-short}
 use Rattle.writer.proofs.writes.write_lists.Goals as goal
 
 ruleset written_rules = (rules, lines-pass, text-answer, text_out, text-fits, text-short)
 
-pub returns-then-not-passed : goal.returns-then-not-passed
-returns-then-not-passed c = (search (written_rules, refused-answer), search (written_rules, refused-out))
+pub returns-in_err-check_lines : goal.returns-in_err-check_lines
+returns-in_err-check_lines c = (search (written_rules, refused-answer), search (written_rules, refused-out))
 
 pub write-requires-clause-ready : goal.write-requires-clause-ready
-write-requires-clause-ready c = search (written_rules, text-room)
+write-requires-clause-ready c =
+    let passed = c.in_ok-check_lines.ensures in search (written_rules, text-room)
 
 pub write-requires-clause-inside : goal.write-requires-clause-inside
-write-requires-clause-inside c x n y room post = search (written_rules, end-inside)
+write-requires-clause-inside c x n y room post =
+    let passed = c.in_ok-check_lines.ensures in search (written_rules, end-inside)
 
 pub returns : goal.returns
 returns c =
-    let j = flat_job c.args.old_places c.args.old.now c.args.new_places c.args.new.now c.args.done.now in
+    let passed = c.in_ok-check_lines.ensures in
+    let j = job_in c.args.job in
     let short : length (written j) ≤ 20120 = search written_rules in
     let w = c.write.ensures (written j) short (λ x n y p. search rules) in
     (search written_rules, search written_rules)

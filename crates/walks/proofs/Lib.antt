@@ -1,2 +1,0 @@
--- Two lent lists of records.
-pub mod Laying
