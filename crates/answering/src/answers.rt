@@ -44,6 +44,7 @@ fn last_writers(occurrences: &[u64], vars: u32) -> [u8; 32]
 {
     let mut writers = [0; 32];
     let mut left = vars;
+    // By index: `flat::steps` comes from the first step on alone.
     for i in (0..flat::count(occurrences)).rev() {
         if left == 0 {
             return writers;
@@ -61,8 +62,8 @@ pub fn straight_order(len: usize) -> [u8; 64]
     ensures { result ≡ padded 64 (map suc (in_turn 0 len)) }
 {
     let mut order = [0; 64];
-    for i in 0..len {
-        order[i] = i as u8 + 1;
+    for (i, number) in order[..len].iter_mut().enumerate() {
+        *number = i as u8 + 1;
     }
     order
 }

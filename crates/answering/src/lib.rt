@@ -9,8 +9,8 @@ use route::Marking;
 
 pub mod answers;
 
-// A job that moves: what the listing shows. Occurrence k is bit k - 1 of a mask and entry k - 1 of `after`; an order and
-// a writer hold occurrence numbers.
+// A job that moves: what the listing shows. Occurrence k is bit k - 1 of a mask and entry k - 1 of `after`; an order
+// and a writer hold occurrence numbers. Arrays and a length, here and below, by the rule of fixed memory and no heap.
 #[derive(Clone, Copy)]
 pub struct Moved {
     pub kept: u64,
@@ -22,7 +22,7 @@ pub struct Moved {
     pub writers: [u8; 32],
 }
 
-// Judge's answer in plain numbers: a refusal's two, or 0, 0 and the rest.
+// Judge's answer in plain numbers, as 01 says it: a refusal's two, or 0, 0 and the rest.
 #[derive(Clone, Copy)]
 pub struct Judged {
     pub number: u32,
@@ -72,7 +72,7 @@ impl From<Result<Moved, Refusal>> for Judged {
     }
 }
 
-// A list of occurrences: how many, their numbers, and the marking at its end.
+// A list of occurrences: how many, their numbers (no heap), and the marking at its end.
 #[derive(Clone, Copy)]
 pub struct Placed {
     pub len: usize,

@@ -13,7 +13,7 @@ use reader::Lengths;
 use refusal::Refusal;
 use route::Step;
 
-// An array of records, of which the first `len` are lent.
+// An array of records, of which the first `len` are lent: such a caller is what this crate shows.
 #[derive(Clone, Copy)]
 pub struct Array {
     pub steps: [Step; 100],

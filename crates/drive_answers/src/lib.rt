@@ -6,13 +6,15 @@ use drive_out::Answer;
 use facts::Sheet;
 use out_slice::Wrote;
 use reader::Counts;
-use route::{Marking, Route, Step};
+use refusal::Refusal;
+use route::{Fired, Marking, Route, Step};
 use slicing::Sliced;
 use std::alloc::AllocError;
 
-// An answer that is a refusal or a marking.
-pub fn marked(out: &mut Answer, first: u32, second: u64, m: Marking) -> Result<(), AllocError> {
-    out.list(&[u64::from(first), second, m.tokens])
+// What fires answers.
+pub fn fired(out: &mut Answer, r: Result<Marking, Refusal>) -> Result<(), AllocError> {
+    let f = Fired::from(r);
+    out.list(&[u64::from(f.number), f.second, f.marking.tokens])
 }
 
 pub fn sliced(out: &mut Answer, r: &Sliced) -> Result<(), AllocError> {

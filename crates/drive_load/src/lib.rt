@@ -1,4 +1,5 @@
-// The arguments of an operation, taken from the script one after another.
+// The arguments of an operation, taken from the script one after another. Where from and where to, script and answer,
+// are two: a struct of both would be made to be taken apart.
 #![tactic(auto)]
 
 ghost use Rattle.std.specs.Prelude.{◌≤◌, length, IfOk};

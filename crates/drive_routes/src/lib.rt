@@ -9,10 +9,8 @@ use drive_out::Answer;
 use drive_script::operations::OverJob;
 use job::laying::{Lay, RouteJob};
 use judging::judging::judge;
-use order_entries::Tried;
 use out_slice::Wrote;
 use route::{Marking, Step};
-use running::Ran;
 use running::routes::run;
 use slicing::{Sliced, slice};
 use trying::trying::try_order;
@@ -37,15 +35,9 @@ pub fn answer<J: Lay>(
     out: &mut Answer,
 ) -> Result<(), Stop> {
     match op {
-        OverJob::Run => {
-            let r = Ran::from(run(job));
-            drive_answers::marked(out, r.number, r.second, r.marking)?;
-        }
+        OverJob::Run => drive_answers::fired(out, run(job))?,
         OverJob::Slice => drive_answers::sliced(out, &Sliced::from(slice(job)))?,
-        OverJob::Try => {
-            let r = Tried::from(try_order(job, &script.bytes()?));
-            drive_answers::marked(out, r.number, r.second, r.marking)?;
-        }
+        OverJob::Try => drive_answers::fired(out, try_order(job, &script.bytes()?))?,
         OverJob::Judge => {
             let mut work = script.fill()?;
             let r = Judged::from(judge(job, &mut work));
@@ -63,6 +55,5 @@ pub fn answer<J: Lay>(
 pub fn fire(script: &mut Script<'_>, out: &mut Answer) -> Result<(), Stop> {
     let tokens = u64::take(script)?;
     let step = Step::take(script)?;
-    let r = route::firing::fire(Marking { tokens }, step);
-    Ok(drive_answers::marked(out, r.number, r.second, r.marking)?)
+    Ok(drive_answers::fired(out, route::firing::fire(Marking { tokens }, step))?)
 }

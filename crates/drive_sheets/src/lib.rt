@@ -6,7 +6,6 @@ use drive_load::{LENT, Script};
 use drive_out::Answer;
 use drive_script::operations::OverSheet;
 use facts::Sheet;
-use order_entries::Tried;
 use out_slice::Wrote;
 use reader::Counts;
 use reader::reads::{read, read_scope};
@@ -22,8 +21,8 @@ fn print(sheet: &[u8], script: &mut Script<'_>, out: &mut Answer) -> Result<(), 
 
 // With the order.
 fn try_sheet(sheet: &[u8], script: &mut Script<'_>, out: &mut Answer) -> Result<(), Stop> {
-    let r = Tried::from(ops::tries::try_sheet(sheet, &script.bytes()?));
-    Ok(drive_answers::marked(out, r.number, r.second, r.marking)?)
+    let r = ops::tries::try_sheet(sheet, &script.bytes()?);
+    Ok(drive_answers::fired(out, r)?)
 }
 
 // Into lists of three lengths. All their numbers are 7 before.

@@ -7,6 +7,7 @@ use drive_load::arguments::Argument;
 use drive_load::stop::Stop;
 use drive_out::Answer;
 use drive_script::operations::OverShelf;
+use refusal::Outcome;
 use route::Route;
 use shelf::{Edition, Shelf};
 use std::alloc::AllocError;
@@ -48,9 +49,8 @@ fn shown(out: &mut Answer, shelf: &Shelf) -> Result<(), AllocError> {
 
 fn put(shelf: &mut Shelf, script: &mut Script<'_>, out: &mut Answer) -> Result<(), Stop> {
     let e = edition(script)?;
-    let r = shelf::storing::put(*shelf, e.number, e.route);
-    *shelf = r.shelf;
-    out.list(&[u64::from(r.number), r.second])?;
+    let o = Outcome::from(shelf::storing::put(shelf, e.number, &e.route));
+    out.list(&[u64::from(o.number), o.second])?;
     Ok(shown(out, shelf)?)
 }
 

@@ -5,8 +5,8 @@ ghost use Rattle.ops.specs.SheetTry.{tried_sheet};
 
 use ops::print::print;
 use ops::tries::try_sheet;
-use order_entries::Tried;
 use out_slice::Wrote;
+use route::Fired;
 
 #[unsafe(no_mangle)]
 pub extern "C" fn reroute_try(
@@ -19,7 +19,7 @@ pub extern "C" fn reroute_try(
     ensures second_after { second.new ≡ (tried_sheet sheet.now order.now).second }
     ensures marking_after { marking.new ≡ (tried_sheet sheet.now order.now).marking.tokens }
 {
-    let t = Tried::from(try_sheet(sheet, order));
+    let t = Fired::from(try_sheet(sheet, order));
     *second = t.second;
     *marking = t.marking.tokens;
     t.number

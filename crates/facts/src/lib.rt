@@ -8,7 +8,8 @@ ghost use Rattle.facts.specs.Facts.{sheet_told};
 use refusal::Refusal;
 use route::Route;
 
-// What a sheet that reads tells: both routes and the done list.
+// What a sheet that reads tells: both routes and the done list, an array and a length, here and
+// below, by the rule of fixed memory and no heap.
 #[derive(Clone, Copy)]
 pub struct Records {
     pub old: Route,
@@ -17,7 +18,7 @@ pub struct Records {
     pub done: [u32; 64],
 }
 
-// Reading's answer in plain numbers: a refusal's two, or 0, 0 and the facts.
+// Reading's answer in plain numbers, as 01 says it: a refusal's two, or 0, 0 and the facts.
 #[derive(Clone, Copy)]
 pub struct Sheet {
     pub number: u32,

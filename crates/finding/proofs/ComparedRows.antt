@@ -11,7 +11,8 @@ use Rattle.lookup.specs.Around.{compared_all}
 use Rattle.job.specs.Job.{Job, cut}
 use Rattle.job.specs.Lines.{line_rows}
 use Rattle.job.proofs.LongLists.{Refused, laid-alike}
-use Rattle.running.specs.Run.{ran, ran_of}
+use Rattle.running.specs.Run.{ran}
+use Rattle.route.specs.Firing.{fired_of}
 use Rattle.running.proofs.AfterRun.{line-ends, run_ends, run-answers}
 use Rattle.running.proofs.LongLists.{ran-alike, ran-off}
 use Rattle.finding.specs.Comparisons.{compared_stopped, comparisons}
@@ -35,11 +36,11 @@ module _ (j : Job) where
   unfolding comparisons
   compare-line e is = line-ends compared_stopped both j e is
 
-  pub compare-run : (e : Refusal) → ran_of (Err e) ≡ ran j → compared_stopped (number_of e.row) e.second ≡ comparisons j
+  pub compare-run : (e : Refusal) → fired_of (Err e) ≡ ran j → compared_stopped (number_of e.row) e.second ≡ comparisons j
   unfolding comparisons
   compare-run e is = run_ends compared_stopped both j e is
 
-  pub compare-both : (g : Gathered) → ran_of (Ok g.begun.marking) ≡ ran j → (v w : List ℕ) → Gathers j g v w
+  pub compare-both : (g : Gathered) → fired_of (Ok g.begun.marking) ≡ ran j → (v w : List ℕ) → Gathers j g v w
       → record { number = 0; second = 0; run = g.begun.compared; matched = g.matched } ≡ comparisons j
   unfolding comparisons
   compare-both g is v w gathers =

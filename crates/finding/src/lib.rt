@@ -24,7 +24,7 @@ pub struct Totals {
     pub matched: usize,
 }
 
-// The same in plain numbers: a refusal's two, or 0, 0 and both totals.
+// The same in plain numbers, as 01 says it: a refusal's two, or 0, 0 and both totals.
 #[derive(Clone, Copy)]
 pub struct Compared {
     pub number: u32,

@@ -13,6 +13,7 @@ pub fn lay(r: &Route, into: &mut [u64]) -> usize
     ensures { Laid (steps_of r.now) result into.new }
 {
     let steps: &[Step] = &r.steps;
+    // By index: the 65th step, past the end of the array, is laid too, as a blank one.
     for i in 0..r.len {
         if Route::STEPS <= i {
             put(into, i, Step::blank());

@@ -63,11 +63,10 @@ fn check_steps(places: u64, steps: &[u64], line: u64) -> Result<(), Refusal>
     ensures { outcome_of result ≡ first (step_rows line places [] (steps_in steps.now)) }
 {
     let mut hint = [0u8; 256];
-    for i in 0..flat::count(steps) {
+    for (i, s) in flat::steps(steps).enumerate() {
         if Route::STEPS <= i {
             return Err(Row::BadLength.at(line + 64));
         }
-        let s = flat::step_at(steps, i);
         check_step(places, s, &steps[..4 * i], &hint, line + i as u64)?;
         name_set::add(&mut hint, s.name, i);
     }
@@ -98,7 +97,8 @@ pub fn check_alone(places: u64, steps: &[u64]) -> Result<Marking, Refusal>
     open(places, steps, 1)
 }
 
-// All lines, top down.
+// All lines, top down. What comes after asks that they pass by a clause: with a struct of the job and that fact each
+// contract would have to say that its job is the one given.
 pub fn check_lines(job: FlatJob) -> Result<(), Refusal>
     ensures { outcome_of result ≡ first (line_rows (job_in job.entry)) }
 {

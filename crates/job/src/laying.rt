@@ -6,7 +6,10 @@ use crate::FlatJob;
 use flat::laying::lay;
 use route::Route;
 
-// A job whose routes can be laid as numbers. Row 4 refuses the 65th step, so those past it change nothing.
+// A job whose routes can be laid as numbers, in two arrays. Row 4 refuses the 65th step, so those past it change
+// nothing. Six operations lay a job and call their own function over lists. They stay six: one that takes the call as a
+// closure has to say in its contract what any closure says, and is proved by hand, where each of the six names a law
+// and is done.
 pub trait Lay {
     ghost job: { Self → Job };
 
@@ -14,7 +17,8 @@ pub trait Lay {
         ensures { job_in result ≡ cut (job self.now) };
 }
 
-// A job whose routes are records by value.
+// A job whose routes are records by value. Who owns such a job (samples, drive) has a struct of its own, which lends
+// it.
 #[derive(Clone, Copy)]
 pub struct RouteJob<'r> {
     pub old: &'r Route,

@@ -13,7 +13,7 @@ use version::Version;
 fn name_fits(n: u32) -> bool
     ensures { result ≡ name_fits present n }
 {
-    Version::PRESENT.name_fits(n as u64)
+    Version::PRESENT.numbers.name_fits(n as u64)
 }
 
 #[tactic(auto, unfolding(crate::specs::Lines::step_fits))]

@@ -7,14 +7,14 @@ use Prim.Native.Nat.{ℕ}
 use lib.Dec.{eqb, leb}
 use Rattle.job.specs.Job.{Job, cut}
 use Rattle.running.specs.Run.{ran}
-use Rattle.running.specs.declared.Ran.{Ran}
+use Rattle.route.specs.declared.Fired.{Fired}
 use Rattle.job.proofs.LongLists.{Refused, laid-alike}
 use Rattle.running.proofs.LongLists.{ran-alike, ran-off}
 use Rattle.answering.specs.Answer.{judge_stopped}
 use Rattle.judging.specs.Judge.{judged, searched, work_after}
 use Rattle.answering.specs.declared.Judged.{Judged}
 
-refusal : ℕ → Ran → Judged
+refusal : ℕ → Fired → Judged
 refusal room r = cond (leb 8192 room) (judge_stopped r.number r.second) (judge_stopped 14 0)
 
 module _ (j : Job) (off : eqb (ran j).number 0 ≡ false) where
@@ -28,7 +28,7 @@ module _ (j : Job) (off : eqb (ran j).number 0 ≡ false) where
 
 module _ (j k : Job) (r : Refused j k) where
   off : eqb (ran j).number 0 ≡ false
-  off = ap (λ (x : Ran). eqb x.number 0) (ran-alike j k r) ∙ ran-off j k r
+  off = ap (λ (x : Fired). eqb x.number 0) (ran-alike j k r) ∙ ran-off j k r
 
   judged-alike : (room : ℕ) → judged j room ≡ judged k room
   judged-alike room =

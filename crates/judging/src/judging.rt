@@ -74,7 +74,7 @@ fn judge_prepared(p: Prepared, pairs: Pairs, work: &mut [u8]) -> Result<Moved, R
     }
 }
 
-// Judge from row 6 on, with room to work.
+// Judge from row 6 on, with room to work. `prepare` and `pairs_of` are what it shares with try.
 pub fn judge_checked(job: FlatJob, work: &mut [u8]) -> Result<Moved, Refusal>
     requires lines_pass { LinesPass (job_in job) }
     requires in_bounds { 8192 ≤ length work.old }

@@ -4,8 +4,8 @@ ghost use Rattle.layout.specs.Words.{word_table, spelling, number_of};
 
 use crate::Word;
 
-// Six bytes for each word: its length, and its letters filled up with 0. A reader or a writer copies the table once and
-// lends it.
+// Six bytes for each word: its length, and its letters filled up with 0. Bytes, not slices: the fixed texts of `tokens`
+// are made of them, so that a word's letters are said once.
 pub const TABLE: [u8; 60] = [
     3, 111, 108, 100, 0, 0, // old
     3, 110, 101, 119, 0, 0, // new

@@ -47,7 +47,8 @@ module _ (v : Version) (limits : Limits v) (line places above : ℕ) (earlier : 
       row-three f is t = sym (row-refuses (form_lists f) 3 line _
           (sym (lists-form l f is) ∙ sym lists ∙ not-true y t) refl) ∙ sym (two-on f is _)
 
-      module _ (fine : not y ≡ false) (known : Bool) (known-is : known ≡ among (l.name % 4294967296) earlier) where
+      module _ (fine : not y ≡ false) (known : Bool) (name : ℕ) (name-is : name ≡ l.name % 4294967296)
+          (known-is : known ≡ among name earlier) where
         three-on : (f : Form) → IsForm l f → (r : List Outcome)
             → first (unless (ltb above 64) 4 line ∷ unless (form_fits v places f) 2 line ∷ unless (form_lists f) 3 line
             ∷ r) ≡ first r
@@ -59,8 +60,8 @@ module _ (v : Version) (limits : Limits v) (line places above : ℕ) (earlier : 
         stored = name-stored v limits l.name (both (name_fits v l.name) _ (sym fits ∙ not-false x fit)).0
 
         known-form : (f : Form) → IsForm l f → known ≡ among f.name earlier
-        known-form f is = let same : l.name % 4294967296 ≡ f.name =
-            omega (arith, stored, is.name) in known-is ∙ ap (λ (n : ℕ). among n earlier) same
+        known-form f is = let same : name ≡ f.name =
+            omega (arith, stored, is.name, name-is) in known-is ∙ ap (λ (n : ℕ). among n earlier) same
 
         pub row-five : (f : Form) → IsForm l f → known ≡ true → refuse 5 line ≡ form_row v line places above earlier f
         unfolding form_row

@@ -1,4 +1,4 @@
-// The lines, each made of its tokens.
+// The lines, each made of its tokens. Version, bytes and place stay apart, as in `tokens`.
 ghost use Rattle.std.specs.Prelude.{◌≡◌, ◌&&◌, ◌+◌, ◌≤◌, eqb, length, get_or};
 ghost use Rattle.line_reader.specs.inner.Lines.{NumberedOn, ListedOn, EndingOn, StepOn};
 
@@ -26,21 +26,14 @@ pub fn stepping(s: &[u8], from: usize) -> bool
     requires { from ≤ length s.now }
     ensures { result ≡ eqb (get_or s.now (from + 1) 0) 115 }
 {
-    if s.len() - from < 2 {
-        return false;
-    }
-    let w = texts::STEP;
-    s[from + 1] == w[1]
+    s.get(from + 1) == Some(&b's')
 }
 
 // Past the last list: a space, which only the mark begins with, in a version that has it.
 fn marked(v: Version, s: &[u8], at: usize) -> bool
     ensures { result ≡ (eqb (get_or s.now at 0) 32 && v.cloth) }
 {
-    if s.len() <= at {
-        return false;
-    }
-    s[at] == b' ' && v.cloth
+    s.get(at) == Some(&b' ') && v.numbers.cloth
 }
 
 // Past the last list: the mark, where it stands, and the end.

@@ -1,4 +1,4 @@
-// Rows 4, 2, 3 and 5 of a line.
+// Rows 4, 2, 3 and 5 of a line. A number and its line are two, as in `opening`.
 ghost use Rattle.std.specs.Prelude.{◌≡◌, true, ℕ, ◌≤◌, length};
 ghost use Rattle.route.specs.Steps.{names};
 ghost use Rattle.name_set.specs.inner.Hints.{Hinted};
@@ -15,9 +15,10 @@ ghost use Rattle.line_reader.specs.inner.Rows.{head_row, new_row, job_row};
 use crate::StepLine;
 use job::lines::places_fit;
 use refusal::{Refusal, Row};
+use route::steps::low;
 use route::{Route, Step};
 use tokens::Entries;
-use version::Version;
+use version::{Numbers, Version};
 
 pub fn head_row(n: u64, line: u64) -> Result<(), Refusal>
     ensures { outcome_of result ≡ head_row line n }
@@ -47,7 +48,7 @@ pub fn job_row(above: usize, line: u64) -> Result<(), Refusal>
     Ok(())
 }
 
-pub fn done_row(v: Version, above: usize, n: u64, line: u64) -> Result<(), Refusal>
+pub fn done_row(v: Numbers, above: usize, n: u64, line: u64) -> Result<(), Refusal>
     ensures { outcome_of result ≡ done_row v line above n }
 {
     if Route::STEPS <= above {
@@ -71,7 +72,7 @@ fn entries_fit(e: Entries) -> bool
 fn line_fits(v: Version, places: u64, l: StepLine) -> bool
     ensures { result ≡ line_fits v places l }
 {
-    v.name_fits(l.name)
+    v.numbers.name_fits(l.name)
         && l.ins.top <= places
         && l.outs.top <= places
         && l.reads.top <= 32
@@ -113,7 +114,7 @@ pub fn step_row(
     if !line_lists(l) {
         return Err(Row::BadList.at(line));
     }
-    if name_set::has(hint, steps, (l.name % 4294967296) as u32) {
+    if name_set::has(hint, steps, low(l.name)) {
         return Err(Row::NameTwice.at(line));
     }
     Ok(())

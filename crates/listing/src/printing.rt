@@ -1,4 +1,4 @@
-// The whole listing, and writing it into a lent slice that has room for it.
+// The whole listing, and writing it into a lent slice that has room for it. `out` and `at` are two, as in `emit`.
 ghost use Rattle.std.specs.Prelude.{◌≡◌, ◌++◌, length, ◌<◌, ◌≤◌};
 ghost use Rattle.emit.specs.Emit.{Room, Emits};
 ghost use Rattle.listing_lines.specs.Lines.{moved_line, after_lines, order_line, marking_line, value_lines};

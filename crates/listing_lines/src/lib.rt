@@ -1,4 +1,4 @@
-// The lines that a listing has once, and what the lines of its tables begin with.
+// The lines that a listing has once, and what the lines of its tables begin with. `out` and `at` are two, as in `emit`.
 #![tactic(auto)]
 
 ghost use Rattle.std.specs.Prelude.{◌++◌};
@@ -49,6 +49,7 @@ fn list_entries(out: &mut [u8], at: usize, l: &[u8]) -> usize
     end
 }
 
+// The length is that which the answer says, and may be more than the entries.
 pub fn order_line(out: &mut [u8], at: usize, len: u32, order: [u8; 64]) -> usize
     requires { Room (order_line len order) out.old at }
     ensures { Emits (order_line len order) out.old at out.new result }

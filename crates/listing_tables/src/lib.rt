@@ -1,5 +1,5 @@
 // The tables of the listing: a line for each kept occurrence that comes after another, and for each variable that has a
-// writer.
+// writer. `out` and `at` are two, as in `emit`.
 #![tactic(auto)]
 
 ghost use Rattle.std.specs.Prelude.{◌<◌};

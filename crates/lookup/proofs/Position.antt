@@ -1,17 +1,16 @@
--- Look-up by name: the position is the first place that has the name, and the step of a name stands there. A scan from
--- the top has passed only other names.
-use mathlib.Core.Path.{◌≡◌, refl, sym, ◌∙◌}
-use mathlib.Core.Bool.{cond}
+-- Look-up by name: the position is the first place that has the name, and the step of a name stands there.
+use mathlib.Core.Path.{◌≡◌, refl, sym, ap, ap₂, ◌∙◌}
+use mathlib.Core.Bool.{cond, not}
 use mathlib.Core.List.{List, [], ◌∷◌, map}
 use mathlib.Core.Option as maybe
 use Prim.Native.Nat.{ℕ, ◌+◌, ◌≤◌, ◌<◌}
 use native.Mathlib.Omega.{arith}
-use lib.Dec.{eqb}
+use lib.Dec.{eqb, ltb}
 use lib.ListN.{length, get_or, length-map}
 use borrow.Author.Tests.{eqb-true, eqb-false, eq-eqb, ne_eqb}
-use Rattle.std.specs.Prelude.{false, Some, None}
+use Rattle.std.specs.Prelude as std
+use Rattle.std.specs.Prelude.{false, Option, Some, None}
 use Rattle.std.specs.List.{position_or_len}
-use borrow.Author.Count.{below_more}
 use Rattle.std.proofs.lemmas.Grind.{common_steps}
 use Rattle.std.proofs.lemmas.List.{get_or-map}
 use Rattle.std.proofs.lemmas.List.Sums.{position_or_len_is, fails_before_first}
@@ -19,7 +18,6 @@ use Rattle.std.proofs.lemmas.List.Quantifiers.{position-Some}
 use Rattle.std.proofs.lemmas.List.Recursion as recursion
 use Rattle.route.specs.Steps.{blank, names, lookup}
 use Rattle.route.specs.declared.Step.{Step}
-use Rattle.route.proofs.StepList.{length-names, get_or-names}
 use Rattle.lookup.specs.Position.{position}
 
 -- none of the first i names is n
@@ -65,18 +63,17 @@ module _ (n : ℕ) (l : List ℕ) where
       let none : length l ≤ position_or_len (λ x. eqb x n) l = grind (arith, common_steps) in
       unequal k (fails_before_first (λ x. eqb x n) l k 0 (omega arith))
 
--- the turns of a search through the steps, of which there are `count`; `x` is the name at i
-module _ (n : ℕ) (l : List Step) (i count x : ℕ) (counted : count ≡ length l) (above : Lacks n (names l) i) where
-  pub find-hit : i < count → x ≡ (get_or l i blank).name → x ≡ n → Some i ≡ position n (names l)
-  find-hit h is e =
-      sym (position_is n (names l) i (omega (arith, length-names l)) above (get_or-names l i ∙ sym is ∙ e))
+-- the first place among the names is that of the first step of the name
+first-name : (n : ℕ) (l : List Step)
+    → position_or_len (λ x. eqb x n) (map (λ (s : Step). s.name) l) ≡ position_or_len (λ (s : Step). eqb s.name n) l
+first-name n [] = refl
+first-name n (s ∷ l) = ap (λ (k : ℕ). cond (not (eqb s.name n)) (1 + k) 0) (first-name n l)
 
-  pub find-miss : x ≡ (get_or l i blank).name → (x ≡ n → ⊥) → Lacks n (names l) (i + 1)
-  find-miss is other =
-      below_more (λ k. get_or (names l) k 0 ≡ n → ⊥) i above (λ e. other (is ∙ sym (get_or-names l i) ∙ e))
-
-  pub find-end : count ≤ i → None ≡ position n (names l)
-  find-end past = sym (position-nowhere n (names l) (λ k h. above k (omega (arith, length-names l))))
+pub position_names : (n : ℕ) (l : List Step) (r : Option ℕ) → r ≡ std.position (λ (s : Step). eqb s.name n) l
+    → r ≡ position n (names l)
+unfolding position names
+position_names n l r e =
+    e ∙ sym (ap₂ (λ (p k : ℕ). cond (ltb p k) (Some p) None) (first-name n l) (length-map l (λ (s : Step). s.name)))
 
 -- what the first entry of that key has is what the entry at the key's position has
 module _ {A B : Type 0} (key : A → ℕ) (value : A → B) (find : ℕ → List A → maybe.Option B)

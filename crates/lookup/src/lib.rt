@@ -16,15 +16,11 @@ pub struct Looked {
 }
 
 // From the top.
+#[tactic(auto, using(crate::proofs::Around::steps_fit))]
 pub fn first(steps: &[u64], name: u32) -> Option<usize>
     ensures { result ≡ position name (names (steps_in steps.now)) }
 {
-    for i in 0..flat::count(steps) {
-        if flat::name_at(steps, i) == name {
-            return Some(i);
-        }
-    }
-    None
+    flat::steps(steps).position(|s| s.name == name)
 }
 
 // From `from` to the last, then from the top; a beginning past the last is the top.

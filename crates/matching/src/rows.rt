@@ -22,6 +22,8 @@ fn limited(straight: Option<Marking>, kept: u64) -> bool
 }
 
 // Rows 11 and 12 at the first of the kept that isn't the same in the new route; `line` is that of the first done line.
+// That the kept are among the matches is a clause, here and above: a struct of a mask and a list would be made at each
+// call.
 fn kept_lines(kept: u64, same: u64, matches: &[u64], line: u64) -> Result<(), Refusal>
     requires line_bound { line ≤ 1000 }
     requires by_index { (i : ℕ) → has kept i ≡ true → (i < 64) × (i < length (steps_in matches.now)) }

@@ -23,11 +23,9 @@ pub fn same_mask(pairs: Pairs) -> u64
         → result ≡ same_mask new (done_in pairs.entry) }
 {
     let mut same = 0;
-    for i in 0..flat::count(pairs.occurrences) {
-        if same_data(
-            flat::step_at(pairs.occurrences, i),
-            flat::step_at(pairs.matches, i),
-        ) {
+    let steps = flat::steps(pairs.occurrences).zip(flat::steps(pairs.matches));
+    for (i, (s, t)) in steps.enumerate() {
+        if same_data(s, t) {
             same |= u64::bit(i);
         }
     }

@@ -8,7 +8,8 @@ ghost use Rattle.name_set.specs.Among.{among};
 ghost use Rattle.name_set.specs.inner.Hints.{Hinted};
 ghost use Rattle.flat.specs.Flat.{steps_in};
 
-// One more name, at `place`: the first of its last digit stays.
+// One more name, at `place`: the first of its last digit stays. A hint is a byte, the place and 1, or 0 for none:
+// Options would take two bytes each.
 pub fn add(hint: &mut [u8; 256], name: u32, place: usize)
     requires { place < 64 }
     ensures { (l : List ℕ) → length l ≡ place → Hinted l hint.old

@@ -32,7 +32,8 @@ fn ends_of(steps: &[u64]) -> Ends
     Ends { ins, outs }
 }
 
-// The start, unless row 6 or 7 refuses at the line of the route's head.
+// The start, unless row 6 or 7 refuses at the line of the route's head. Places, steps and line are three plain
+// parameters, here and in `job`: a type for their bounds would be made and taken apart in every function.
 pub fn open(places: u64, steps: &[u64], line: u64) -> Result<Marking, Refusal>
     requires { places ≤ 64 }
     ensures outcome { outcome_of result ≡ net_row line places (steps_in steps.now) }

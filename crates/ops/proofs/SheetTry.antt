@@ -8,9 +8,9 @@ use lib.ListN.{take}
 use borrow.Author.Tests.{eq-eqb}
 use Rattle.facts.specs.Facts.{read_of}
 use Rattle.job.specs.Job.{Job, flat_job}
-use Rattle.order_entries.specs.Entries.{try_stopped}
+use Rattle.route.specs.Firing.{stopped}
 use Rattle.trying.specs.Try.{tried}
-use Rattle.order_entries.specs.declared.Tried.{Tried}
+use Rattle.route.specs.declared.Fired.{Fired}
 use Rattle.reader.specs.inner.Read.{ReadTo}
 use Rattle.reader.specs.Refused.{counts_of}
 use Rattle.reader.specs.declared.Lengths.{Lengths}
@@ -23,15 +23,15 @@ use Rattle.mask.proofs.Truth.{cond_yes, cond_no}
 
 module _ (s order : List ℕ) where
   pub try-refused : (e : Refusal) (old new done : List ℕ) → ReadTo s (counts_of (Err e)) old new done
-      → try_stopped (number_of e.row) e.second ≡ tried_sheet s order
+      → stopped (number_of e.row) e.second ≡ tried_sheet s order
   unfolding tried_sheet tried_facts
   try-refused e old new done k =
-      (λ i. try_stopped (k.number i) (k.second i))
+      (λ i. stopped (k.number i) (k.second i))
       ∙ cond_no _ _ refl (ap (λ (n : ℕ). eqb n 0) (sym k.number) ∙ number-some e.row)
 
   pub try-tried : (c : Lengths) (old new done : List ℕ) → ReadTo s (counts_of (Ok c)) old new done → (j : Job)
       → j ≡ flat_job c.old_places (take (4 * c.old_len) old) c.new_places (take (4 * c.new_len) new) (take c.done_len done)
-      → (t : Tried) → t ≡ tried j order → t ≡ tried_sheet s order
+      → (t : Fired) → t ≡ tried j order → t ≡ tried_sheet s order
   unfolding tried_sheet tried_facts
   try-tried c old new done k j is t e =
       e

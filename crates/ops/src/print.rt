@@ -22,7 +22,7 @@ fn answer(sheet: &[u8], work: &mut [u8]) -> Result<Moved, Refusal>
     judge_checked(lists.job(c), work)
 }
 
-// Any sheet, any work slice, any out slice.
+// Any sheet, any work slice, any out slice: three, as C hands them in.
 pub fn print(sheet: &[u8], work: &mut [u8], out: &mut [u8]) -> Result<usize, Refusal>
     ensures value { wrote_of result ≡ printed sheet.now (length work.old) (length out.old) }
     ensures work_after { work.new ≡ work_printed sheet.now work.old }

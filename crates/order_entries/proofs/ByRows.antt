@@ -12,9 +12,10 @@ use Rattle.refusal.proofs.Answered.{number-some}
 use Rattle.route.specs.declared.Step.{Step}
 use Rattle.precedence.specs.Table.{table}
 use Rattle.matching.specs.Fit.{kept_of}
-use Rattle.order_entries.specs.Entries.{try_stopped, list_row, try_from, try_entries}
+use Rattle.order_entries.specs.Entries.{list_row, try_from, try_entries}
+use Rattle.route.specs.Firing.{stopped}
 use Rattle.order_entries.specs.inner.Replayable.{Replayable}
-use Rattle.order_entries.specs.declared.Tried.{Tried}
+use Rattle.route.specs.declared.Fired.{Fired}
 use Rattle.order_entries.proofs.Row17.{positions}
 use Rattle.order_entries.proofs.Entry.{Answers}
 
@@ -24,19 +25,19 @@ module _ (kept : ℕ) (o : List ℕ) where
 
   module _ (l matches : List Step) (m : ℕ) where
     picked : (w : Outcome) → w ≡ list_row kept 0 1 o → (new : List Step) → kept ≡ kept_of new l
-        → cond (eqb w.number 0) (try_from new l m 1 (positions o)) (try_stopped w.number w.second) ≡ try_entries new l m o
+        → cond (eqb w.number 0) (try_from new l m 1 (positions o)) (stopped w.number w.second) ≡ try_entries new l m o
     unfolding try_entries
     picked w is new kept-is =
-        ap (λ (x : Outcome). cond (eqb x.number 0) (try_from new l m 1 (positions o)) (try_stopped x.number x.second))
+        ap (λ (x : Outcome). cond (eqb x.number 0) (try_from new l m 1 (positions o)) (stopped x.number x.second))
         (is ∙ ap (λ (n : ℕ). list_row n 0 1 o) kept-is)
 
     pub rows-refused : (e : Refusal) → refuse (number_of e.row) e.second ≡ list_row kept 0 1 o → (new : List Step)
-        → Replayable new l kept matches → try_stopped (number_of e.row) e.second ≡ try_entries new l m o
+        → Replayable new l kept matches → stopped (number_of e.row) e.second ≡ try_entries new l m o
     rows-refused e is new ready =
-        ap (λ (t : Bool). cond t (try_from new l m 1 (positions o)) (try_stopped (number_of e.row) e.second))
+        ap (λ (t : Bool). cond t (try_from new l m 1 (positions o)) (stopped (number_of e.row) e.second))
         (sym (number-some e.row))
         ∙ picked _ is new ready.kept-is
 
-    pub rows-tried : (r : Tried) (rows : List ℕ) → pass ≡ list_row kept 0 1 o → rows ≡ table l
+    pub rows-tried : (r : Fired) (rows : List ℕ) → pass ≡ list_row kept 0 1 o → rows ≡ table l
         → Answers o kept rows matches m r → (new : List Step) → Replayable new l kept matches → r ≡ try_entries new l m o
     rows-tried r rows is rows_are answers new ready = answers new l ready rows_are ∙ picked pass is new ready.kept-is

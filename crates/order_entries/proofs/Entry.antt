@@ -16,7 +16,7 @@ use borrow.Author.Tests.{not-true, not-false}
 use Rattle.mask.specs.Mask.{has, bit, within}
 use Rattle.mask.proofs.Truth.{both}
 use Rattle.route.specs.Steps.{blank}
-use Rattle.route.specs.Firing.{can_fire, fire, if_fires}
+use Rattle.route.specs.Firing.{can_fire, fire, if_fires, stopped}
 use Rattle.route.specs.declared.Step.{Step}
 use Rattle.route.specs.declared.Marking.{Marking}
 use Rattle.route.proofs.IfFires.{if_fires-stuck, if_fires-can}
@@ -29,9 +29,9 @@ use Rattle.precedence.proofs.InTurn.{get_or-map-in_turn}
 use Rattle.matching.specs.Fit.{kept_of}
 use Rattle.matching.specs.Straight.{same_data, same_step}
 use Rattle.matching.proofs.Matched.{step_for, matched-at}
-use Rattle.order_entries.specs.Entries.{try_stopped, is_kept, list_row, try_from}
+use Rattle.order_entries.specs.Entries.{is_kept, list_row, try_from}
 use Rattle.order_entries.specs.inner.Replayable.{Replayable}
-use Rattle.order_entries.specs.declared.Tried.{Tried}
+use Rattle.route.specs.declared.Fired.{Fired}
 use Rattle.order_entries.proofs.Row16.{Passed, passed-at, kept-range}
 use Rattle.order_entries.proofs.Row17.{positions, order-test}
 
@@ -47,7 +47,7 @@ matched-step new l i s h same e = go (step_for new l i) refl same
 
 module _ (o : List ℕ) (kept : ℕ) (rows : List ℕ) (steps : List Step) (from : ℕ) where
   -- an answer to the whole order
-  abbrev pub Answers : Tried → Type 0
+  abbrev pub Answers : Fired → Type 0
   Answers r = (new l : List Step) → Replayable new l kept steps → rows ≡ table l
       → r ≡ try_from new l from 1 (positions o)
 
@@ -101,15 +101,15 @@ module _ (o : List ℕ) (kept : ℕ) (rows : List ℕ) (steps : List Step) (from
               ∙ ap (λ (r : ℕ). within (bit_and r kept) placed) (sym row_is)
               ∙ sym test
 
-          unfoldable next : Step → ℕ → Tried
+          unfoldable next : Step → ℕ → Fired
           next s x = try_from new l x (i + 1 + 1) (positions (drop (suc i) o))
 
-          tested : cond t (if_fires m (step_for new l k) (try_stopped 18 (i + 1)) (try_stopped 18 (i + 1)) next)
-              (try_stopped 17 (i + 1)) ≡ try_from new l from 1 (positions o)
+          tested : cond t (if_fires m (step_for new l k) (stopped 18 (i + 1)) (stopped 18 (i + 1)) next)
+              (stopped 17 (i + 1)) ≡ try_from new l from 1 (positions o)
           unfolding try_from next
           tested =
-              ap (λ (b : Bool). cond b (if_fires m (step_for new l k) (try_stopped 18 (i + 1)) (try_stopped 18 (i + 1))
-              next) (try_stopped 17 (i + 1))) (sym test-is)
+              ap (λ (b : Bool). cond b (if_fires m (step_for new l k) (stopped 18 (i + 1)) (stopped 18 (i + 1))
+              next) (stopped 17 (i + 1))) (sym test-is)
               ∙ ap (λ (x : List ℕ). try_from new l m (i + 1) (positions x)) (sym (drop-cons o i 0 h))
               ∙ inv.rest new l ready is
 
@@ -121,21 +121,21 @@ module _ (o : List ℕ) (kept : ℕ) (rows : List ℕ) (steps : List Step) (from
               matched-step new l k s below (ready.all_same k there)
               (e ∙ ap (λ (x : List Step). get_or x k blank) ready.matches-are ∙ matched-at new l k below)
 
-          placed_on : t ≡ true → if_fires m (step_for new l k) (try_stopped 18 (i + 1)) (try_stopped 18 (i + 1)) next
+          placed_on : t ≡ true → if_fires m (step_for new l k) (stopped 18 (i + 1)) (stopped 18 (i + 1)) next
               ≡ try_from new l from 1 (positions o)
           placed_on ok =
-              ap (λ (b : Bool). cond b (if_fires m (step_for new l k) (try_stopped 18 (i + 1)) (try_stopped 18 (i + 1))
-              next) (try_stopped 17 (i + 1))) (sym ok)
+              ap (λ (b : Bool). cond b (if_fires m (step_for new l k) (stopped 18 (i + 1)) (stopped 18 (i + 1))
+              next) (stopped 17 (i + 1))) (sym ok)
               ∙ tested
 
-        pub placed-early : (r : Tried) → not t ≡ true → r ≡ try_stopped 17 (i + 1) → Answers r
+        pub placed-early : (r : Fired) → not t ≡ true → r ≡ stopped 17 (i + 1) → Answers r
         placed-early r off e new l ready is =
-            e ∙ ap (λ (b : Bool). cond b (if_fires m (step_for new l k) (try_stopped 18 (i + 1)) (try_stopped 18 (i + 1))
-            (next new l ready is)) (try_stopped 17 (i + 1))) (sym (not-true t off)) ∙ tested new l ready is
+            e ∙ ap (λ (b : Bool). cond b (if_fires m (step_for new l k) (stopped 18 (i + 1)) (stopped 18 (i + 1))
+            (next new l ready is)) (stopped 17 (i + 1))) (sym (not-true t off)) ∙ tested new l ready is
 
         module _ (ok : not t ≡ false) (s : Step) (s-is : s ≡ get_or steps k blank) (can : Bool)
             (can-is : can ≡ can_fire m s) where
-          pub placed-stuck : (r : Tried) → not can ≡ true → r ≡ try_stopped 18 (i + 1) → Answers r
+          pub placed-stuck : (r : Fired) → not can ≡ true → r ≡ stopped 18 (i + 1) → Answers r
           placed-stuck r off e new l ready is = e
               ∙ sym (if_fires-stuck m (step_for new l k) _ _ (next new l ready is) s (step-for new l ready is s s-is)
               (sym can-is ∙ not-true can off)) ∙ placed_on new l ready is (not-false t ok)

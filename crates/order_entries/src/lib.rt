@@ -1,4 +1,5 @@
-// Rows 16, 17 and 18: the entries of an order.
+// Rows 16, 17 and 18: the entries of an order. An order and what is kept are two values, by the names that 01 gives
+// them; that the kept are among the matches is a clause, as in `matching::rows`.
 #![tactic(auto)]
 
 ghost use Rattle.std.specs.Prelude.{◌≡◌, true, not, ◌&&◌, List, map, ℕ, ◌-◌, ◌≤◌, ◌<◌, length};
@@ -7,40 +8,14 @@ ghost use Rattle.refusal.specs.Refusal.{outcome_of};
 ghost use Rattle.flat.specs.Flat.{steps_in};
 ghost use Rattle.route.specs.declared.Step.{Step};
 ghost use Rattle.precedence.specs.Table.{table};
-ghost use Rattle.order_entries.specs.Entries.{tried_of, is_kept, list_row, try_from, try_entries};
+ghost use Rattle.order_entries.specs.Entries.{is_kept, list_row, try_from, try_entries};
+ghost use Rattle.route.specs.Firing.{fired_of};
 ghost use Rattle.order_entries.specs.inner.Replayable.{Replayable};
 
 use mask::Mask;
 use precedence::table_of;
 use refusal::{Refusal, Row};
 use route::Marking;
-
-// Try's answer in plain numbers: a refusal's two, or 0, 0 and the marking at the end of the order.
-#[derive(Clone, Copy)]
-pub struct Tried {
-    pub number: u32,
-    pub second: u64,
-    pub marking: Marking,
-}
-
-impl From<Result<Marking, Refusal>> for Tried {
-    ghost from_gives = { λ r a. a ≡ tried_of r };
-
-    fn from(r: Result<Marking, Refusal>) -> Tried {
-        match r {
-            Ok(marking) => Tried {
-                number: 0,
-                second: 0,
-                marking,
-            },
-            Err(e) => Tried {
-                number: e.row.number(),
-                second: e.second,
-                marking: Marking { tokens: 0 },
-            },
-        }
-    }
-}
 
 // Occurrence number b is kept, and is not seen yet.
 fn fresh(kept: u64, seen: u64, b: usize) -> bool
@@ -79,7 +54,7 @@ fn fire_list(
     requires order_value { (list_row kept 0 1 order.now).number ≡ 0 }
     requires by_index { (i : ℕ) → has kept i ≡ true → i < length (steps_in matches.now) }
     ensures { (new l : List Step) → Replayable new l kept (steps_in matches.now) → rows ≡ table l
-        → tried_of result ≡ try_from new l from.tokens 1 (map (λ (b : ℕ). b - 1) order.now) }
+        → fired_of result ≡ try_from new l from.tokens 1 (map (λ (b : ℕ). b - 1) order.now) }
 {
     let mut placed = 0;
     let mut m = from;
@@ -111,7 +86,7 @@ pub fn by_rows(
     requires by_index { (i : ℕ) → has kept i ≡ true → i < length (steps_in matches.now) }
     ensures { (new : List Step)
         → Replayable new (steps_in occurrences.now) kept (steps_in matches.now)
-        → tried_of result ≡ try_entries new (steps_in occurrences.now) from.tokens order.now }
+        → fired_of result ≡ try_entries new (steps_in occurrences.now) from.tokens order.now }
 {
     check_list(order, kept)?;
     let rows = table_of(occurrences);

@@ -7,7 +7,8 @@ ghost use Rattle.out_slice.specs.OutSlice.{wrote_of, wrote_text, out_with};
 
 use refusal::{Refusal, Row};
 
-// What a write answers in plain numbers: 0, 0 and the bytes written; or a refusal's two, and nothing written.
+// What a write answers in plain numbers, as 01 says it and C stores it: 0, 0 and the bytes written; or a refusal's two,
+// and nothing written.
 #[derive(Clone, Copy)]
 pub struct Wrote {
     pub number: u32,

@@ -101,7 +101,11 @@ module _ (v : Version) (s list₀ list : List ℕ) (from lines₀ : ℕ) (outcom
             (more-refused _ lines outcome (with_dones len list z) (with_dones len list z) z₀);
       }
 
-  module _ (z₀ : outcome.number ≡ 0) (o : Outcome) (row : o ≡ done_row v (lines + 1) len n.value) where
+  module _ (z₀ : outcome.number ≡ 0) (numbers : Version) (same : numbers ≡ v) (o : Outcome)
+      (told : o ≡ done_row numbers (lines + 1) len n.value) where
+    row : o ≡ done_row v (lines + 1) len n.value
+    row = told ∙ ap (λ (x : Version). done_row x (lines + 1) len n.value) same
+
     done_more : (z : Sheet) → z.number ≡ 0 → more (λ i x. done_in v i n.value x)
         (passed lines outcome (with_dones len list z))
         ≡ passed (lines + 1) o (with_dones (len + 1) (set list len n.value) z)
@@ -129,11 +133,11 @@ module _ (v : Version) (s list₀ list : List ℕ) (from lines₀ : ℕ) (outcom
         (head_passed _ [] (head_passed (unless (ltb len 64) 4 (lines + 1)) _
         (ap (λ (x : Outcome). eqb x.number 0) (sym row) ∙ eq-eqb o.number 0 z₁)).1).0
 
-    pub named-name : o.number ≡ 0 → Named v s list₀ (set list len (n.value % 4294967296)) from lines₀ outcome₀ o
-        (lines + 1) n.at (len + 1)
-    named-name z₁ =
-        let same : n.value ≡ n.value % 4294967296 =
-        omega (arith, name-stored v h.limits n.value (done-fits z₁)) in
+    pub named-name : o.number ≡ 0 → (name : ℕ) → name ≡ n.value % 4294967296
+        → Named v s list₀ (set list len name) from lines₀ outcome₀ o (lines + 1) n.at (len + 1)
+    named-name z₁ name name-is =
+        let same : n.value ≡ name =
+        omega (arith, name-is, name-stored v h.limits n.value (done-fits z₁)) in
         record {
           limits = h.limits;
           within = hn.within;

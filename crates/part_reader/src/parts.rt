@@ -1,4 +1,5 @@
-// The parts of a sheet in turn: a head, the steps below it, the done lines. Each ends where the layout breaks.
+// The parts of a sheet in turn: a head, the steps below it, the done lines. Each ends where the layout breaks. Version,
+// bytes and where reading stands are three, as in `tokens`.
 ghost use Rattle.std.specs.Prelude.{◌≡◌, ◌≤◌, replicate};
 ghost use Rattle.refusal.specs.Refusal.{outcome_of};
 ghost use Rattle.flat.specs.Flat.{steps_in};
@@ -7,6 +8,7 @@ ghost use Rattle.part_reader.specs.inner.Prefix.{Placed, OldOn, NewOn, JobOn, St
 use crate::{Filled, Head, Pass};
 use line_reader::reading::{numbered, step, stepping};
 use line_reader::rows::{done_row, head_row, job_row, new_row, step_of, step_row};
+use route::steps::low;
 use tokens::texts::text;
 use tokens::{Broken, texts};
 use version::Version;
@@ -105,6 +107,7 @@ pub fn dones(v: Version, s: &[u8], p: Pass, list: &mut [u32; 64]) -> Result<Fill
     requires { Placed s.now p }
     ensures { DonesOn v s.now p result list.old list.new }
 {
+    let numbers = v.numbers;
     let w = texts::DONE;
     let mut rows = p.rows;
     let mut lines = p.lines;
@@ -117,11 +120,11 @@ pub fn dones(v: Version, s: &[u8], p: Pass, list: &mut [u32; 64]) -> Result<Fill
         if rows.is_err() {
             continue;
         }
-        rows = done_row(v, len, n.value, lines);
+        rows = done_row(numbers, len, n.value, lines);
         if rows.is_err() {
             continue;
         }
-        list[len] = (n.value % 4294967296) as u32;
+        list[len] = low(n.value);
         len += 1;
     }
     Ok(Filled {

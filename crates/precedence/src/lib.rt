@@ -46,7 +46,8 @@ fn only(cloth: bool, m: u64) -> u64
 }
 
 // An occurrence's own write comes before its read here, so that its own bit is taken off its row. `cut` holds the
-// occurrences so far that cut cloth.
+// occurrences so far that cut cloth. That the list has at most 64 is a clause, here and above: a struct of one list and
+// its bound would be made at each call.
 pub fn table_of(occurrences: &[u64]) -> [u64; 64]
     requires { length (steps_in occurrences.now) ≤ 64 }
     ensures { result ≡ table (steps_in occurrences.now) }
@@ -55,8 +56,7 @@ pub fn table_of(occurrences: &[u64]) -> [u64; 64]
     let mut writers = [0u64; 32];
     let mut readers = [0u64; 32];
     let mut cut = 0u64;
-    for i in 0..flat::count(occurrences) {
-        let s = flat::step_at(occurrences, i);
+    for (i, s) in flat::steps(occurrences).enumerate() {
         let own = u64::bit(i);
         let users = after_writes(&readers, &mut writers, s.writes, own);
         let sources = after_reads(&writers, &mut readers, s.reads, own);

@@ -15,7 +15,8 @@ use Rattle.refusal.proofs.Rows.{cond-zero-elim}
 use Rattle.route.specs.declared.Step.{Step}
 use Rattle.job.specs.Job.{Job, job_line, new_start}
 use Rattle.job.specs.Lines.{line_rows, LinesPass}
-use Rattle.running.specs.Run.{ran, ran_of, performed}
+use Rattle.running.specs.Run.{ran, performed}
+use Rattle.route.specs.Firing.{fired_of}
 use Rattle.finding.specs.inner.Gathering.{Gathers}
 use Rattle.finding.specs.declared.Gathered.{Gathered}
 use Rattle.job.proofs.Rows.{pass_fits}
@@ -51,7 +52,7 @@ module _ (j : Job) where
   lines-refused e is = line-ends refuse job_rows j e is
 
   -- a row from 6 to 9 refuses
-  pub run-refused : (e : Refusal) → ran_of (Err e) ≡ ran j → refuse (number_of e.row) e.second ≡ rows_to12 j
+  pub run-refused : (e : Refusal) → fired_of (Err e) ≡ ran j → refuse (number_of e.row) e.second ≡ rows_to12 j
   unfolding rows_to12
   run-refused e is = run_ends refuse job_rows j e is
 
@@ -61,7 +62,7 @@ module _ (j : Job) where
 
   -- the done list has run; `line` is that of `(job)`
   module _
-      (g : Gathered) (is : ran_of (Ok g.begun.marking) ≡ ran j) (occurrences matches : List ℕ)
+      (g : Gathered) (is : fired_of (Ok g.begun.marking) ≡ ran j) (occurrences matches : List ℕ)
       (gathers : Gathers j g occurrences matches) (lines : LinesPass j) where
     runs : (ran j).number ≡ 0
     runs = run-passes j _ is

@@ -25,7 +25,7 @@ use slice::sweeping::keep;
 use slice::variables::variables_of;
 
 // A job that no row to 12 refuses: the line of `(job)`, the new route's start, where the straight list ends, the kept
-// occurrences, and the new route's variables.
+// occurrences, and the new route's variables. The pairs that it was made from go beside it.
 #[derive(Clone, Copy)]
 pub struct Prepared {
     pub line: u64,

@@ -1,66 +1,43 @@
--- A route by value of a list of steps, copied one by one.
+-- A route by value of a list of steps: an array made by a call at each place, which gives the step there.
 -- Assumes nothing.
-use mathlib.Core.Path.{◌≡◌, refl, sym, ap, ap₂, ◌∙◌}
-use mathlib.Core.List.{List, [], ◌∷◌, ◌++◌}
-use Prim.Native.Nat.{ℕ, ◌+◌, ◌≤◌, ◌<◌}
+use mathlib.Core.Path.{◌≡◌, sym, ap, ◌∙◌}
+use mathlib.Core.List.{List}
+use Prim.Native.Nat.{ℕ, zero, suc, ◌+◌, ◌<◌}
 use native.Mathlib.Omega.{arith}
-use native.Mathlib.Numerals.{add-one}
-use lib.ListN.{length, get_or, take, set, length-set, length-replicate}
-use lib.Seq.{take-suc, take-suc-set, take_all}
-use Rattle.route.specs.Steps.{blank, no_route}
+use denote.Param.Members.{Mut, Called}
+use lib.ListN.{length, get_or}
+use Rattle.std.specs.Array.{IsFromFnResult, IsFromFnResultFrom}
+use Rattle.std.proofs.lemmas.List.{same_lists, get_or_default}
+use Rattle.route.specs.Steps.{blank}
 use Rattle.flat.specs.Flat.{steps_in}
 use Rattle.route.specs.declared.Step.{Step}
-use Rattle.route.specs.declared.Route.{Route}
 use Rattle.flat.proofs.FlatSteps.{length-flat}
-use Rattle.reader.specs.inner.Read.{route_in}
-
-pub record Copied (places len : ℕ) (l : List Step) (r : Route) (i : ℕ) : Type 0 where
-  pub few : i ≤ 64
-  pub places_is : r.places ≡ places
-  pub len_is : r.len ≡ len
-  pub long : length r.steps ≡ 64
-  pub whole : 0 < i → length l ≡ 64
-  pub same : take i r.steps ≡ take i l
-
-pub copied-init : (places len : ℕ) (l : List Step) (e : Route) → e ≡ no_route
-    → Copied places len l (record { places = places; len = len; steps = e.steps }) 0
-copied-init places len l e is = record {
-  few = omega arith;
-  places_is = refl;
-  len_is = refl;
-  long = ap (λ (x : Route). length x.steps) is ∙ length-replicate {A = Step} 64 blank;
-  whole =
-      λ z. absurd (omega (arith, z));
-  same = refl;
-}
 
 pub steps-room : (list : List ℕ) (i : ℕ) → length list ≡ 256 → i < 64 → i < length (steps_in list)
 steps-room list i h r = omega (arith, length-flat list, h)
 
-pub copied-step : (places len : ℕ) (list : List ℕ) (r : Route) (i : ℕ) (s : Step) → Copied places len (steps_in list) r i
-    → length list ≡ 256 → i < 64 → s ≡ get_or (steps_in list) i blank
-    → Copied places len (steps_in list) (record { places = r.places; len = r.len; steps = set r.steps i s }) (i + 1)
-copied-step places len list r i s h room less is =
-    record {
-      few = omega (arith, less);
-      places_is = h.places_is;
-      len_is = h.len_is;
-      long = length-set r.steps i s ∙ h.long;
-      whole = λ _. omega (arith, length-flat list, room);
-      same =
-          ap (λ (n : ℕ). take n (set r.steps i s)) (add-one i)
-          ∙ take-suc-set r.steps i s (omega (arith, h.long, less))
-          ∙ ap₂ (λ (a : List Step) (b : Step). a ++ (b ∷ [])) h.same is
-          ∙ sym (take-suc (steps_in list) i blank (steps-room list i room less))
-          ∙ sym (ap (λ (n : ℕ). take n (steps_in list)) (add-one i));
-    }
+-- a call at i gives the step at i, and keeps what the next call needs
+module _ {F : Type 0} (g : Mut F (ℕ × Unit {0}) Step) (Keeps : F → Type 0) (l : List Step)
+    (gives : (f q : F) (i : ℕ) (s : Step) → Keeps f → Called g f (i, tt) s q → Keeps q × (s ≡ get_or l i blank)) where
+  made_from : (f : F) (ys : List Step) (i n : ℕ) → Keeps f → IsFromFnResultFrom g f ys i n → (k : ℕ) → k < n
+      → get_or ys (i + k) blank ≡ get_or l (i + k) blank
+  made_from f ys i zero h c k less = absurd (omega (arith, less))
+  made_from f ys i (suc n) h c zero less =
+      let here : i + 0 ≡ i = omega arith in
+      ap (λ (x : ℕ). get_or ys x blank) here ∙ c.2.1 blank ∙ (gives f c.0 i c.1 h c.3).1
+      ∙ ap (λ (x : ℕ). get_or l x blank) (sym here)
+  made_from f ys i (suc n) h c (suc k) less =
+      let on : i + suc k ≡ (i + 1) + k = omega arith in
+      ap (λ (x : ℕ). get_or ys x blank) on
+      ∙ made_from c.0 ys (i + 1) n (gives f c.0 i c.1 h c.3).0 c.4 k (omega (arith, less))
+      ∙ ap (λ (x : ℕ). get_or l x blank) (sym on)
 
-pub copied-done : (places len : ℕ) (l : List Step) (r : Route) (i : ℕ) → Copied places len l r i → 64 ≤ i
-    → r ≡ route_in places len l
-copied-done places len l r i h over =
-    λ j. record {
-      places = h.places_is j;
-      len = h.len_is j;
-      steps = (sym (take_all i r.steps (omega (arith, h.long, over))) ∙ h.same
-          ∙ take_all i l (omega (arith, h.whole (omega (arith, over)), over))) j;
-    }
+  pub made : (f : F) (ys : List Step) (n : ℕ) → Keeps f → length l ≡ n → IsFromFnResult g f ys n → ys ≡ l
+  made f ys n h long c =
+      same_lists ys l (c.long ∙ sym long)
+      (λ k d less. let here : k ≡ 0 + k = omega arith in
+      get_or_default ys k d blank less
+      ∙ ap (λ (x : ℕ). get_or ys x blank) here
+      ∙ made_from f ys 0 n h c.each k (omega (arith, less, c.long))
+      ∙ ap (λ (x : ℕ). get_or l x blank) (sym here)
+      ∙ get_or_default l k blank d (omega (arith, less, c.long, long)))

@@ -20,7 +20,7 @@ pub struct Lengths {
     pub done_len: usize,
 }
 
-// The same in plain numbers: a refusal's two, or 0, 0 and the counts.
+// The same in plain numbers, as 01 says it: a refusal's two, or 0, 0 and the counts.
 #[derive(Clone, Copy)]
 pub struct Counts {
     pub number: u32,

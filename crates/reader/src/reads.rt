@@ -9,19 +9,18 @@ use crate::lists::{Lists, read_lists_by};
 use facts::Records;
 use refusal::Refusal;
 use route::Route;
+use std::array;
 use version::Version;
 
-// A route by value of the steps in 256 numbers.
+// A route by value of the steps in 256 numbers: how many count stands beside them, as in the record.
 fn route_in(places: u64, len: usize, list: &[u64; 256]) -> Route
     ensures { result ≡ route_in places len (steps_in list.now) }
 {
-    let mut r = Route::empty();
-    r.places = places;
-    r.len = len;
-    for i in 0..Route::STEPS {
-        r.steps[i] = flat::step_at(list, i);
+    Route {
+        places,
+        len,
+        steps: array::from_fn(|i| flat::step_at(list, i)),
     }
-    r
 }
 
 fn read_by(v: Version, sheet: &[u8]) -> Result<Records, Refusal>

@@ -51,7 +51,7 @@ pub struct Refusal {
     pub second: u64,
 }
 
-// 0 and 0 where nothing is refused.
+// A refusal in plain numbers, as 01 says it: 0 and 0 where nothing is refused.
 #[derive(Clone, Copy)]
 pub struct Outcome {
     pub number: u32,

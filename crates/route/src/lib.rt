@@ -1,5 +1,10 @@
-// A route by value, its steps and its marking.
+// A route by value, its steps, its marking, and firing's answer.
 #![tactic(auto)]
+
+ghost use Rattle.std.specs.Prelude.{◌≡◌};
+ghost use Rattle.route.specs.Firing.{fired_of};
+
+use refusal::Refusal;
 
 pub mod firing;
 pub mod steps;
@@ -15,7 +20,8 @@ pub struct Step {
     pub writes: u32,
 }
 
-// The first `len` of the steps. A length over 64 is that of a list that was too long.
+// The first `len` of the steps: 64 and a length, by the rule of fixed memory and no heap, here and in what is made of
+// routes. A length over 64 is that of a list that was too long.
 #[derive(Clone, Copy)]
 pub struct Route {
     pub places: u64,
@@ -29,9 +35,30 @@ pub struct Marking {
     pub tokens: u64,
 }
 
+// What fires answers in plain numbers, as 01 says it and C stores it: a refusal's two, or 0, 0 and the marking
+// at the end.
 #[derive(Clone, Copy)]
 pub struct Fired {
     pub number: u32,
     pub second: u64,
     pub marking: Marking,
+}
+
+impl From<Result<Marking, Refusal>> for Fired {
+    ghost from_gives = { λ r a. a ≡ fired_of r };
+
+    fn from(r: Result<Marking, Refusal>) -> Fired {
+        match r {
+            Ok(marking) => Fired {
+                number: 0,
+                second: 0,
+                marking,
+            },
+            Err(e) => Fired {
+                number: e.row.number(),
+                second: e.second,
+                marking: Marking { tokens: 0 },
+            },
+        }
+    }
 }

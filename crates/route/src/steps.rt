@@ -4,7 +4,7 @@ ghost use Rattle.route.specs.Steps.{blank, no_route};
 
 use crate::{Route, Step};
 
-// The lowest 32 bits.
+// The lowest 32 bits, by a mask: a cast may lose nothing (`overflow_cast-result`).
 pub fn low(n: u64) -> u32
     ensures { result ≡ n % 4294967296 }
 {
@@ -28,7 +28,7 @@ impl Step {
         Step::BLANK
     }
 
-    // The record of a mark and five numbers, the name and the variables by their lowest 32 bits.
+    // The record of a mark and five numbers, as a caller has them: the name and the variables by their lowest 32 bits.
     pub fn of(name: u64, cloth: bool, ins: u64, outs: u64, reads: u64, writes: u64) -> Step
         ensures { result ≡ record {
           name = name % 4294967296;

@@ -5,7 +5,7 @@ use lib.Dec.{eqb}
 use Rattle.job.specs.Job.{Job, cut}
 use Rattle.job.proofs.LongLists.{Refused, checked-alike, checked-off, laid-alike}
 use Rattle.running.specs.Run.{ran}
-use Rattle.running.specs.declared.Ran.{Ran}
+use Rattle.route.specs.declared.Fired.{Fired}
 
 module _ (j k : Job) (r : Refused j k) where
   pub ran-alike : ran j ≡ ran k
@@ -16,5 +16,5 @@ module _ (j k : Job) (r : Refused j k) where
   unfolding ran
   ran-off = rw (checked-off j k r) (checked-off j k r)
 
-pub ran_cut : (j k : Job) → k ≡ cut j → (r : Ran) → r ≡ ran k → r ≡ ran j
+pub ran_cut : (j k : Job) → k ≡ cut j → (r : Fired) → r ≡ ran k → r ≡ ran j
 ran_cut = laid-alike ran ran-alike

@@ -2,44 +2,33 @@
 use Rattle.std.specs.Prelude.{◌≡◌, cond, List, [], ◌∷◌, map, ℕ, ◌+◌, eqb, Result, Ok, Err}
 use Rattle.std.proofs.Math.Option.{get_or}
 use Rattle.refusal.specs.declared.Refusal.{Refusal}
-use Rattle.refusal.specs.Refusal.{number_of}
-use Rattle.route.specs.declared.Marking.{Marking}
 use Rattle.route.specs.Steps.{blank, names, lookup}
 use Rattle.lookup.specs.Around.{compared_all}
 use Rattle.flat.specs.Flat.{Holds}
-use Rattle.route.specs.Firing.{if_fires}
+use Rattle.route.specs.Firing.{if_fires, stopped, reached, fired_of}
 use Rattle.route.specs.declared.Step.{Step}
 use Rattle.job.specs.Job.{Job, job_line, old_start, new_start}
 use Rattle.job.specs.Lines.{checked}
-use Rattle.running.specs.declared.Ran.{Ran}
+use Rattle.route.specs.declared.Fired.{Fired}
 use Rattle.running.specs.declared.Begun.{Begun}
 
--- a refusal: its number and second number, all else 0
-abbrev pub stopped : ℕ → ℕ → Ran
-stopped n k = record { number = n; second = k; marking = record { tokens = 0 } }
-
--- run's answer in numbers
-abbrev pub ran_of : Result Marking Refusal → Ran
-ran_of (Ok m) = record { number = 0; second = 0; marking = m }
-ran_of (Err e) = stopped (number_of e.row) e.second
-
--- the same of what stands after row 9
-abbrev pub begun_ran : Result Begun Refusal → Ran
-begun_ran (Ok b) = ran_of (Ok b.marking)
-begun_ran (Err e) = ran_of (Err e)
+-- run's answer in numbers, of what stands after row 9
+abbrev pub begun_ran : Result Begun Refusal → Fired
+begun_ran (Ok b) = fired_of (Ok b.marking)
+begun_ran (Err e) = fired_of (Err e)
 
 -- the steps done: for each done name the route's step, whose reads, writes and mark are the occurrence's
 unfoldable pub performed : List Step → List ℕ → List Step
 performed steps done = map (λ (n : ℕ). get_or (lookup n steps) blank) done
 
 -- 8: name not in the old route; 9: can't fire; else the next line from the next marking
-unfoldable pub run_from : List Step → ℕ → ℕ → List ℕ → Ran
-run_from steps m line [] = record { number = 0; second = 0; marking = record { tokens = m } }
+unfoldable pub run_from : List Step → ℕ → ℕ → List ℕ → Fired
+run_from steps m line [] = reached m
 run_from steps m line (n ∷ l) = if_fires m (lookup n steps) (stopped 8 line) (stopped 9 line)
     (λ s m'. run_from steps m' (line + 1) l)
 
 -- the operation run: the rows to 7, then the done lines from the old route's start
-unfoldable pub ran : Job → Ran
+unfoldable pub ran : Job → Fired
 ran j =
     cond (eqb (checked j).number 0)
     (run_from j.old (old_start j) (job_line j + 1) j.done)

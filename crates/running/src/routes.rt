@@ -1,6 +1,7 @@
 // The operation run, on records.
 ghost use Rattle.std.specs.Prelude.{◌≡◌};
-ghost use Rattle.running.specs.Run.{ran, ran_of};
+ghost use Rattle.running.specs.Run.{ran};
+ghost use Rattle.route.specs.Firing.{fired_of};
 
 use crate::lists::run_lists;
 use job::laying::Lay;
@@ -10,7 +11,7 @@ use route::Marking;
 // The rows to 9, and the old route's marking.
 #[tactic(auto, using(crate::proofs::LongLists::ran_cut))]
 pub fn run<J: Lay>(job: &J) -> Result<Marking, Refusal>
-    ensures { ran_of result ≡ ran (J.job job.now) }
+    ensures { fired_of result ≡ ran (J.job job.now) }
 {
     let mut a = [0u64; 260];
     let mut b = [0u64; 260];

@@ -5,39 +5,51 @@ use crate::step;
 use mask::Mask;
 use route::{Route, Step};
 
-fn moved(m: u64, down: bool) -> u64 {
-    if down { m >> 1 } else { m << 1 }
+// Whether each step of a row lies one place further on than the one before, or one place back.
+#[derive(Clone, Copy)]
+enum Way {
+    On,
+    Back,
 }
 
-// The next name, one place on or back, and the next variable.
-fn next(s: Step, down: bool) -> Step {
-    step(
-        std::num::wrapping_add_u32(s.name, 1),
-        moved(s.ins, down),
-        moved(s.outs, down),
-        0,
-        s.writes << 1,
-    )
+impl Way {
+    fn moved(self, m: u64) -> u64 {
+        match self {
+            Way::On => m << 1,
+            Way::Back => m >> 1,
+        }
+    }
+
+    // The next name, the next place, and the next variable.
+    fn next(self, s: Step) -> Step {
+        step(
+            std::num::wrapping_add_u32(s.name, 1),
+            self.moved(s.ins),
+            self.moved(s.outs),
+            0,
+            s.writes << 1,
+        )
+    }
 }
 
 // n steps, each the next of the one before.
-fn row(n: usize, first: Step, down: bool) -> Route
+fn row(n: usize, first: Step, way: Way) -> Route
     requires { n ≤ 64 }
 {
     let mut r = Route::empty();
     r.places = n as u64 + 1;
     r.len = n;
-    let mut s = first;
-    for i in 0..n {
-        r.steps[i] = s;
-        s = next(s, down);
+    let mut next = first;
+    for s in &mut r.steps[..n] {
+        *s = next;
+        next = way.next(next);
     }
     r
 }
 
 // Step i, named 100 + i, goes from place i to place i + 1: 64 places, 63 steps.
 pub fn chain() -> Route {
-    row(63, step(100, 1, 2, 0, 0), false)
+    row(63, step(100, 1, 2, 0, 0), Way::On)
 }
 
 // The chain, and one step more that loops on its last place.
@@ -52,7 +64,7 @@ pub fn full() -> Route {
 pub fn line(n: usize) -> Route
     requires { n ≤ 32 }
 {
-    row(n, step(100, 1, 2, 0, 1), false)
+    row(n, step(100, 1, 2, 0, 1), Way::On)
 }
 
 // The names of `line(17)`.
@@ -67,13 +79,13 @@ pub fn turned(n: usize) -> Route
     requires { n ≤ 32 }
 {
     let last = u64::bit(n);
-    row(n, step(100, last >> 1, last, 0, 1), true)
+    row(n, step(100, last >> 1, last, 0, 1), Way::Back)
 }
 
 // The steps of `line(16)` side by side, but the last waits for a step that isn't done: no order of the 16 fires, and
 // every set of the other 15 can be reached.
 pub fn stuck() -> Route {
-    let mut r = row(16, step(100, 1, 1 << 16, 0, 1), false);
+    let mut r = row(16, step(100, 1, 1 << 16, 0, 1), Way::On);
     r.places = 34;
     r.len = 17;
     r.steps[15].ins = 1 << 32;

@@ -1,5 +1,5 @@
 // 01's examples as records. Place p is bit p, variable v is bit v.
-use crate::{one, step, three, two};
+use crate::{route_of, step};
 use job::laying::RouteJob;
 use route::{Route, Step};
 
@@ -27,7 +27,7 @@ fn job(old: Route, new: Route, done: &'static [u32]) -> Sample {
 
 // Two steps, and 30, which reads what they write.
 fn before_30(a: Step, b: Step) -> Route {
-    three(4, a, b, step(30, 4, 8, 3, 4))
+    route_of(4, [a, b, step(30, 4, 8, 3, 4)])
 }
 
 pub fn a_old() -> Route {
@@ -47,11 +47,11 @@ fn d_new() -> Route {
 }
 
 fn e_new() -> Route {
-    two(3, step(20, 1, 2, 0, 2), step(30, 2, 4, 3, 4))
+    route_of(3, [step(20, 1, 2, 0, 2), step(30, 2, 4, 3, 4)])
 }
 
 fn f_new() -> Route {
-    two(3, step(20, 1, 2, 0, 2), step(30, 2, 4, 2, 4))
+    route_of(3, [step(20, 1, 2, 0, 2), step(30, 2, 4, 2, 4)])
 }
 
 fn g_new() -> Route {
@@ -100,16 +100,16 @@ pub fn i() -> Sample {
 }
 
 pub fn j() -> Sample {
-    let r = two(3, step(10, 1, 4, 0, 0), step(20, 2, 4, 0, 0));
+    let r = route_of(3, [step(10, 1, 4, 0, 0), step(20, 2, 4, 0, 0)]);
     job(r, r, &[10, 20])
 }
 
 pub fn k() -> Sample {
-    let r = two(2, step(10, 1, 2, 0, 0), step(20, 2, 2, 0, 1));
+    let r = route_of(2, [step(10, 1, 2, 0, 0), step(20, 2, 2, 0, 1)]);
     job(r, r, &[10, 20, 20])
 }
 
 pub fn l() -> Sample {
-    let r = one(2, step(10, 1, 3, 0, 0));
+    let r = route_of(2, [step(10, 1, 3, 0, 0)]);
     job(r, r, &[])
 }

@@ -2,6 +2,8 @@
 // answer is printed.
 #![tactic(auto)]
 
+ghost use Rattle.std.specs.Prelude.{◌≤◌};
+
 use route::{Route, Step};
 
 pub mod chains;
@@ -12,24 +14,12 @@ pub fn step(name: u32, ins: u64, outs: u64, reads: u32, writes: u32) -> Step {
     Step::of(name as u64, false, ins, outs, reads as u64, writes as u64)
 }
 
-pub fn one(places: u64, a: Step) -> Route {
+pub fn route_of<const N: usize>(places: u64, steps: [Step; N]) -> Route
+    requires { N ≤ 64 }
+{
     let mut r = Route::empty();
     r.places = places;
-    r.len = 1;
-    r.steps[0] = a;
-    r
-}
-
-pub fn two(places: u64, a: Step, b: Step) -> Route {
-    let mut r = one(places, a);
-    r.len = 2;
-    r.steps[1] = b;
-    r
-}
-
-pub(crate) fn three(places: u64, a: Step, b: Step, c: Step) -> Route {
-    let mut r = two(places, a, b);
-    r.len = 3;
-    r.steps[2] = c;
+    r.len = N;
+    r.steps[..N].copy_from_slice(&steps);
     r
 }

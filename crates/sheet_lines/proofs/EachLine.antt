@@ -20,25 +20,39 @@ pub record Lined {A : Type 0} (lines : List A → List ℕ) (line : A → List �
   pub on : (x : A) (l : List A) → lines (x ∷ l) ≡ line x ++ lines l
   pub over : lines [] ≡ []
 
+module _ {A : Type 0} {lines : List A → List ℕ} {line : A → List ℕ} (lined : Lined lines line) (l : List A)
+    {o u o₀ : List ℕ} {n n₀ : ℕ} (left : Left (lines l) o n u o₀ n₀) where
+  pub none-left : l ≡ [] → Emits u o₀ n₀ o n
+  none-left e = left_end (left_as (ap lines e ∙ lined.over) left)
+
+  module _ (x : A) (k : List A) (is : l ≡ x ∷ k) where
+    first : Left (line x ++ lines k) o n u o₀ n₀
+    first = left_as (ap lines is ∙ lined.on x k) left
+
+    pub first-room : Room (line x) o n
+    first-room = left-room _ _ first
+
+    pub first_turn : {p : List ℕ} {m : ℕ} → Emits (line x) o n p m → Left (lines k) p m u o₀ n₀
+    first_turn w = left-turn first w
+
+-- the same, where l is a list's entries from the i-th on
 module _ {A : Type 0} {lines : List A → List ℕ} {line : A → List ℕ} (lined : Lined lines line) (d : A) (l : List A)
     (i count : ℕ) (counted : count ≡ length l) {o u o₀ : List ℕ} {n n₀ : ℕ}
     (left : Left (lines (drop i l)) o n u o₀ n₀) where
   pub each-end : count ≤ i → Emits u o₀ n₀ o n
-  each-end h = left_end (left_as (ap lines (drop_of_length-le l {i = i} (omega arith)) ∙ lined.over) left)
+  each-end h = none-left lined (drop i l) left (drop_of_length-le l {i = i} (omega arith))
 
   -- x is the entry at i
   module _ (more : i < count) (x : A) (is : x ≡ get_or l i d) where
-    here : Left (line x ++ lines (drop (i + 1) l)) o n u o₀ n₀
-    here =
-        left_as
-        (ap lines (drop-cons l i d (omega arith) ∙ ap (λ (y : A). y ∷ drop (suc i) l) (sym is)
-        ∙ ap (λ (k : ℕ). x ∷ drop k l) (sym (add-one i))) ∙ lined.on x (drop (i + 1) l)) left
+    here : drop i l ≡ x ∷ drop (i + 1) l
+    here = drop-cons l i d (omega arith) ∙ ap (λ (y : A). y ∷ drop (suc i) l) (sym is)
+        ∙ ap (λ (k : ℕ). x ∷ drop k l) (sym (add-one i))
 
     pub each-room : Room (line x) o n
-    each-room = left-room _ _ here
+    each-room = first-room lined (drop i l) left x (drop (i + 1) l) here
 
     pub each_turn : {p : List ℕ} {m : ℕ} → Emits (line x) o n p m → Left (lines (drop (i + 1) l)) p m u o₀ n₀
-    each_turn w = left-turn here w
+    each_turn w = first_turn lined (drop i l) left x (drop (i + 1) l) here w
 
 abbrev pub form_lines : List Step → List ℕ
 form_lines l = step_lines (map form_of l) []

@@ -1,4 +1,5 @@
-// Emitters of a sheet's lines, each line from its opening bracket to its LF. There is room for them, as for `emit`'s.
+// Emitters of a sheet's lines, each line from its opening bracket to its LF. There is room for them, as for `emit`'s,
+// and `out` and `at` are two, as there.
 #![tactic(auto)]
 
 ghost use Rattle.std.specs.Prelude.{[], map};
@@ -102,10 +103,8 @@ fn step_lines(out: &mut [u8], at: usize, steps: &[u64]) -> usize
     ensures { Emits (step_lines (map form_of (steps_in steps.now)) [])
         out.old at out.new result }
 {
-    let n = flat::count(steps);
     let mut p = at;
-    for i in 0..n {
-        let s = flat::step_at(steps, i);
+    for s in flat::steps(steps) {
         p = step_line(out, p, s);
     }
     p

@@ -1,21 +1,22 @@
 -- The numbers on a shelf, as the loops over them leave them.
 use mathlib.Core.Path.{◌≡◌, refl, sym, ap, ap₂, ◌∙◌}
 use mathlib.Core.Bool.{Bool, true, false, not, ◌&&◌}
-use mathlib.Core.List.{List, [], ◌∷◌, ◌++◌}
+use mathlib.Core.List.{List, [], ◌∷◌, map}
+use denote.Ref.{Bor}
 use Prim.Native.Nat.{ℕ, zero, suc, ◌+◌, ◌-◌, ◌≤◌, ◌<◌}
 use native.Mathlib.Omega.{arith}
 use native.Mathlib.Numerals.{add-one}
-use borrow.Author.Tests.{not-true, not-false, lt-ltb, le-ltb, le-leb, lt-leb}
+use borrow.Author.Tests.{not-true, not-false, lt-ltb, le-ltb}
 use lib.Dec.{ltb, leb}
-use lib.ListN.{length, take, drop, get_or, set, length-map, drop_of_length-le}
-use lib.Seq.{drop-cons, take_all, take-suc, take-suc-set}
+use lib.ListN.{length, drop, get_or, length-map, drop_of_length-le}
+use lib.Seq.{drop-cons}
 use Rattle.std.specs.Prelude.{slice_get, unwrap_or}
 use Rattle.std.proofs.lemmas.Option.{unwrap_or-slice_get}
 use Rattle.mask.proofs.Truth.{and_yes, and_no}
 use Rattle.shelf.specs.Shelf.{numbers_in, number_fits, rise, last_of}
 use Rattle.shelf.specs.declared.Edition.{Edition}
 
--- ---- the numbers taken so far are the first of the entries'
+-- ---- the numbers of the entries
 
 pub number_at : (l : List Edition) (i : ℕ) (d : Edition) → i < length l → get_or (numbers_in l) i 0 ≡ (get_or l i d).number
 unfolding numbers_in
@@ -27,19 +28,18 @@ pub length-numbers : (l : List Edition) → length (numbers_in l) ≡ length l
 unfolding numbers_in
 length-numbers l = length-map l (λ (e : Edition). e.number)
 
-pub numbers_more : (l : List Edition) (v : List ℕ) (i : ℕ) (d : Edition) → i < length v → i < length l
-    → take i v ≡ take i (numbers_in l) → take (i + 1) (set v i (get_or l i d).number) ≡ take (i + 1) (numbers_in l)
-numbers_more l v i d hv hl inv =
-    ap (λ (m : ℕ). take m (set v i (get_or l i d).number)) (add-one i)
-    ∙ take-suc-set v i (get_or l i d).number hv
-    ∙ ap₂ (λ (x : List ℕ) (n : ℕ). x ++ (n ∷ [])) inv (sym (number_at l i d hl))
-    ∙ sym (take-suc (numbers_in l) i 0 (omega (arith, length-numbers l)))
-    ∙ ap (λ (m : ℕ). take m (numbers_in l)) (sym (add-one i))
-
-pub numbers-all : (l : List Edition) (v : List ℕ) (i : ℕ) → length v ≡ 8 → length l ≡ 8 → 8 ≤ i
-    → take i v ≡ take i (numbers_in l) → v ≡ numbers_in l
-numbers-all l v i hv hl h inv =
-    sym (take_all i v (omega arith)) ∙ inv ∙ take_all i (numbers_in l) (omega (arith, length-numbers l))
+pub numbers-mapped : (n : ℕ) (refs : List (Bor Edition)) (v : List ℕ) → length v ≡ n
+    → length (map (λ (r : Bor Edition). r.now) refs) ≡ n
+    → ((i : ℕ) (d : Bor Edition) (e : ℕ) → i < n → get_or v i e ≡ (get_or refs i d).now.number)
+    → v ≡ numbers_in (map (λ (r : Bor Edition). r.now) refs)
+unfolding numbers_in
+numbers-mapped n [] [] h k at = refl
+numbers-mapped n [] (x ∷ v) h k at = absurd (omega (arith, h, k))
+numbers-mapped n (r ∷ refs) [] h k at = absurd (omega (arith, h, k))
+numbers-mapped zero (r ∷ refs) (x ∷ v) h k at = absurd (omega (arith, h))
+numbers-mapped (suc n) (r ∷ refs) (x ∷ v) h k at =
+    ap₂ (λ (y : ℕ) (l : List ℕ). y ∷ l) (at 0 r 0 (omega arith))
+    (numbers-mapped n refs v (omega (arith, h)) (omega (arith, k)) (λ i d e m. at (suc i) d e (omega (arith, m))))
 
 -- ---- a number that may follow the last one: the second test counts only where the first holds
 
@@ -74,15 +74,6 @@ module _ (l : List ℕ) (whole : Bool) (i last : ℕ) (inv : rise last (drop i l
 pub rise-end : (l : List ℕ) (whole : Bool) (i last : ℕ) → rise last (drop i l) ≡ whole → length l ≤ i → true ≡ whole
 unfolding rise
 rise-end l whole i last inv h = ap (rise last) (sym (drop_of_length-le l {i = i} h)) ∙ inv
-
--- ---- there are so many numbers, and they rise
-
-pub too_many : (l : List ℕ) (n : ℕ) → length l < n → false ≡ (leb n (length l) && rise 0 (take n l))
-too_many l n h = and_no (rise 0 (take n l)) (sym (lt-leb n (length l) h)) refl
-
-pub so-many : (l : List ℕ) (n : ℕ) (t : Bool) → n ≤ length l → t ≡ rise 0 (take n l)
-    → t ≡ (leb n (length l) && rise 0 (take n l))
-so-many l n t h is = and_yes refl (le-leb n (length l) h) is
 
 -- ---- the last number
 

@@ -10,14 +10,14 @@ use Rattle.refusal.specs.Rows.{pass, refuse, first}
 use Rattle.refusal.specs.declared.Outcome.{Outcome}
 use Rattle.refusal.specs.Refusal.{number_of}
 use Rattle.refusal.specs.declared.Refusal.{Refusal}
-use Rattle.refusal.proofs.Answered.{err-rows, ok-rows}
+use Rattle.refusal.proofs.Answered.{number-some, err-rows, ok-rows}
 use Rattle.refusal.proofs.Rows.{row-passes, row-refuses, rows_end, row-passed, rows-passed}
 use Rattle.route.specs.Steps.{steps_of}
 use Rattle.route.specs.declared.Route.{Route}
 use Rattle.job.specs.Alone.{alone_rows}
-use Rattle.mask.proofs.Truth.{cond_yes, cond_no}
+use Rattle.mask.proofs.Truth.{cond_no}
 use Rattle.shelf.specs.Shelf.{numbers_in, number_fits, rise, last_of, last_number, good_shelf}
-use Rattle.shelf.specs.Put.{shelf_rows, put_row, with_edition, stored}
+use Rattle.shelf.specs.Put.{shelf_rows, put_row, with_edition, stored, stored_with}
 use Rattle.shelf.specs.declared.Shelf.{Shelf}
 use Rattle.shelf.proofs.GoodShelf.{numbers-are, good-no, good-yes}
 
@@ -83,27 +83,24 @@ module _ (s : Shelf) (n : ℕ) (r : Route) where
   put-goes-on is p rows = rows ∙ sym (ok-rows (shelf_rows s n) is _)
 
 -- where all rows pass there is room
-module _ (s : Shelf) (n : ℕ) (r : Route) (o : Outcome) (is : o ≡ put_row s n r) (t : Bool)
-    (test : t ≡ eqb o.number 0) where
-  pub put-room : t ≡ true → s.len < 8
+module _ (s : Shelf) (n : ℕ) (r : Route) where
+  pub put_room : pass ≡ put_row s n r → s.len < 8
   unfolding put_row
-  put-room on =
-      (shelf-passes s n
-      (rows-passed (shelf_rows s n) _ (ap (λ (x : Outcome). eqb x.number 0) (sym is) ∙ sym test ∙ on)).0).1.1
+  put_room is =
+      (shelf-passes s n (rows-passed (shelf_rows s n) _ (ap (λ (x : Outcome). eqb x.number 0) (sym is))).0).1.1
 
--- the answer, by whether they pass
-module _ (s : Shelf) (n : ℕ) (r : Route) (o : Outcome) (is : o ≡ put_row s n r) where
-  put-answers : (b : Shelf) → b ≡ cond (eqb o.number 0) (with_edition s n r) s
-      → record { number = o.number; second = o.second; shelf = b } ≡ stored s n r
+  -- the answer, by whether they pass
+  put-answers : (o : Outcome) → o ≡ put_row s n r → (b : Shelf) → b ≡ cond (eqb o.number 0) (with_edition s n r) s
+      → stored_with o b ≡ stored s n r
   unfolding stored
-  put-answers b more =
+  put-answers o is b more =
       let shelf-is : b ≡ cond (eqb (put_row s n r).number 0) (with_edition s n r) s =
       more ∙ ap (λ (x : Outcome). cond (eqb x.number 0) (with_edition s n r) s) is in
       λ i. record { number = (is i).number; second = (is i).second; shelf = shelf-is i }
 
-  pub put-stored : eqb o.number 0 ≡ true → (b : Shelf) → b ≡ with_edition s n r
-      → record { number = o.number; second = o.second; shelf = b } ≡ stored s n r
-  put-stored on b more = put-answers b (more ∙ cond_yes _ _ refl on)
+  pub put_stored : pass ≡ put_row s n r → (b : Shelf) → b ≡ with_edition s n r → stored_with pass b ≡ stored s n r
+  put_stored = put-answers pass
 
-  pub put-refused : eqb o.number 0 ≡ false → record { number = o.number; second = o.second; shelf = s } ≡ stored s n r
-  put-refused off = put-answers s (cond_no _ _ refl off)
+  pub put_refused : (e : Refusal) → refuse (number_of e.row) e.second ≡ put_row s n r
+      → stored_with (refuse (number_of e.row) e.second) s ≡ stored s n r
+  put_refused e is = put-answers _ is s (cond_no _ _ refl (number-some e.row))

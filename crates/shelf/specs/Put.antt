@@ -7,7 +7,6 @@ use Rattle.route.specs.declared.Route.{Route}
 use Rattle.job.specs.Alone.{alone_rows}
 use Rattle.shelf.specs.Shelf.{good_shelf, number_fits, last_number}
 use Rattle.shelf.specs.declared.Shelf.{Shelf}
-use Rattle.shelf.specs.declared.Stored.{Stored}
 
 -- "21 .. with 1 and just before .. 20", 20, and "21, shelf full, right after 20"
 unfoldable pub shelf_rows : Shelf → ℕ → List Outcome
@@ -25,6 +24,16 @@ put_row s n r = first (shelf_rows s n ++ alone_rows r.places (steps_of r))
 unfoldable pub with_edition : Shelf → ℕ → Route → Shelf
 with_edition s n r =
     record { len = s.len + 1; editions = set s.editions s.len (record { number = n; route = r }) }
+
+-- put's answer in numbers: 0, 0 and the shelf with one edition more; or a refusal's two and the shelf as it came
+pub record Stored : Type 0 where
+  pub number : ℕ
+  pub second : ℕ
+  pub shelf : Shelf
+
+-- a refusal's two numbers, and the shelf afterwards
+abbrev pub stored_with : Outcome → Shelf → Stored
+stored_with o s = record { number = o.number; second = o.second; shelf = s }
 
 -- "a refusal hands any state back as it came"
 unfoldable pub stored : Shelf → ℕ → Route → Stored

@@ -1,4 +1,5 @@
-// The operation judge between two editions: row 14, a bad shelf, the editions; then judge for their routes.
+// The operation judge between two editions: row 14, a bad shelf, the editions; then judge for their routes. Edition and
+// target are two numbers, as 02 has them.
 ghost use Rattle.std.specs.Prelude.{◌≡◌, length};
 ghost use Rattle.answering.specs.Answer.{judged_of};
 ghost use Rattle.shelf.specs.Judge.{judged_between, work_between};

@@ -30,11 +30,7 @@ impl Shelf {
 pub(crate) fn numbers_in(s: &Shelf) -> [u32; 8]
     ensures { (result ≡ numbers_in s.now.editions) × (length s.now.editions ≡ 8) }
 {
-    let mut numbers = [0u32; 8];
-    for (i, e) in s.editions.iter().enumerate() {
-        numbers[i] = e.number;
-    }
-    numbers
+    s.editions.each_ref().map(|e| e.number)
 }
 
 // A number may follow the last one.
@@ -62,10 +58,7 @@ fn numbers_rise(numbers: &[u32]) -> bool
 pub(crate) fn is_good(len: usize, numbers: &[u32]) -> bool
     ensures { result ≡ (leb len (length numbers.now) && rise 0 (take len numbers.now)) }
 {
-    if numbers.len() < len {
-        return false;
-    }
-    numbers_rise(&numbers[..len])
+    len <= numbers.len() && numbers_rise(&numbers[..len])
 }
 
 // The last number, 0 where there is none.

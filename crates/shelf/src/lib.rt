@@ -13,17 +13,9 @@ pub struct Edition {
     pub route: Route,
 }
 
-// The first `len` of the editions are stored.
+// The first `len` of the editions are stored: eight and a length, by the rule of fixed memory and no heap.
 #[derive(Clone, Copy)]
 pub struct Shelf {
     pub len: usize,
     pub editions: [Edition; 8],
-}
-
-// 0, 0 and the shelf with one edition more; or a refusal, its second number and the shelf as it came.
-#[derive(Clone, Copy)]
-pub struct Stored {
-    pub number: u32,
-    pub second: u64,
-    pub shelf: Shelf,
 }

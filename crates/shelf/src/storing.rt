@@ -1,16 +1,17 @@
-// The operation put: a bad shelf, the number, a full shelf, the rows of the route; then one edition more.
+// The operation put: a bad shelf, the number, a full shelf, the rows of the route; then one edition more. Number and
+// route are two, as 02 has them.
 ghost use Rattle.std.specs.Prelude.{◌≡◌, ◌<◌};
 ghost use Rattle.refusal.specs.Rows.{first};
 ghost use Rattle.refusal.specs.Refusal.{outcome_of};
 ghost use Rattle.route.specs.Steps.{steps_of};
 ghost use Rattle.job.specs.Alone.{alone_rows};
-ghost use Rattle.shelf.specs.Put.{shelf_rows, put_row, with_edition, stored};
+ghost use Rattle.shelf.specs.Put.{shelf_rows, put_row, with_edition, stored, stored_with};
 
 use crate::editions::{is_good, last_of, number_fits, numbers_in};
-use crate::{Edition, Shelf, Stored};
+use crate::{Edition, Shelf};
 use flat::laying::lay;
 use job::checks::check_alone;
-use refusal::{Outcome, Refusal, Row};
+use refusal::{Refusal, Row};
 use route::Route;
 
 // The rows of the shelf and of the number.
@@ -32,18 +33,18 @@ fn check_number(s: &Shelf, number: u32) -> Result<(), Refusal>
 }
 
 // The rows of the route, as an old route's.
-fn check_edition(r: Route) -> Result<(), Refusal>
-    ensures { outcome_of result ≡ first (alone_rows r.places (steps_of r)) }
+fn check_edition(r: &Route) -> Result<(), Refusal>
+    ensures { outcome_of result ≡ first (alone_rows r.now.places (steps_of r.now)) }
 {
     let mut a = [0u64; 260];
-    let n = lay(&r, &mut a);
+    let n = lay(r, &mut a);
     check_alone(r.places, &a[..n])?;
     Ok(())
 }
 
 // All rows of put in turn.
-fn check(s: &Shelf, number: u32, route: Route) -> Result<(), Refusal>
-    ensures { outcome_of result ≡ put_row s.now number route }
+fn check(s: &Shelf, number: u32, route: &Route) -> Result<(), Refusal>
+    ensures { outcome_of result ≡ put_row s.now number route.now }
 {
     check_number(s, number)?;
     check_edition(route)
@@ -60,17 +61,11 @@ fn store(s: &mut Shelf, number: u32, route: Route)
     s.len = at + 1;
 }
 
-pub fn put(s: Shelf, number: u32, route: Route) -> Stored
-    ensures { result ≡ stored s number route }
+#[tactic(auto, using(crate::proofs::PutRows::put_room, crate::proofs::PutRows::put_stored, crate::proofs::PutRows::put_refused))]
+pub fn put(s: &mut Shelf, number: u32, route: &Route) -> Result<(), Refusal>
+    ensures { stored_with (outcome_of result) s.new ≡ stored s.old number route.now }
 {
-    let o = Outcome::from(check(&s, number, route));
-    let mut shelf = s;
-    if o.passed() {
-        store(&mut shelf, number, route);
-    }
-    Stored {
-        number: o.number,
-        second: o.second,
-        shelf,
-    }
+    check(s, number, route)?;
+    store(s, number, *route);
+    Ok(())
 }

@@ -10,13 +10,14 @@ ghost use Rattle.std.specs.Prelude.{◌≤◌};
 use answering::Judged;
 use arrays::Array;
 use lent::LentJob;
-use order_entries::Tried;
 use out_slice::Wrote;
-use route::Step;
-use running::Ran;
+use refusal::Refusal;
+use route::{Fired, Marking, Step};
+use running::routes::run;
 use show_filled::{number, show_read};
 use slicing::Sliced;
 use std::io;
+use trying::trying::try_order;
 
 // A route of 64 steps, and 36 records that hold 0.
 fn hundred() -> [Step; 100] {
@@ -34,11 +35,12 @@ fn begins(rt: &impl Print, s: &[u8]) -> io::Result<()> {
     Ok(())
 }
 
-fn show_run(rt: &impl Print, job: LentJob) -> io::Result<()> {
-    let r = Ran::from(running::routes::run(&job));
-    number(rt, u64::from(r.number))?;
-    number(rt, r.second)?;
-    number(rt, r.marking.tokens)
+// What run and try answer.
+fn fired(rt: &impl Print, r: Result<Marking, Refusal>) -> io::Result<()> {
+    let f = Fired::from(r);
+    number(rt, u64::from(f.number))?;
+    number(rt, f.second)?;
+    number(rt, f.marking.tokens)
 }
 
 fn show_slice(rt: &impl Print, job: LentJob) -> io::Result<()> {
@@ -46,13 +48,6 @@ fn show_slice(rt: &impl Print, job: LentJob) -> io::Result<()> {
     number(rt, u64::from(r.number))?;
     number(rt, r.second)?;
     number(rt, r.kept)
-}
-
-fn show_try(rt: &impl Print, job: LentJob) -> io::Result<()> {
-    let r = Tried::from(trying::trying::try_order(&job, &[1, 2]));
-    number(rt, u64::from(r.number))?;
-    number(rt, r.second)?;
-    number(rt, r.marking.tokens)
 }
 
 fn show_judge(rt: &impl Print, job: LentJob) -> io::Result<()> {
@@ -78,15 +73,15 @@ fn show(rt: &impl Print, old: Array, new: Array) -> io::Result<()> {
     rt.print(old.len as u64)?;
     number(rt, new.len as u64)?;
     let job = arrays::job(64, &old, 64, &new, &[100, 101]);
-    show_run(rt, job)?;
+    fired(rt, run(&job))?;
     show_slice(rt, job)?;
-    show_try(rt, job)?;
+    fired(rt, try_order(&job, &[1, 2]))?;
     show_judge(rt, job)?;
     show_write(rt, job)?;
     rt.write_all(b"\n")
 }
 
-// The first `len` of the records.
+// The first `len` of the records, of which there are a hundred.
 fn first(steps: [Step; 100], len: usize) -> Array
     requires { len ≤ 100 }
 {

@@ -2,13 +2,11 @@
 #![tactic(auto)]
 
 use job::laying::RouteJob;
-use order_entries::Tried;
 use samples::{chains, letters, lines};
 use std::io;
 
 fn try_list(rt: &impl Print, label: &[u8], job: RouteJob, order: &[u8]) -> io::Result<()> {
-    let t = Tried::from(trying::trying::try_order(&job, order));
-    lines::answer(rt, label, t.number, t.second, t.marking)
+    lines::fired(rt, label, trying::trying::try_order(&job, order))
 }
 
 fn show_a(rt: &impl Print) -> io::Result<()> {

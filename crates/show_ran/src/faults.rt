@@ -1,7 +1,7 @@
 // A wrong record for each row, and for each place where it can stand.
 use crate::{say_bare, say_done};
 use route::{Route, Step};
-use samples::{letters, one, step, two};
+use samples::{letters, route_of, step};
 use std::io;
 
 // Beside a sound new route.
@@ -15,7 +15,7 @@ fn say_new(rt: &impl Print, label: &[u8], r: &Route) -> io::Result<()> {
 }
 
 fn say_step(rt: &impl Print, label: &[u8], s: Step) -> io::Result<()> {
-    say_old(rt, label, &one(2, s))
+    say_old(rt, label, &route_of(2, [s]))
 }
 
 pub fn show_routes(rt: &impl Print) -> io::Result<()> {
@@ -39,22 +39,26 @@ pub fn show_steps(rt: &impl Print) -> io::Result<()> {
     say_step(rt, b"3 out empty", step(1, 1, 0, 0, 0))?;
     say_step(rt, b"3 nine reads", step(1, 1, 2, 511, 0))?;
     say_step(rt, b"3 nine writes", step(1, 1, 2, 0, 511))?;
-    say_old(rt, b"3 nine in-places", &one(10, step(1, 511, 512, 0, 0)))?;
+    say_old(
+        rt,
+        b"3 nine in-places",
+        &route_of(10, [step(1, 511, 512, 0, 0)]),
+    )?;
     let a = step(7, 1, 2, 0, 0);
-    say_old(rt, b"5 name twice", &two(3, a, step(7, 2, 4, 0, 0)))?;
-    say_old(rt, b"3 before 5", &two(3, a, step(7, 2, 0, 0, 0)))
+    say_old(rt, b"5 name twice", &route_of(3, [a, step(7, 2, 4, 0, 0)]))?;
+    say_old(rt, b"3 before 5", &route_of(3, [a, step(7, 2, 0, 0, 0)]))
 }
 
 // A route with a place that belongs to no step, and one with no start.
 pub fn show_starts(rt: &impl Print) -> io::Result<()> {
     let a = letters::a_old();
     let loose = &Route { places: 5, ..a };
-    let round = &two(2, step(1, 1, 2, 0, 0), step(2, 2, 1, 0, 0));
+    let round = &route_of(2, [step(1, 1, 2, 0, 0), step(2, 2, 1, 0, 0)]);
     say_old(rt, b"6 old", loose)?;
     say_new(rt, b"6 new", loose)?;
     say_old(rt, b"7 old", round)?;
     say_new(rt, b"7 new", round)?;
-    say_old(rt, b"6 before 7", &one(3, step(1, 1, 1, 0, 0)))?;
+    say_old(rt, b"6 before 7", &route_of(3, [step(1, 1, 1, 0, 0)]))?;
     say_bare(rt, b"old 7 before new 6", round, loose)?;
     say_done(rt, b"9 second line", &[10, 10])?;
     say_done(rt, b"8 after 9 is not reached", &[20, 40])

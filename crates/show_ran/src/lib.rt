@@ -3,15 +3,13 @@
 
 use job::laying::RouteJob;
 use route::Route;
-use running::Ran;
 use samples::{letters, lines};
 use std::io;
 
 pub mod faults;
 
 pub fn say(rt: &impl Print, label: &[u8], job: RouteJob) -> io::Result<()> {
-    let r = Ran::from(running::routes::run(&job));
-    lines::answer(rt, label, r.number, r.second, r.marking)
+    lines::fired(rt, label, running::routes::run(&job))
 }
 
 // Nothing done.

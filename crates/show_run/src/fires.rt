@@ -4,8 +4,8 @@ use samples::{lines, step};
 use std::io;
 
 fn fire(rt: &impl Print, label: &[u8], tokens: u64, ins: u64, outs: u64) -> io::Result<()> {
-    let f = route::firing::fire(Marking { tokens }, step(1, ins, outs, 0, 0));
-    lines::answer(rt, label, f.number, f.second, f.marking)
+    let r = route::firing::fire(Marking { tokens }, step(1, ins, outs, 0, 0));
+    lines::fired(rt, label, r)
 }
 
 pub fn show(rt: &impl Print) -> io::Result<()> {

@@ -29,6 +29,7 @@ fn show(rt: &impl Print, s: &[u8]) -> io::Result<()> {
 
 // Every beginning.
 fn show_cuts(rt: &impl Print, s: &[u8]) -> io::Result<()> {
+    // By index: it is the length of a beginning, and no iterator of a slice gives its beginnings.
     for k in 0..s.len() {
         show(rt, &s[..k])?;
     }
@@ -50,7 +51,7 @@ fn show_first(rt: &impl Print, s: &[u8]) -> io::Result<()> {
     Ok(())
 }
 
-// The sheets in turn.
+// The sheets in turn: a turn of the loop cuts one off the front.
 fn show_all(rt: &impl Print, s: &[u8]) -> io::Result<()> {
     let mut rest = s;
     while let Some(i) = end(rest) {

@@ -20,6 +20,7 @@ pub fn keep(occurrences: &[u64], vars: u32) -> u64
 {
     let mut live = vars;
     let mut kept = 0u64;
+    // By index: `flat::steps` comes from the first step on alone.
     for i in (0..flat::count(occurrences)).rev() {
         let s = flat::step_at(occurrences, i);
         if stays(s, live) {

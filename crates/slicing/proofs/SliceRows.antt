@@ -11,7 +11,8 @@ use Rattle.refusal.specs.declared.Refusal.{Refusal}
 use Rattle.flat.specs.Flat.{steps_in}
 use Rattle.job.specs.Job.{Job, cut}
 use Rattle.job.specs.Lines.{line_rows}
-use Rattle.running.specs.Run.{ran, ran_of, performed, Begins}
+use Rattle.running.specs.Run.{ran, performed, Begins}
+use Rattle.route.specs.Firing.{fired_of}
 use Rattle.running.specs.declared.Begun.{Begun}
 use Rattle.job.proofs.LongLists.{Refused, laid-alike}
 use Rattle.running.proofs.LongLists.{ran-alike, ran-off}
@@ -38,11 +39,11 @@ module _ (j : Job) where
   unfolding sliced
   slice-line e is = line-ends sliced_stopped answer j e is
 
-  pub slice-run : (e : Refusal) → ran_of (Err e) ≡ ran j → sliced_stopped (number_of e.row) e.second ≡ sliced j
+  pub slice-run : (e : Refusal) → fired_of (Err e) ≡ ran j → sliced_stopped (number_of e.row) e.second ≡ sliced j
   unfolding sliced
   slice-run e is = run_ends sliced_stopped answer j e is
 
-  module _ (b : Begun) (is : ran_of (Ok b.marking) ≡ ran j) (w : List ℕ) (begins : Begins j b w) where
+  module _ (b : Begun) (is : fired_of (Ok b.marking) ≡ ran j) (w : List ℕ) (begins : Begins j b w) where
     -- the steps done
     pub occurrences-are : steps_in (take (4 * length j.done) w) ≡ performed j.old j.done
     occurrences-are = ap (λ (n : ℕ). steps_in (take (4 * n) w)) (sym (length-performed j.old j.done))

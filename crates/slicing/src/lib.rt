@@ -21,7 +21,7 @@ pub struct Slicing {
     pub table: [u64; 64],
 }
 
-// The same in plain numbers: a refusal's two, or 0, 0 and the slice.
+// The same in plain numbers, as 01 says it: a refusal's two, or 0, 0 and the slice.
 #[derive(Clone, Copy)]
 pub struct Sliced {
     pub number: u32,

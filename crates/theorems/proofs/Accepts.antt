@@ -19,9 +19,10 @@ use Rattle.search.specs.Search.{is_some}
 use Rattle.matching.specs.Straight.{same_step, fire_all, steps_on, runs_straight}
 use Rattle.matching.specs.Fit.{kept_of, KeptFit, FitAt, Fit}
 use Rattle.matching.specs.KeptRows.{kept_rows}
-use Rattle.order_entries.specs.Entries.{try_stopped, try_accepted, list_row, try_from, try_entries}
+use Rattle.order_entries.specs.Entries.{list_row, try_from, try_entries}
+use Rattle.route.specs.Firing.{stopped, reached}
 use Rattle.trying.specs.Try.{same_list, try_list, try_rows, tried}
-use Rattle.order_entries.specs.declared.Tried.{Tried}
+use Rattle.route.specs.declared.Fired.{Fired}
 use Rattle.theorems.specs.Demand3.{Runs, steps_done, positions, FitFor}
 use Rattle.refusal.proofs.Rows.{cond-zero, cond-zero-elim}
 use Rattle.theorems.proofs.Runs.{steps-short}
@@ -56,7 +57,7 @@ positions-suc (i ∷ p) = let own : suc i - 1 ≡ i =
 -- ---- all rows
 
 -- what an accepted list has
-record Taken (from : ℕ) (new l : List Step) (o : List ℕ) (t : Tried) : Type 0 where
+record Taken (from : ℕ) (new l : List Step) (o : List ℕ) (t : Fired) : Type 0 where
   fits : Fit from new l o
   second : t.second ≡ 0
   fires : fire_all new from (steps_on l (positions o)) ≡ some t.marking.tokens
@@ -66,7 +67,7 @@ module _ (from : ℕ) (new l : List Step) (o : List ℕ) where
   straight = in_turn 0 (length l)
 
   straight-taken : runs_straight from new l ≡ true → o ≡ map suc straight
-      → Taken from new l o (try_accepted (end_of from new l))
+      → Taken from new l o (reached (end_of from new l))
   straight-taken h e =
       record {
         fits = record { positions = straight; numbered = e; fits = inl (record { whole = refl; runs = h }) };
@@ -78,13 +79,13 @@ module _ (from : ℕ) (new l : List Step) (o : List ℕ) where
       }
 
   -- rows 16 to 18
-  abbrev by_rows : Tried
+  abbrev by_rows : Fired
   by_rows = try_entries new l from o
 
   rows_taken : KeptPass from new l → by_rows.number ≡ 0 → Taken from new l o by_rows
   unfolding is_some try_entries
   rows_taken k e =
-      let (row, is) = cond-zero-elim (λ (t : Tried). t.number) (list_row (kept_of new l) 0 1 o).number _ _ refl e in
+      let (row, is) = cond-zero-elim (λ (t : Fired). t.number) (list_row (kept_of new l) 0 1 o).number _ _ refl e in
       let (n, c) = list_row-elim (kept_of new l) o row in
       let a = try_from-elim new l from 1 (positions o) (rw is at e) in
       rw is
@@ -111,8 +112,8 @@ module _ (from : ℕ) (new l : List Step) (o : List ℕ) where
   list-taken k e = go (runs_straight from new l && same_list o (map suc straight)) refl e
     where
       go : (t : Bool) → (runs_straight from new l && same_list o (map suc straight)) ≡ t
-          → (cond t (try_accepted (end_of from new l)) by_rows).number ≡ 0
-          → Taken from new l o (cond t (try_accepted (end_of from new l)) by_rows)
+          → (cond t (reached (end_of from new l)) by_rows).number ≡ 0
+          → Taken from new l o (cond t (reached (end_of from new l)) by_rows)
       go true h e = let (a, b) = both (runs_straight from new l) (same_list o (map suc straight)) h in straight-taken a
           (same_list-elim o (map suc straight) b)
       go false h e = rows_taken k e
@@ -124,7 +125,7 @@ module _ (from : ℕ) (new l : List Step) (o : List ℕ) where
       let row : (list_row (kept_of new l) 0 1 o).number ≡ 0 =
       list_row-intro (kept_of new l) o (e ∙ ap (map suc) (sym own)) (rw own f.once) in
       let runs = try_from-intro new l from 1 _ p f.order (fit-fires from new l p (inr f)) in
-      ap (λ (t : Tried). t.number) (cond-zero (list_row (kept_of new l) 0 1 o).number _ _ row
+      ap (λ (t : Fired). t.number) (cond-zero (list_row (kept_of new l) 0 1 o).number _ _ row
       ∙ ap (try_from new l from 1) own ∙ runs)
 
   taken-list : Fit from new l o → (try_list from new l o).number ≡ 0
@@ -132,7 +133,7 @@ module _ (from : ℕ) (new l : List Step) (o : List ℕ) where
   taken-list f = go (runs_straight from new l && same_list o (map suc straight)) refl f.fits
     where
       go : (t : Bool) → (runs_straight from new l && same_list o (map suc straight)) ≡ t
-          → FitAt from new l f.positions → (cond t (try_accepted (end_of from new l)) by_rows).number ≡ 0
+          → FitAt from new l f.positions → (cond t (reached (end_of from new l)) by_rows).number ≡ 0
       go true h a = refl
       go false h (inl s) = let is : o ≡ map suc straight =
           f.numbered ∙ ap (map suc) s.whole in absurd
@@ -143,7 +144,7 @@ module _ (from : ℕ) (new l : List Step) (o : List ℕ) where
     try-taken : (try_rows line from new l o).number ≡ 0 → Taken from new l o (try_rows line from new l o)
     unfolding try_rows
     try-taken e =
-        let (row, is) = cond-zero-elim (λ (t : Tried). t.number) (kept_rows line from new l).number _ _ refl e in
+        let (row, is) = cond-zero-elim (λ (t : Fired). t.number) (kept_rows line from new l).number _ _ refl e in
         rw is (list-taken (kept_rows-elim from new l short line row) (rw is at e))
 
     taken-try : Fit from new l o → (try_rows line from new l o).number ≡ 0
@@ -154,12 +155,12 @@ module _ (from : ℕ) (new l : List Step) (o : List ℕ) where
 -- ---- the operation
 
 module _ (j : Job) (ok : Runs j) (o : List ℕ) where
-  rest : Tried
+  rest : Fired
   rest = try_rows (job_line j) (new_start j) j.new (steps_done j) o
 
   tried-rest : tried j o ≡ rest
   unfolding tried rest
-  tried-rest = cond-zero (ran j).number rest (try_stopped (ran j).number (ran j).second) ok
+  tried-rest = cond-zero (ran j).number rest (stopped (ran j).number (ran j).second) ok
 
   taken : (tried j o).number ≡ 0 → Taken (new_start j) j.new (steps_done j) o (tried j o)
   unfolding rest

@@ -14,9 +14,9 @@ use Rattle.refusal.proofs.Rows.{cond-zero, cond-zero-elim}
 use Rattle.job.specs.Job.{Job}
 use Rattle.running.specs.Run.{ran}
 use Rattle.facts.specs.Facts.{read_of}
-use Rattle.order_entries.specs.Entries.{try_stopped}
+use Rattle.route.specs.Firing.{stopped}
 use Rattle.trying.specs.Try.{tried}
-use Rattle.order_entries.specs.declared.Tried.{Tried}
+use Rattle.route.specs.declared.Fired.{Fired}
 use Rattle.judging.specs.Judge.{judged}
 use Rattle.answering.specs.Answer.{judge_stopped}
 use Rattle.answering.specs.declared.Judged.{Judged}
@@ -131,19 +131,19 @@ module _ (s out : List ℕ) (work : ℕ) (enough : 8192 ≤ work) (room : length
 
 try-runs : (j : Job) (o : List ℕ) → (tried j o).number ≡ 0 → Runs j
 unfolding tried
-try-runs j o e = (cond-zero-elim (λ (t : Tried). t.number) (ran j).number _
-    (try_stopped (ran j).number (ran j).second) refl e).0
+try-runs j o e = (cond-zero-elim (λ (t : Fired). t.number) (ran j).number _
+    (stopped (ran j).number (ran j).second) refl e).0
 
 pub try-sheet : (s o : List ℕ) → ((tried_sheet s o).number ≡ 0) ↔ SheetRuns s × FitFor (job_on s) o
 unfolding tried_sheet tried_facts
 try-sheet s o = (
   λ e.
-      let (z, is) = cond-zero-elim (λ (t : Tried). t.number) (read_of s).number (tried (job_on s) o) refused refl e in
+      let (z, is) = cond-zero-elim (λ (t : Fired). t.number) (read_of s).number (tried (job_on s) o) refused refl e in
       let runs = try-runs (job_on s) o (rw is at e) in
       ((z, runs), (try-fit (job_on s) runs o).0 (rw is at e)),
   λ h. rw (cond-zero (read_of s).number (tried (job_on s) o) refused h.0.0)
       ((try-fit (job_on s) h.0.1 o).1 h.1),
 )
   where
-    refused : Tried
-    refused = try_stopped (read_of s).number (read_of s).second
+    refused : Fired
+    refused = stopped (read_of s).number (read_of s).second

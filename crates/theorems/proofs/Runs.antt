@@ -15,7 +15,7 @@ use Rattle.route.specs.declared.Step.{Step}
 use Rattle.route.proofs.StepList.{lookup-name, get_or-names}
 use Rattle.job.specs.Job.{Job, job_line, old_start}
 use Rattle.running.specs.Run.{run_from, ran, performed}
-use Rattle.running.specs.declared.Ran.{Ran}
+use Rattle.route.specs.declared.Fired.{Fired}
 use Rattle.running.proofs.DoneNames.{first-fires, ran-is, performed-names}
 use Rattle.running.proofs.Performed.{length-performed, performed-at}
 use Rattle.running.proofs.RunLine.{ran-fits}
@@ -55,8 +55,8 @@ module _ (j : Job) (ok : Runs j) where
 
   pub done-fires : fire_all j.old (old_start j) (steps_done j) ≡ some (ran j).marking.tokens
   done-fires =
-      run-fires j.old (old_start j) (job_line j + 1) j.done (ap (λ (r : Ran). r.number) (ran-is j ok) ∙ ok)
-      ∙ ap (λ (r : Ran). some r.marking.tokens) (ran-is j ok)
+      run-fires j.old (old_start j) (job_line j + 1) j.done (ap (λ (r : Fired). r.number) (ran-is j ok) ∙ ok)
+      ∙ ap (λ (r : Fired). some r.marking.tokens) (ran-is j ok)
 
   -- the whole job comes to its end, on the marking that run gives
   pub whole-job : {T : Type 0} (f : Work T)

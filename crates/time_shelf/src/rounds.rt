@@ -3,8 +3,8 @@
 use crate::usual;
 use answering::Moved;
 use job::laying::RouteJob;
-use refusal::Refusal;
-use shelf::Stored;
+use refusal::{Outcome, Refusal};
+use shelf::Shelf;
 
 #[derive(Clone, Copy)]
 pub enum Kind {
@@ -43,14 +43,14 @@ impl Kind {
     }
 }
 
-// The sum of what n rounds answer. What they share is handed to each by value: a closure that holds it copies it once more in
-// each round.
+// The sum of what n rounds answer. What they share is handed to each by value: a closure that holds it copies it once
+// more in each round.
 fn rounds<C: Copy, F: FnMut(C, u64) -> u64>(n: u64, shared: C, mut round: F) -> u64
     requires { F.IsAlwaysCallable round }
 {
     let mut sum = 0u64;
-    for i in 0..n {
-        sum = sum.wrapping_add(round(shared, n - i));
+    for i in 1..=n {
+        sum = sum.wrapping_add(round(shared, i));
     }
     sum
 }
@@ -78,9 +78,9 @@ fn moved(r: &Moved) -> u64 {
 }
 
 // What a put adds to the sum.
-fn stored(r: &Stored) -> u64 {
-    let edition = &r.shelf.editions[7];
-    total(&[u64::from(r.number), r.second, u64::from(edition.number)])
+fn stored(o: Outcome, shelf: &Shelf) -> u64 {
+    let edition = &shelf.editions[7];
+    total(&[u64::from(o.number), o.second, u64::from(edition.number)])
 }
 
 fn judge_routes(n: u64) -> u64 {
@@ -103,16 +103,15 @@ fn judge_between(n: u64, target: u32) -> u64 {
     })
 }
 
-// The eighth edition's number is this one, or one of the seven after it; 70 is stored before. Its own loop: in a
-// closure the room for the shelf that put answers is cleared in each round, a tenth of its time.
+// The eighth edition's number is this one, or one of the seven after it; 70 is stored before. Each round puts on a
+// copy.
 fn put(n: u64, number: u32) -> u64 {
     let new = usual::new();
-    let shelf = usual::seven();
-    let mut sum = 0u64;
-    for i in 0..n {
-        let near = number.wrapping_add(((n - i) % 8) as u32);
-        let r = shelf::storing::put(shelf, near, new);
-        sum = sum.wrapping_add(stored(&r));
-    }
-    sum
+    let seven = usual::seven();
+    rounds(n, (&seven, &new), |(seven, new), round| {
+        let mut shelf = *seven;
+        let near = number.wrapping_add((round % 8) as u32);
+        let o = Outcome::from(shelf::storing::put(&mut shelf, near, new));
+        stored(o, &shelf)
+    })
 }

@@ -1,7 +1,7 @@
 // The tokens of a sheet's lines: fixed texts, numbers, lists. Each reader takes a place, and answers the place past its
 // token or where the layout breaks, so that a line is straight code.
-// Version, bytes and place stay apart: a struct of the three, with the place's bound as a ghost field, proves on `text`,
-// but then each contract has to say that version and bytes are those given, in place of `from ≤ length s.now`.
+// Version, bytes and place stay apart: a struct of the three, with the place's bound as a ghost field, proves on
+// `text`, but then each contract has to say that version and bytes are those given, in place of `from ≤ length s.now`.
 #![tactic(auto)]
 
 pub mod lists;

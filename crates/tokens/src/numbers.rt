@@ -22,8 +22,8 @@ pub fn number(v: Version, s: &[u8], from: usize) -> Result<Numeral, Broken>
             value: n,
         });
     }
-    // how many digits may follow
-    let mut left = v.digits - 1;
+    // how many digits may follow: of digits, not of places
+    let mut left = v.numbers.digits - 1;
     for (i, c) in s[from + 1..].iter().enumerate() {
         if !c.is_ascii_digit() || left == 0 {
             return Ok(Numeral {

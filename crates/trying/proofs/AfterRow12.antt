@@ -16,7 +16,7 @@ use Rattle.matching.specs.declared.Pairs.{Pairs}
 use Rattle.matching.proofs.KeptRows.{kept_same}
 use Rattle.trying.specs.Try.{try_list, tried}
 use Rattle.trying.specs.inner.TryPrepared.{TryPrepared}
-use Rattle.order_entries.specs.declared.Tried.{Tried}
+use Rattle.route.specs.declared.Fired.{Fired}
 use Rattle.trying.proofs.TryRows.{tried-list}
 
 module _ (j : Job) (p : Prepared) (rows : pass ≡ rows_to12 j) (occurrences matches : List ℕ)
@@ -44,7 +44,7 @@ module _ (j : Job) (p : Prepared) (rows : pass ≡ rows_to12 j) (occurrences mat
 
   -- the answer to the list is the answer
   pub tried-prepared :
-      (o : List ℕ) (r : Tried)
+      (o : List ℕ) (r : Fired)
       → ((from : ℕ) (new : List Step) → TryPrepared from new (done_in x) p (matched_in x)
       → r ≡ try_list from new (done_in x) o)
       → r ≡ tried j o

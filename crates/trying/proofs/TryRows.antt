@@ -25,24 +25,25 @@ use Rattle.matching.specs.KeptRows.{kept_rows, rows_to12}
 use Rattle.matching.specs.inner.Matched.{straight_end}
 use Rattle.preparing.specs.declared.Prepared.{Prepared}
 use Rattle.preparing.proofs.Preparation.{lines-refused}
-use Rattle.order_entries.specs.Entries.{try_stopped, try_entries}
+use Rattle.order_entries.specs.Entries.{try_entries}
+use Rattle.route.specs.Firing.{stopped}
 use Rattle.trying.specs.Try.{same_list, try_list, try_rows, tried}
 use Rattle.order_entries.specs.inner.Replayable.{Replayable}
 use Rattle.trying.specs.inner.TryPrepared.{TryPrepared}
-use Rattle.order_entries.specs.declared.Tried.{Tried}
+use Rattle.route.specs.declared.Fired.{Fired}
 
 -- ---- the straight list first
 
 module _ (l : List Step) (p : Prepared) (matches : List Step) (o : List ℕ) (n : ℕ) (count : n ≡ length l) (f : Option Marking)
     (is : f ≡ cond (same_list o (map suc (in_turn 0 n))) p.straight None) where
-  abbrev accepted : Marking → Tried
+  abbrev accepted : Marking → Fired
   accepted m = record { number = 0; second = 0; marking = m }
 
   module _ (from : ℕ) (new : List Step) (ready : TryPrepared from new l p matches) where
     abbrev end : Marking
     end = record { tokens = get_or (fire_all new from l) 0 }
 
-    abbrev rows : Tried
+    abbrev rows : Fired
     rows = try_entries new l from o
 
     -- by whether the new route runs straight, and whether the order is 1, 2, ..
@@ -74,7 +75,7 @@ module _ (l : List Step) (p : Prepared) (matches : List Step) (o : List ℕ) (n 
       → accepted m ≡ try_list from new l o
   list-straight m e from new ready = at-end from new ready m e
 
-  pub list-rows : (r : Tried) → f ≡ None → ((new : List Step) → Replayable new l p.kept matches
+  pub list-rows : (r : Fired) → f ≡ None → ((new : List Step) → Replayable new l p.kept matches
       → r ≡ try_entries new l p.start.tokens o) → (from : ℕ) (new : List Step) → TryPrepared from new l p matches
       → r ≡ try_list from new l o
   list-rows r e by from new ready = by new ready.kept-are ∙ ap (λ (m : ℕ). try_entries new l m o) ready.start_is
@@ -83,14 +84,14 @@ module _ (l : List Step) (p : Prepared) (matches : List Step) (o : List ℕ) (n 
 -- ---- the operation
 
 module _ (j : Job) (o : List ℕ) where
-  abbrev list : Tried
+  abbrev list : Fired
   list = try_list (new_start j) j.new (performed j.old j.done) o
 
   abbrev kept_outcome : Outcome
   kept_outcome = kept_rows (job_line j) (new_start j) j.new (performed j.old j.done)
 
   -- try by the outcome of the rows to 12
-  by-outcome : tried j o ≡ cond (eqb (rows_to12 j).number 0) list (try_stopped (rows_to12 j).number (rows_to12 j).second)
+  by-outcome : tried j o ≡ cond (eqb (rows_to12 j).number 0) list (stopped (rows_to12 j).number (rows_to12 j).second)
   unfolding tried try_rows rows_to12
   by-outcome = go (eqb (ran j).number 0) refl
     where
@@ -99,26 +100,26 @@ module _ (j : Job) (o : List ℕ) where
 
       go : (t : Bool) → eqb (ran j).number 0 ≡ t
           → cond t (try_rows (job_line j) (new_start j) j.new (performed j.old j.done) o)
-          (try_stopped (ran j).number (ran j).second)
-          ≡ cond (eqb (rows_by t).number 0) list (try_stopped (rows_by t).number (rows_by t).second)
+          (stopped (ran j).number (ran j).second)
+          ≡ cond (eqb (rows_by t).number 0) list (stopped (rows_by t).number (rows_by t).second)
       go true e = refl
-      go false e = ap (λ (b : Bool). cond b list (try_stopped (ran j).number (ran j).second)) (sym e)
+      go false e = ap (λ (b : Bool). cond b list (stopped (ran j).number (ran j).second)) (sym e)
 
-  by_row : (w : Outcome) → w ≡ rows_to12 j → cond (eqb w.number 0) list (try_stopped w.number w.second) ≡ tried j o
-  by_row w is = ap (λ (x : Outcome). cond (eqb x.number 0) list (try_stopped x.number x.second)) is ∙ sym by-outcome
+  by_row : (w : Outcome) → w ≡ rows_to12 j → cond (eqb w.number 0) list (stopped w.number w.second) ≡ tried j o
+  by_row w is = ap (λ (x : Outcome). cond (eqb x.number 0) list (stopped x.number x.second)) is ∙ sym by-outcome
 
   -- a row to 12 refuses
   pub tried-refused : (e : Refusal) → refuse (number_of e.row) e.second ≡ rows_to12 j
-      → try_stopped (number_of e.row) e.second ≡ tried j o
+      → stopped (number_of e.row) e.second ≡ tried j o
   tried-refused e is =
-      ap (λ (t : Bool). cond t list (try_stopped (number_of e.row) e.second)) (sym (number-some e.row)) ∙ by_row _ is
+      ap (λ (t : Bool). cond t list (stopped (number_of e.row) e.second)) (sym (number-some e.row)) ∙ by_row _ is
 
   -- a line is refused
   pub tried-line : (e : Refusal) → refuse (number_of e.row) e.second ≡ first (line_rows j)
-      → try_stopped (number_of e.row) e.second ≡ tried j o
+      → stopped (number_of e.row) e.second ≡ tried j o
   tried-line e is = tried-refused e (lines-refused j e is)
 
-  pub tried-list : pass ≡ rows_to12 j → (r : Tried) → r ≡ list → r ≡ tried j o
+  pub tried-list : pass ≡ rows_to12 j → (r : Fired) → r ≡ list → r ≡ tried j o
   tried-list is r e = e ∙ by_row pass is
 
 -- ---- both lists laid as numbers: what a list has past its 65th step changes nothing
@@ -127,5 +128,5 @@ tried-alike : (o : List ℕ) (j k : Job) → Refused j k → tried j o ≡ tried
 unfolding tried
 tried-alike o j k r = rw (ran-alike j k r, ran-off j k r)
 
-pub tried_cut : (o : List ℕ) (j k : Job) → k ≡ cut j → (r : Tried) → r ≡ tried k o → r ≡ tried j o
+pub tried_cut : (o : List ℕ) (j k : Job) → k ≡ cut j → (r : Fired) → r ≡ tried k o → r ≡ tried j o
 tried_cut o = laid-alike (λ (j : Job). tried j o) (tried-alike o)

@@ -7,8 +7,9 @@ use Rattle.running.specs.Run.{ran, performed}
 use Rattle.precedence.specs.Order.{in_turn}
 use Rattle.matching.specs.Straight.{fire_all, runs_straight}
 use Rattle.matching.specs.KeptRows.{kept_rows}
-use Rattle.order_entries.specs.Entries.{try_stopped, try_accepted, try_entries}
-use Rattle.order_entries.specs.declared.Tried.{Tried}
+use Rattle.order_entries.specs.Entries.{try_entries}
+use Rattle.route.specs.Firing.{stopped, reached}
+use Rattle.route.specs.declared.Fired.{Fired}
 
 -- two lists of numbers are equal
 unfoldable pub same_list : List ℕ → List ℕ → Bool
@@ -18,22 +19,22 @@ same_list (x ∷ l) [] = false
 same_list (x ∷ l) (y ∷ k) = eqb x y && same_list l k
 
 -- after row 12: the straight list first, then rows 16, 17 and 18
-unfoldable pub try_list : ℕ → List Step → List Step → List ℕ → Tried
+unfoldable pub try_list : ℕ → List Step → List Step → List ℕ → Fired
 try_list from new l o =
     cond (runs_straight from new l && same_list o (map suc (in_turn 0 (length l))))
-    (try_accepted (get_or (fire_all new from l) 0))
+    (reached (get_or (fire_all new from l) 0))
     (try_entries new l from o)
 
 -- rows 10 to 12, then the list
-unfoldable pub try_rows : ℕ → ℕ → List Step → List Step → List ℕ → Tried
+unfoldable pub try_rows : ℕ → ℕ → List Step → List Step → List ℕ → Fired
 try_rows line from new l o =
     cond (eqb (kept_rows line from new l).number 0)
     (try_list from new l o)
-    (try_stopped (kept_rows line from new l).number (kept_rows line from new l).second)
+    (stopped (kept_rows line from new l).number (kept_rows line from new l).second)
 
 -- the operation: the rows to 9, then the rest
-unfoldable pub tried : Job → List ℕ → Tried
+unfoldable pub tried : Job → List ℕ → Fired
 tried j o =
     cond (eqb (ran j).number 0)
     (try_rows (job_line j) (new_start j) j.new (performed j.old j.done) o)
-    (try_stopped (ran j).number (ran j).second)
+    (stopped (ran j).number (ran j).second)

@@ -6,7 +6,7 @@ ghost use Rattle.job.specs.Job.{job_in};
 ghost use Rattle.job.specs.Lines.{LinesPass};
 ghost use Rattle.precedence.specs.Order.{in_turn};
 ghost use Rattle.matching.specs.inner.Pairs.{done_in, matched_in};
-ghost use Rattle.order_entries.specs.Entries.{tried_of};
+ghost use Rattle.route.specs.Firing.{fired_of};
 ghost use Rattle.trying.specs.Try.{same_list, try_list, tried};
 ghost use Rattle.trying.specs.inner.TryPrepared.{TryPrepared};
 
@@ -41,7 +41,7 @@ fn straight_end(straight: Option<Marking>, order: &[u8], len: usize) -> Option<M
 fn try_prepared(p: Prepared, pairs: Pairs, order: &[u8]) -> Result<Marking, Refusal>
     requires { (i : ℕ) → has p.kept i ≡ true → i < length (matched_in pairs) }
     ensures { (from : ℕ) (new : List Step) → TryPrepared from new (done_in pairs.entry) p (matched_in pairs.entry)
-        → tried_of result ≡ try_list from new (done_in pairs.entry) order.now }
+        → fired_of result ≡ try_list from new (done_in pairs.entry) order.now }
 {
     let straight = p.straight;
     let Some(marking) = straight_end(straight, order, flat::count(pairs.occurrences)) else {
@@ -51,10 +51,10 @@ fn try_prepared(p: Prepared, pairs: Pairs, order: &[u8]) -> Result<Marking, Refu
     Ok(marking)
 }
 
-// Try from row 6 on.
+// Try from row 6 on. `prepare` and `pairs_of` are what it shares with judge.
 pub fn try_checked(job: FlatJob, order: &[u8]) -> Result<Marking, Refusal>
     requires { LinesPass (job_in job) }
-    ensures { tried_of result ≡ tried (job_in job.entry) order.now }
+    ensures { fired_of result ≡ tried (job_in job.entry) order.now }
 {
     let mut occurrences = [0u64; 256];
     let mut matches = [0u64; 256];
@@ -65,7 +65,7 @@ pub fn try_checked(job: FlatJob, order: &[u8]) -> Result<Marking, Refusal>
 
 // Try over lists of steps.
 pub fn try_lists(job: FlatJob, order: &[u8]) -> Result<Marking, Refusal>
-    ensures { tried_of result ≡ tried (job_in job.entry) order.now }
+    ensures { fired_of result ≡ tried (job_in job.entry) order.now }
 {
     check_lines(job)?;
     try_checked(job, order)
@@ -74,7 +74,7 @@ pub fn try_lists(job: FlatJob, order: &[u8]) -> Result<Marking, Refusal>
 // Any records, any done list, any order.
 #[tactic(auto, using(crate::proofs::TryRows::tried_cut))]
 pub fn try_order<J: Lay>(job: &J, order: &[u8]) -> Result<Marking, Refusal>
-    ensures { tried_of result ≡ tried (J.job job.now) order.now }
+    ensures { fired_of result ≡ tried (J.job job.now) order.now }
 {
     let mut a = [0u64; 260];
     let mut b = [0u64; 260];

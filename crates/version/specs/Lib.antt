@@ -1,3 +1,2 @@
 -- The limits of a version of the layout.
 pub mod Limits
-pub mod Numbers

@@ -6,8 +6,9 @@ ghost use Rattle.version.specs.Limits.{name_fits};
 
 use std::marker::Model;
 
+// Any three numbers.
 #[derive(Clone, Copy)]
-pub struct Version {
+pub struct Numbers {
     // the most digits of a number
     pub digits: usize,
     // the greatest name
@@ -16,35 +17,46 @@ pub struct Version {
     pub cloth: bool,
 }
 
-// Clauses see the three numbers; every version keeps to its limits.
+// Numbers that keep to the limits. Clauses see the numbers alone.
+#[derive(Clone, Copy)]
+pub struct Version {
+    pub numbers: Numbers,
+}
+
 impl Model for Version {
-    ghost use Rattle.version.specs.Numbers.{Numbers};
+    ghost use Rattle.version.specs.declared.Numbers.{Numbers};
 
     ghost Value = { Numbers };
 
     ghost use Rattle.version.specs.Limits.{Limits};
 
-    ghost view = { λ v. record { digits = v.digits; greatest = v.greatest; cloth = v.cloth } };
+    ghost view = { λ v. v.numbers };
 
-    ghost inverse = { λ v. record { digits = v.digits; greatest = v.greatest; cloth = v.cloth } };
+    ghost inverse = { λ n. record { numbers = n } };
 
-    ghost invariant = { λ v. Limits (record { digits = v.digits; greatest = v.greatest; cloth = v.cloth }) };
+    ghost invariant = { λ v. Limits v.numbers };
 }
 
 impl Version {
     // 01's: five digits, names to 65,535, no marks.
     pub const SCOPE: Version = Version {
-        digits: 5,
-        greatest: 65535,
-        cloth: false,
+        numbers: Numbers {
+            digits: 5,
+            greatest: 65535,
+            cloth: false,
+        },
     };
     // The present one: ten digits, names to 4,294,967,295, and steps that may be marked.
     pub const PRESENT: Version = Version {
-        digits: 10,
-        greatest: 4294967295,
-        cloth: true,
+        numbers: Numbers {
+            digits: 10,
+            greatest: 4294967295,
+            cloth: true,
+        },
     };
+}
 
+impl Numbers {
     #[tactic(auto, unfolding(crate::specs::Limits::name_fits))]
     pub fn name_fits(self, n: u64) -> bool
         ensures { result ≡ name_fits self n }

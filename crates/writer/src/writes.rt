@@ -32,7 +32,7 @@ pub fn write_lists(job: FlatJob, out: &mut [u8]) -> Result<usize, Refusal>
         × (out.new ≡ out_after (job_in job.entry) out.old) }
 {
     check_lines(job)?;
-    // a closure holds the parts of what is lent
+    // the closure takes a copy of the job: what is lent can't be captured whole
     out_slice::write::<LONGEST, _>(out, move |out| text(out, FlatJob { ..job }))
 }
 

@@ -5,14 +5,15 @@ use Rattle.route.specs.Steps.{names}
 use Rattle.flat.specs.Flat.{Holds}
 use Rattle.lookup.specs.Around.{compared_all}
 use Rattle.job.specs.Job.{Job}
-use Rattle.running.specs.Run.{ran_of, performed, Begins}
-use Rattle.running.specs.declared.Ran.{Ran}
+use Rattle.running.specs.Run.{performed, Begins}
+use Rattle.route.specs.Firing.{fired_of}
+use Rattle.route.specs.declared.Fired.{Fired}
 use Rattle.finding.specs.declared.Gathered.{Gathered}
 
 -- run's answer
-abbrev pub gathered_ran : Result Gathered Refusal → Ran
-gathered_ran (Ok g) = ran_of (Ok g.begun.marking)
-gathered_ran (Err e) = ran_of (Err e)
+abbrev pub gathered_ran : Result Gathered Refusal → Fired
+gathered_ran (Ok g) = fired_of (Ok g.begun.marking)
+gathered_ran (Err e) = fired_of (Err e)
 
 -- what stands of a job that no row to 9 refuses, the new route's steps for the done names, as numbers, and how many of
 -- its names their look-ups compared

@@ -7,11 +7,11 @@ use Prim.Native.Nat.{ℕ, ◌+◌, ◌-◌, ◌≤◌, ◌<◌}
 use native.Mathlib.Omega.{arith}
 use borrow.Author.Rules.{rules}
 use lib.Bits.{bit_and, bit_or}
-use lib.Pow.{pow_pos}
 use lib.ListN.{length, get_or, set}
 use Rattle.mask.specs.Mask.{bit, collect}
 use Rattle.route.specs.Steps.{blank}
 use Rattle.flat.specs.Flat.{steps_in}
+use Rattle.flat.proofs.InTurn.{turn-on, turn-at, turn-inside, turns-done, turns-init}
 use Rattle.route.specs.declared.Step.{Step}
 use Rattle.precedence.specs.Precedence.{row}
 use Rattle.precedence.specs.Table.{table}
@@ -38,10 +38,9 @@ module _ (l : List Step) (i : ℕ) (s : Step) (is : s ≡ get_or l i blank) wher
   readers-more by by' own e h j = j.more (read_by l) i h (ap (λ (x : Step). x.reads) is) e
 
   row_more :
-      (n own cut : ℕ) (rows readers writers writers' : List ℕ) (a b c : ℕ)
+      (own cut : ℕ) (rows readers writers writers' : List ℕ) (a b c : ℕ)
       → length l ≤ 64
-      → n ≡ length l
-      → i < n
+      → i < length l
       → Filled (row l) i rows
       → length rows ≡ 64
       → own ≡ bit i
@@ -53,39 +52,45 @@ module _ (l : List Step) (i : ℕ) (s : Step) (is : s ≡ get_or l i blank) wher
       → Gathers writers' s.reads b
       → c ≡ cond s.cloth cut 0
       → Filled (row l) (i + 1) (set rows i (bit_and (bit_or (bit_or a b) c) (own - 1)))
-  row_more n own cut rows readers writers writers' a b c short count h filled room e so r w j p q o =
+  row_more own cut rows readers writers writers' a b c short h filled room e so r w j p q o =
       filled_more (row l) i (bit_and (bit_or (bit_or a b) c) (own - 1)) rows filled (omega arith)
       (row_by l i s own cut a b c is e so
       (p (read_by l) (written_by l) i r w ∙ meeting-or (read_by l) (written_by l) s.writes i)
       (q.union (written_by l) (i + 1) (writers-more writers writers' own e w j)) o)
 
-own-some : (i own : ℕ) → own ≡ bit i → 1 ≤ own
-own-some i own e = rw e (pow_pos i)
-
-all-rows : (l : List Step) (n i : ℕ) (rows : List ℕ) → n ≡ length l → n ≤ i → length rows ≡ 64 → Filled (row l) i rows
+all-rows : (l : List Step) (i : ℕ) (rows : List ℕ) → i ≡ length l → length rows ≡ 64 → Filled (row l) i rows
     → rows ≡ table l
 unfolding table
-all-rows l n i rows count past room filled = filled-all (row l) i 64 rows room filled
-    (λ k h. row-past l k (omega arith))
+all-rows l i rows past room filled = filled-all (row l) i 64 rows room filled (λ k h. row-past l k (omega arith))
 
 none-cut : (l : List Step) → 0 ≡ collect (cut_by l) 0
 unfolding collect
 none-cut l = refl
 
 pub loop-i-init : goal.loop-i-init
-loop-i-init c = (refl, (filled_none _ 64, (by-none _, (by-none _, none-cut (steps_in _)))))
-
-pub overflow_sub-rows : goal.overflow_sub-rows
-overflow_sub-rows c = search (rules, own-some)
+loop-i-init c =
+    let start : c.into_iter-i-iterator.result.count ≡ 0 = search rules in
+    rw start (search (rules, turns-init), (refl, (filled_none _ 64, (by-none _, (by-none _, none-cut (steps_in _))))))
 
 pub loop-i-preserved : goal.loop-i-preserved
-loop-i-preserved c = (
-  search rules,
-  (
-    search (rules, row_more),
-    (search (rules, writers-more), (search (rules, readers-more), search (rules, cut-more))),
-  ),
-)
+loop-i-preserved c =
+    let (next, at, on, _) = c.in-Some.ensures.steps in
+    let own : c.bit-own.result ≡ bit c.loop-i.i-iterator.count = c.bit-own.ensures ∙ ap bit at in
+    rw (on, at) (
+      search (rules, turn-on),
+      (
+        search rules,
+        (
+          search (rules, row_more, turn-at, turn-inside),
+          (
+            search (rules, writers-more, turn-at),
+            (search (rules, readers-more, turn-at), search (rules, cut-more, turn-at)),
+          ),
+        ),
+      ),
+    )
 
 pub returns : goal.returns
-returns c = search (rules, all-rows)
+returns c =
+    let (turns, (room, (filled, _))) = c.loop-i.invariant in
+    all-rows _ _ _ (turns-done turns c.in-None.ensures.steps.0.0) room filled

@@ -3,7 +3,8 @@
 use mathlib.Core.Path.{◌≡◌}
 use lib.ListN.{length}
 use Rattle.mask.specs.Mask.{collect}
-use Rattle.flat.specs.Flat.{steps_in}
+use Rattle.flat.specs.Flat.{steps_in, steps_left}
+use Rattle.flat.proofs.InTurn.{Turns}
 use Rattle.precedence.specs.Precedence.{row}
 use Rattle.precedence.specs.inner.ByVariable.{ByVariable}
 use Rattle.precedence.proofs.Filled.{Filled}
@@ -12,8 +13,10 @@ use Rattle.precedence.proofs.table_of.Given as goal
 
 abbrev pub invariant-loop-i : goal.invariant-loop-i
 invariant-loop-i l =
-    (length l.rows ≡ 64)
-    × (Filled (row (steps_in l.occurrences)) l.i l.rows
-    × (ByVariable (written_by (steps_in l.occurrences)) l.i l.writers
-    × (ByVariable (read_by (steps_in l.occurrences)) l.i l.readers
-    × (l.cut ≡ collect (cut_by (steps_in l.occurrences)) l.i))))
+    let i = l.i-iterator.count in
+    Turns (steps_in l.occurrences) i (steps_left l.i-iterator.iter)
+    × ((length l.rows ≡ 64)
+    × (Filled (row (steps_in l.occurrences)) i l.rows
+    × (ByVariable (written_by (steps_in l.occurrences)) i l.writers
+    × (ByVariable (read_by (steps_in l.occurrences)) i l.readers
+    × (l.cut ≡ collect (cut_by (steps_in l.occurrences)) i)))))

@@ -1,18 +1,17 @@
 -- `sheet_lines::step_lines`: the steps that are left.
 use borrow.Author.Rules.{rules}
-use Rattle.emit.proofs.Loops.{left-start}
-use Rattle.route.specs.Steps.{blank}
-use Rattle.sheet_lines.proofs.EachLine.{steps-lined, each-room, each_turn, each-end}
+use Rattle.emit.proofs.Loops.{left-start, left_as}
+use Rattle.sheet_lines.proofs.EachLine.{steps-lined, none-left, first-room, first_turn}
 use Rattle.sheet_lines.proofs.step_lines.Goals as goal
 
-pub loop-i-init : goal.loop-i-init
-loop-i-init c = (search rules, search (rules, left-start))
+pub loop-s-init : goal.loop-s-init
+loop-s-init c = left_as (search rules) (left-start c.requires)
 
 pub step_line-p-requires : goal.step_line-p-requires
-step_line-p-requires c = search (rules, each-room steps-lined blank)
+step_line-p-requires c = first-room steps-lined _ c.loop-s.invariant _ _ c.in-Some.ensures.steps
 
-pub loop-i-preserved : goal.loop-i-preserved
-loop-i-preserved c = (search rules, search (rules, each_turn steps-lined blank))
+pub loop-s-preserved : goal.loop-s-preserved
+loop-s-preserved c = first_turn steps-lined _ c.loop-s.invariant _ _ c.in-Some.ensures.steps c.step_line-p.ensures
 
 pub returns : goal.returns
-returns c = search (rules, each-end steps-lined blank)
+returns c = search (rules, none-left steps-lined)

@@ -33,7 +33,8 @@ loop-at-smaller-then-is_err-2 c = search (rules, done-later)
 pub loop-at-preserved-then-is_err-2 : goal.loop-at-preserved-then-is_err-2
 loop-at-preserved-then-is_err-2 c =
     named-row _ _ _ _ _ _ _ _ _ _ _ c.loop-at.invariant c.loop-at-test.true _ c.in_ok-n.ensures
-    (rows-ok _ c.if-is_err.ensures.negation) _ c.done_row-rows.ensures (rows-err _ c.if-is_err-2.ensures.negation)
+    (rows-ok _ c.if-is_err.ensures.negation) _ c.v.view_is _
+    c.done_row-rows.ensures (rows-err _ c.if-is_err-2.ensures.negation)
 
 pub bounds-list-len : goal.bounds-list-len
 bounds-list-len c =
@@ -48,7 +49,8 @@ loop-at-smaller c = search (rules, done-later)
 pub loop-at-preserved : goal.loop-at-preserved
 loop-at-preserved c =
     named-name _ _ _ _ _ _ _ _ _ _ _ c.loop-at.invariant c.loop-at-test.true _ c.in_ok-n.ensures
-    (rows-ok _ c.if-is_err.ensures.negation) _ c.done_row-rows.ensures (rows-ok _ c.if-is_err-2.ensures.negation)
+    (rows-ok _ c.if-is_err.ensures.negation) _ c.v.view_is _
+    c.done_row-rows.ensures (rows-ok _ c.if-is_err-2.ensures.negation) _ c.low.ensures
 
 pub returns : goal.returns
 returns c = search (rules, dones-done)

@@ -1,10 +1,16 @@
--- `shelf::editions::numbers_in`: the numbers taken so far are the first of the entries'.
+-- `shelf::editions::numbers_in`: each number is its entry's.
+use mathlib.Core.Path.{ap, ◌∙◌}
+use lib.ListN.{length}
 use borrow.Author.Rules.{rules}
-use Rattle.shelf.proofs.Numbers.{numbers_more, numbers-all}
+use Rattle.shelf.specs.Shelf.{numbers_in}
+use Rattle.shelf.proofs.Numbers.{numbers-mapped}
 use Rattle.shelf.proofs.editions.numbers_in.Goals as goal
 
-pub loop-i-preserved : goal.loop-i-preserved
-loop-i-preserved c = record { room = search rules; taken = search (rules, numbers_more) }
-
 pub returns : goal.returns
-returns c = (search (rules, numbers-all), search rules)
+returns c =
+    let called = c.map.ensures.items in (
+      numbers-mapped 8 c.each_ref.result c.map.result called.long (ap length c.each_ref.ensures.items ∙ search rules)
+          (λ i d e h. let was = (called.at i d e h).2.met in search rules)
+          ∙ ap numbers_in c.each_ref.ensures.items,
+      search rules,
+    )
