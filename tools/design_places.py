@@ -70,18 +70,31 @@ def clauses(head):
         yield m.group(1), re.sub(r'\s+', ' ', head[m.end():j - 1]).strip()
 
 def structs(text):
-    for m in re.finditer(r'^( *)(?:pub )?(struct|enum) (\w+)[^\n{;]*\{\n(.*?)^\1\}', text, re.S | re.M):
+    for m in re.finditer(r'^( *)(?:pub(?:\(crate\))? )?(struct|enum) (\w+)[^\n{;]*\{\n(.*?)^\1\}', text, re.S | re.M):
         yield text[:m.start()].count('\n') + 1, m.group(2), m.group(3), m.group(4)
+
+def members(body):
+    """What a struct's or an enum's body declares, in any order: its fields, or its variants; no comments, no attributes."""
+    plain = re.sub(r'//[^\n]*|#\[[^\n]*\]|\bpub(?:\(crate\))? ', '', body)
+    depth, out = 0, ['']
+    for c in re.sub(r'\s+', ' ', plain).replace('->', ''):
+        depth += {'{': 1, '(': 1, '[': 1, '<': 1, '}': -1, ')': -1, ']': -1, '>': -1}.get(c, 0)
+        if c == ',' and depth == 0:
+            out.append('')
+        else:
+            out[-1] += c
+    return tuple(sorted(m.strip() for m in out if m.strip()))
 
 def places(commit):
     found = collections.defaultdict(list)
-    facts, travel, shapes = (collections.defaultdict(list) for _ in range(3))
+    facts, travel, shapes, kinds = (collections.defaultdict(list) for _ in range(4))
     for name, text in sources(commit):
         crate = name.split('/')[1]
         def add(point, line, what):
             found[point].append(f'{name}:{line}: {what}')
         for line, kind, title, body in structs(text):
             fields = re.findall(r'^ +(?:pub )?(\w+): ([^\n]+),$', body, re.M)
+            kinds[(kind, members(body))].append(f'{name}:{line}: {kind} {title}')
             if kind == 'enum':
                 variants = [v for v in re.findall(r'^ +(\w+)(\(|,)', body, re.M)]
                 if 2 <= len(variants) <= 3 and any(v[1] == '(' for v in variants) and any(v[1] == ',' for v in variants):
@@ -109,7 +122,8 @@ def places(commit):
                 add('1 kind by a number', line, f'parameter of {fn}')
             if re.search(r'\d+$', fn):
                 add('2 twin by name', line, f'fn {fn}')
-            shape = re.sub(r'\b[a-z_]\w*\b|\d+', 'x', re.sub(r'\s+', ' ', body)).strip()
+            # any identifier, keyword or number counts as any other
+            shape = re.sub(r'\w+', 'x', re.sub(r'\s+', ' ', body)).strip()
             if len(body.split('\n')) >= 3:
                 shapes[(shape)].append(f'{name}:{line}: fn {fn}')
             if re.match(r'(wide|low|narrow)\d*$', fn):
@@ -146,7 +160,7 @@ def places(commit):
                     add('3 loop over bits by hand', i + 1, m.group(1))
                 else:
                     add('3 other while', i + 1, m.group(1))
-            if re.match(r' *for \w+ in 0\.\.', l):
+            if re.match(r' *for \w+ in \(?\d+\.\.', l):
                 add('3 for over indices (as it is)', i + 1, l.strip())
             if re.match(r' *(pub )?const STOP\b', l):
                 add('1 sentinel', i + 1, l.strip())
@@ -157,6 +171,9 @@ def places(commit):
         if len(where) > 1:
             for w in where:
                 found['2 functions of one shape'].append(w)
+    for where in kinds.values():
+        if len(where) > 1:
+            found['2 structs of one shape'] += where
     for (k, fact), where in sorted(facts.items(), key=lambda x: -len(x[1])):
         if len(where) >= 3 and k == 'requires':
             found['5 fact in three contracts or more'].append(f'{len(where)} times: {fact}: ' + ', '.join(w.split(' ')[-1] for w in where))

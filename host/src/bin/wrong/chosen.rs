@@ -120,6 +120,7 @@ fn jobs() -> String {
     [
         judge(&other_writes),
         judge(&dropped),
+        print(&dropped, 200),
         on_records(SLICE, &other_variables, &[]),
         on_records(SLICE + LENT, &other_variables, &[]),
         print(&longer, 7_100),
@@ -136,15 +137,19 @@ fn jobs() -> String {
 }
 
 /// Two steps that put a token on one place: neither can follow the other, unless
-/// a third takes it away.
+/// a third takes it away. And a step that must come before one that takes its
+/// place's token for good: the search finds the set without it dead first.
 fn searches() -> String {
     let one = |places: [&[u64]; 2]| step(10, places, [&[], &[0]]);
     let two = |places: [&[u64]; 2]| step(20, places, [&[], &[1]]);
     let three = step(30, [&[2], &[3]], [&[1], &[2]]);
     let old = [one([&[0], &[1]]), two([&[1], &[2]]), three.clone()];
     let new = [one([&[0], &[2]]), two([&[1], &[2]]), three];
+    let round = step(30, [&[1], &[1]], [&[1], &[2]]);
+    let taken = [one([&[1], &[2]]), two([&[0], &[1]]), round];
     [
         judge(&job(&route(4, &old), &route(4, &new), &[10, 20, 30])),
+        judge(&job(&route(4, &old), &route(3, &taken), &[10, 20, 30])),
         judge(&job(&route(3, &old[..2]), &route(3, &new[..2]), &[10, 20])),
     ]
     .concat()
