@@ -7,6 +7,9 @@
  * Every pointer is lent for the call and stays the caller's. A buffer that is written (work, out) and the numbers that are stored may not overlap each
  * other or a buffer that is read. A pointer whose length is 0 may be any non-null pointer. The numbers behind second, marking and written are stored on
  * every path.
+ *
+ * In a sheet a line `(start ..)` follows each of the heads `(old N)` and `(new N)`: the places that hold a token before the first step. Where it is
+ * empty the refusal is 7, at its own line.
  */
 #ifndef REROUTE_H
 #define REROUTE_H
@@ -18,9 +21,10 @@
 extern "C" {
 #endif
 
-/* The length that the work buffer needs, and one that is always enough for a listing. */
+/* The length that the work buffer needs, one that is always enough for a listing, and the most bytes that a sheet which reads can have. */
 #define REROUTE_WORK 8192
 #define REROUTE_LISTING 7053
+#define REROUTE_SHEET 20500
 
 /* Tries an order that somebody hands in for the job of a sheet.
  *

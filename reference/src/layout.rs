@@ -37,17 +37,32 @@ impl Reader<'_> {
         Ok(Sheet { old, new, done })
     }
 
-    /// A head line and the step lines after it.
+    /// A head line, its start line and the step lines after it.
     fn route(&mut self, head: &str) -> Result<Route, Refusal> {
         self.take(head)?;
         let places = self.number()?;
         self.take(")\n")?;
+        let start = self.start()?;
         let mut steps = Vec::new();
         // A second letter `s` tells a step from the next head.
         while self.bytes[self.at..].starts_with(b"(s") {
             steps.push(self.step()?);
         }
-        Ok(Route { places, steps })
+        Ok(Route {
+            places,
+            start,
+            steps,
+        })
+    }
+
+    /// The start line, which must be there where the version has it.
+    fn start(&mut self) -> Result<Vec<u64>, Refusal> {
+        let mut start = Vec::new();
+        if self.version.start {
+            start = self.list("(start")?;
+            self.take("\n")?;
+        }
+        Ok(start)
     }
 
     fn step(&mut self) -> Result<Step, Refusal> {

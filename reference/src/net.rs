@@ -9,8 +9,14 @@ use std::collections::BTreeSet;
 /// The places with a token.
 pub type Marking = BTreeSet<u64>;
 
-/// The start: a token on each place that is an out-place of no step.
+/// The start (02, A.5): a token on each place of the start line.
 pub fn start(route: &Route) -> Marking {
+    route.start.iter().copied().collect()
+}
+
+/// 01's start, which is only implied: a token on each place that is an out-place of
+/// no step. No operation begins there any more.
+pub fn implied_start(route: &Route) -> Marking {
     (0..route.places)
         .filter(|place| !route.steps.iter().any(|step| step.outs.contains(place)))
         .collect()
@@ -45,14 +51,15 @@ pub fn fire(marking: &Marking, step: &Step) -> Result<Marking, Refusal> {
     Ok(next)
 }
 
-/// Rows 6 and 7 of one route: a place in no step, no start place.
+/// Rows 6 and 7 of one route: a place in no step, at its head; an empty start, at its
+/// own line.
 pub fn check_places(route: &Route, head: usize) -> Result<(), Refusal> {
     let used = |place: &u64| {
         let mut steps = route.steps.iter();
         steps.any(|step| step.ins.contains(place) || step.outs.contains(place))
     };
     refuse_if(!(0..route.places).all(|place| used(&place)), 6, head)?;
-    refuse_if(start(route).is_empty(), 7, head)
+    refuse_if(start(route).is_empty(), 7, lines::start_line(head))
 }
 
 /// Runs the done list on the old route, by the rows to 9; gives its marking.

@@ -1,11 +1,13 @@
-//! Random sheets: an old route drawn from a tree of blocks, a done list got by
-//! really running it, and a new route that is the old one redrawn in small ways.
+//! Random sheets: an old route drawn from a tree of blocks, a new route that is the old
+//! one redrawn in small ways, a start for each, and a done list got by really running
+//! the old one.
 //! Random scripts: operations on such jobs, on jobs at the limits, and on wrong
 //! records, sheets and orders; operations on shelves of such routes; and look-ups.
 
 pub mod block;
 pub mod cloth;
 pub mod damage;
+mod damage_start;
 pub mod dice;
 pub mod jobs;
 pub mod lookup;
@@ -16,6 +18,7 @@ pub mod records;
 pub mod redraw;
 pub mod script;
 pub mod shelf;
+pub mod starts;
 
 use crate::net;
 use crate::sheet::{self, Route, Sheet};
@@ -30,17 +33,8 @@ pub fn sheet(dice: &mut Dice) -> Sheet {
     if dice.chance(4) {
         redraw::change_a_place(&mut old, dice);
     }
-    let length = if dice.chance(60) {
-        length
-    } else {
-        dice.below(length + 1)
-    };
-    let mut done = run_at_random(&old, length, dice);
-    if dice.chance(6) {
-        spoil(&mut done, dice);
-    }
     let mut redrawn = plan.clone();
-    if dice.chance(40) {
+    if dice.chance(50) {
         redraw::reorder(&mut redrawn, dice);
     }
     for _ in 0..[0, 1, 1, 1, 1, 2, 2, 3][dice.below(8)] {
@@ -50,15 +44,39 @@ pub fn sheet(dice: &mut Dice) -> Sheet {
     if dice.chance(4) {
         redraw::change_a_place(&mut new, dice);
     }
+    change_starts(&mut old, &mut new, dice);
+    let length = if dice.chance(60) {
+        length
+    } else {
+        dice.below(length + 1)
+    };
+    let mut done = run_at_random(&old, length, dice);
+    match dice.below(100) {
+        0..=7 => spoil(&mut done, dice),
+        8..=9 => starts::change(&mut old, dice),
+        _ => {}
+    }
     Sheet { old, new, done }
+}
+
+/// Some jobs have begun further on, and few routes have a start of another kind.
+fn change_starts(old: &mut Route, new: &mut Route, dice: &mut Dice) {
+    match dice.below(100) {
+        0..=6 => starts::move_on([old, new], dice),
+        7..=10 => starts::change(old, dice),
+        11..=14 => starts::change(new, dice),
+        15 => starts::take_away([old, new][dice.below(2)]),
+        _ => {}
+    }
 }
 
 /// A plan, and how long a done list on it may get.
 fn plan_and_length(dice: &mut Dice) -> (Plan, usize) {
     match dice.below(100) {
-        0..=9 => (Plan::looping(dice), dice.from_to(12, 64)),
-        10..=29 => (Plan::random(9, 14, dice), 14),
-        30..=39 => (Plan::cutting(dice), 16),
+        0..=7 => (Plan::looping(dice), dice.from_to(12, 64)),
+        8..=15 => (Plan::round(dice), dice.from_to(4, 20)),
+        16..=37 => (Plan::random(9, 14, dice), 14),
+        38..=46 => (Plan::cutting(dice), 16),
         _ => (Plan::random(1, 7, dice), 9),
     }
 }

@@ -17,10 +17,12 @@ pub struct Record {
     pub cloth: bool,
 }
 
-/// A route by value: its first `len` records are its steps. `len` may be past 64.
+/// A route by value: its start is a mask, and its first `len` records are its steps.
+/// `len` may be past 64.
 #[derive(Clone, Copy, Debug, PartialEq, Eq)]
 pub struct RouteByValue {
     pub places: u32,
+    pub start: u64,
     pub len: u64,
     pub records: [Record; MOST_STEPS],
 }
@@ -74,11 +76,12 @@ impl Record {
 
 impl RouteByValue {
     /// The records past those given, at most 64, are blank.
-    pub fn of(places: u32, len: u64, given: &[Record]) -> RouteByValue {
+    pub fn of(places: u32, start: u64, len: u64, given: &[Record]) -> RouteByValue {
         let mut records = [Record::default(); MOST_STEPS];
         records[..given.len()].copy_from_slice(given);
         RouteByValue {
             places,
+            start,
             len,
             records,
         }
@@ -92,6 +95,7 @@ impl RouteByValue {
         records.resize(taken, Record::default());
         Route {
             places: self.places.into(),
+            start: entries(self.start),
             steps: records.iter().map(Record::step).collect(),
         }
     }

@@ -20,10 +20,12 @@ pub struct Step {
     pub cloth: bool,
 }
 
-/// A route: the number N of its places, and its steps.
+/// A route: the number N of its places, those with a token at the start (02, A.5), and
+/// its steps. Read by 01's version, its start is empty.
 #[derive(Clone, Debug, PartialEq, Eq)]
 pub struct Route {
     pub places: u64,
+    pub start: Vec<u64>,
     pub steps: Vec<Step>,
 }
 
@@ -51,12 +53,22 @@ impl Sheet {
 
     /// The line of `(new N)`.
     pub fn new_line(&self) -> usize {
-        self.old_line() + self.old.steps.len() + 1
+        self.new_line_by(&Version::PRESENT)
     }
 
     /// The line of `(job)`.
     pub fn job_line(&self) -> usize {
-        self.new_line() + self.new.steps.len() + 1
+        self.job_line_by(&Version::PRESENT)
+    }
+
+    /// The line of `(new N)` in a sheet of this version.
+    pub fn new_line_by(&self, version: &Version) -> usize {
+        version.first_step_line(self.old_line()) + self.old.steps.len()
+    }
+
+    /// The line of `(job)` in a sheet of this version.
+    pub fn job_line_by(&self, version: &Version) -> usize {
+        version.first_step_line(self.new_line_by(version)) + self.new.steps.len()
     }
 
     /// The done line of an occurrence, counted from 1.
@@ -124,14 +136,27 @@ pub fn write(sheet: &Sheet, out: &mut [u8]) -> Result<usize, Refusal> {
 
 /// The sheet of these facts, with no row looked at.
 pub fn text(sheet: &Sheet) -> String {
-    let mut text = format!("(old {})\n", sheet.old.places);
-    sheet.old.steps.iter().for_each(|s| text += &step_text(s));
-    text += &format!("(new {})\n", sheet.new.places);
-    sheet.new.steps.iter().for_each(|s| text += &step_text(s));
+    text_by(sheet, &Version::PRESENT)
+}
+
+/// The same with start lines only where the version has them.
+pub fn text_by(sheet: &Sheet, version: &Version) -> String {
+    let mut text = route_text("old", &sheet.old, version);
+    text += &route_text("new", &sheet.new, version);
     text += "(job)\n";
     for name in &sheet.done {
         text += &format!("(done {name})\n");
     }
+    text
+}
+
+/// A head line, its start line and the step lines.
+fn route_text(word: &str, route: &Route, version: &Version) -> String {
+    let mut text = format!("({word} {})\n", route.places);
+    if version.start {
+        text += &format!("{}\n", form("start", &route.start));
+    }
+    route.steps.iter().for_each(|s| text += &step_text(s));
     text
 }
 

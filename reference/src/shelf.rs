@@ -32,7 +32,7 @@ impl Edition {
     pub fn blank() -> Edition {
         Edition {
             number: 0,
-            route: RouteByValue::of(0, 0, &[]),
+            route: RouteByValue::of(0, 0, 0, &[]),
         }
     }
 }

@@ -1,5 +1,5 @@
-//! Versions of the sheet's layout: 01's, and the present one with 02's longer names
-//! and its mark.
+//! Versions of the sheet's layout: 01's, and the present one with 02's longer names,
+//! its mark and its start lines.
 
 /// The limits in which versions differ.
 #[derive(Clone, Copy, Debug, PartialEq, Eq)]
@@ -9,6 +9,8 @@ pub struct Version {
     pub greatest_name: u64,
     /// Whether a step form may end with the mark.
     pub cloth: bool,
+    /// Whether a line with the start follows each head.
+    pub start: bool,
 }
 
 impl Version {
@@ -16,17 +18,25 @@ impl Version {
         most_digits: 5,
         greatest_name: 65_535,
         cloth: false,
+        start: false,
     };
 
-    /// By 02, A.2 and A.4.
+    /// By 02, A.2, A.4 and A.5.
     pub const PRESENT: Version = Version {
         most_digits: 10,
         greatest_name: 4_294_967_295,
         cloth: true,
+        start: true,
     };
 
     /// Whether a name may be this number.
     pub fn is_name(&self, number: u64) -> bool {
         (1..=self.greatest_name).contains(&number)
+    }
+
+    /// The line of a route's first step, or of what follows where it has none, with
+    /// the head at this line.
+    pub fn first_step_line(&self, head: usize) -> usize {
+        head + 1 + usize::from(self.start)
     }
 }

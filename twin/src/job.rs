@@ -12,12 +12,7 @@ pub enum Way {
     /// All fire in turn on the new route and end on this marking.
     Straight(u64),
     /// The kept, to be put in an order from the new route's start.
-    Search(Kept),
-}
-
-pub struct Kept {
-    pub mask: u64,
-    pub start: u64,
+    Search(u64),
 }
 
 /// What each occurrence reads and writes, which of them cut cloth, where their names
@@ -65,34 +60,33 @@ pub fn compared(bytes: &[u8]) -> Result<[usize; 2], Refusal> {
     let mut sheet = Sheet::new();
     sheet.read(bytes)?;
     let mut uses = Uses::new();
-    found(&sheet, &mut uses)?;
+    find(&sheet, &mut uses)?;
     Ok(uses.compared)
 }
 
 /// The rows to 12 of a sheet that reads; fills in what its occurrences use.
 pub fn way(sheet: &Sheet, uses: &mut Uses) -> Result<Way, Refusal> {
-    let start = found(sheet, uses)?;
-    if let Some(end) = straight(sheet, start, uses) {
+    find(sheet, uses)?;
+    if let Some(end) = straight(sheet, uses) {
         return Ok(Way::Straight(end));
     }
-    let mask = kept(uses, sheet.new.variables);
-    check_kept(sheet, mask, uses)?;
-    Ok(Way::Search(Kept { mask, start }))
+    let kept = kept(uses, sheet.new.variables);
+    check_kept(sheet, kept, uses)?;
+    Ok(Way::Search(kept))
 }
 
-/// The rows from 6 to 9; finds the occurrences in both routes, and gives the new
-/// one's start.
-fn found(sheet: &Sheet, uses: &mut Uses) -> Result<u64, Refusal> {
-    let old_start = sheet.old.start().map_err(|number| (number, 1))?;
-    let start = sheet.new.start().map_err(|n| (n, sheet.new_line()))?;
-    run(sheet, old_start, uses)?;
+/// The rows from 6 to 9; finds the occurrences in both routes.
+fn find(sheet: &Sheet, uses: &mut Uses) -> Result<(), Refusal> {
+    sheet.old.check(1)?;
+    sheet.new.check(sheet.new_line())?;
+    run(sheet, uses)?;
     place(sheet, uses);
-    Ok(start)
+    Ok(())
 }
 
-/// Runs the done list on the old route: rows 8 and 9.
-fn run(sheet: &Sheet, start: u64, uses: &mut Uses) -> Result<(), Refusal> {
-    let mut marking = start;
+/// Runs the done list on the old route, from its start: rows 8 and 9.
+fn run(sheet: &Sheet, uses: &mut Uses) -> Result<(), Refusal> {
+    let mut marking = sheet.old.start;
     let mut lookup = Lookup::default();
     for (index, &name) in sheet.done[..sheet.done_len].iter().enumerate() {
         let Some(place) = lookup.find(sheet.old.all(), name) else {
@@ -122,9 +116,9 @@ fn place(sheet: &Sheet, uses: &mut Uses) {
     uses.compared[1] = lookup.compared;
 }
 
-/// Where the whole done list ends on the new route, if it goes straight.
-fn straight(sheet: &Sheet, start: u64, uses: &Uses) -> Option<u64> {
-    let mut marking = start;
+/// Where the whole done list ends on the new route, if it goes straight from its start.
+fn straight(sheet: &Sheet, uses: &Uses) -> Option<u64> {
+    let mut marking = sheet.new.start;
     for index in 0..uses.len {
         let step = uses.step(sheet, index)?;
         if !step.can_fire(marking) || !same_work(step, uses, index) {

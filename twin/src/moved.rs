@@ -1,6 +1,6 @@
 //! A job that moves: the facts that its listing shows.
 
-use crate::job::{Kept, Uses, Way};
+use crate::job::{Uses, Way};
 use crate::precedence::Precedence;
 use crate::reader::Sheet;
 use crate::route::MOST;
@@ -29,7 +29,7 @@ impl Moved {
         match way {
             Way::Straight(marking) => Ok(Moved::straight(*marking, sheet, uses)),
             Way::Search(kept) => {
-                Moved::searched(kept, sheet, uses, work).ok_or((13, sheet.job_line()))
+                Moved::searched(*kept, sheet, uses, work).ok_or((13, sheet.job_line()))
             }
         }
     }
@@ -46,8 +46,8 @@ impl Moved {
         }
     }
 
-    fn searched(kept: &Kept, sheet: &Sheet, uses: &Uses, work: &mut [u8; WORK]) -> Option<Moved> {
-        let precedence = Precedence::of(uses, kept.mask);
+    fn searched(kept: u64, sheet: &Sheet, uses: &Uses, work: &mut [u8; WORK]) -> Option<Moved> {
+        let precedence = Precedence::of(uses, kept);
         let mut candidates = [Candidate::default(); 16];
         for (index, candidate) in candidates.iter_mut().enumerate().take(precedence.len) {
             let step = uses.step(sheet, usize::from(precedence.at[index]))?;
@@ -59,7 +59,7 @@ impl Moved {
             };
         }
         let candidates = &candidates[..precedence.len];
-        let (found, marking) = search::first_order(candidates, kept.start, work)?;
+        let (found, marking) = search::first_order(candidates, sheet.new.start, work)?;
         let mut order = [0; MOST];
         for (place, &index) in order.iter_mut().zip(&found[..precedence.len]) {
             *place = precedence.at[usize::from(index)];

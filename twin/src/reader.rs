@@ -45,11 +45,11 @@ impl Sheet {
     }
 
     pub fn new_line(&self) -> u64 {
-        2 + self.old.len as u64
+        3 + self.old.len as u64
     }
 
     pub fn job_line(&self) -> u64 {
-        self.new_line() + 1 + self.new.len as u64
+        self.new_line() + 2 + self.new.len as u64
     }
 
     /// The line of the done name at this index, from 0.
@@ -74,13 +74,15 @@ impl Reader<'_> {
         Ok(())
     }
 
-    /// The rest of a head line, and the step lines.
+    /// The rest of a head line, the start line, and the step lines.
     fn route(&mut self, route: &mut Route) -> Result<(), Broken> {
         route.places = self.cursor.number()?;
-        self.cursor.take(b")\n")?;
+        self.cursor.take(b")\n(start")?;
         if !PLACES.contains(&route.places) {
             self.put_by(2);
         }
+        self.line += 1;
+        self.start(route)?;
         self.line += 1;
         while self.cursor.sees(b"(s") {
             let line = self.step()?;
@@ -89,6 +91,19 @@ impl Reader<'_> {
             }
             self.line += 1;
         }
+        Ok(())
+    }
+
+    /// The places of a start line, and rows 2 and 3 on them.
+    fn start(&mut self, route: &mut Route) -> Result<(), Broken> {
+        let list = self.cursor.list()?;
+        self.cursor.take(b")\n")?;
+        if list.above > route.places {
+            self.put_by(2);
+        } else if list.falls {
+            self.put_by(3);
+        }
+        route.start = list.mask;
         Ok(())
     }
 

@@ -1,6 +1,7 @@
 //! A route: its steps as masks, and what is gathered while they are read.
 
 use crate::names::Names;
+use crate::Refusal;
 
 /// The most steps of a route, and the most done lines of a job.
 pub const MOST: usize = 64;
@@ -30,12 +31,13 @@ impl Step {
 
 pub struct Route {
     pub places: u64,
+    /// The places with a token at the start.
+    pub start: u64,
     pub len: usize,
     pub steps: [Step; MOST],
     names: Names,
-    /// All in-places, all out-places and all variables of the steps.
-    ins: u64,
-    outs: u64,
+    /// All places and all variables of the steps.
+    used: u64,
     pub variables: u32,
 }
 
@@ -43,11 +45,11 @@ impl Route {
     pub fn new() -> Route {
         Route {
             places: 0,
+            start: 0,
             len: 0,
             steps: [Step::default(); MOST],
             names: Names::new(),
-            ins: 0,
-            outs: 0,
+            used: 0,
             variables: 0,
         }
     }
@@ -59,8 +61,7 @@ impl Route {
         }
         self.steps[self.len] = step;
         self.len += 1;
-        self.ins |= step.ins;
-        self.outs |= step.outs;
+        self.used |= step.ins | step.outs;
         self.variables |= step.reads | step.writes;
         true
     }
@@ -70,16 +71,15 @@ impl Route {
         &self.steps[..self.len]
     }
 
-    /// Rows 6 and 7: the start, or the number of the row.
-    pub fn start(&self) -> Result<u64, u32> {
+    /// Rows 6 and 7 of a route with its head at this line.
+    pub fn check(&self, head: u64) -> Result<(), Refusal> {
         let all = u64::MAX >> (64 - self.places);
-        let start = all & !self.outs;
-        if all & !(self.ins | self.outs) != 0 {
-            return Err(6);
+        if self.used != all {
+            return Err((6, head));
         }
-        if start == 0 {
-            return Err(7);
+        if self.start == 0 {
+            return Err((7, head + 1));
         }
-        Ok(start)
+        Ok(())
     }
 }

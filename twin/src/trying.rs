@@ -20,16 +20,13 @@ fn tried(bytes: &[u8], order: &[u8]) -> Result<u64, Refusal> {
     let mut sheet = Sheet::new();
     sheet.read(bytes)?;
     let mut uses = Uses::new();
-    let (kept, start) = match job::way(&sheet, &mut uses)? {
+    let kept = match job::way(&sheet, &mut uses)? {
         Way::Straight(end) if in_turn(order, uses.len) => return Ok(end),
-        Way::Straight(_) => {
-            let start = sheet.new.start().map_err(|number| (number, 0))?;
-            (job::kept(&uses, sheet.new.variables), start)
-        }
-        Way::Search(kept) => (kept.mask, kept.start),
+        Way::Straight(_) => job::kept(&uses, sheet.new.variables),
+        Way::Search(kept) => kept,
     };
     check_list(order, kept)?;
-    fire_list(&sheet, &uses, kept, start, order)
+    fire_list(&sheet, &uses, kept, order)
 }
 
 /// The order is 1, 2, .. to the last.
@@ -58,15 +55,9 @@ fn check_list(order: &[u8], kept: u64) -> Result<(), Refusal> {
 }
 
 /// Rows 17 and 18 for each entry. Every kept occurrence is there once.
-fn fire_list(
-    sheet: &Sheet,
-    uses: &Uses,
-    kept: u64,
-    start: u64,
-    order: &[u8],
-) -> Result<u64, Refusal> {
+fn fire_list(sheet: &Sheet, uses: &Uses, kept: u64, order: &[u8]) -> Result<u64, Refusal> {
     let precedence = Precedence::of(uses, kept);
-    let (mut placed, mut marking) = (0, start);
+    let (mut placed, mut marking) = (0, sheet.new.start);
     for (entry, at) in order.iter().zip(1..) {
         let position = usize::from(*entry) - 1;
         let index = (kept & ((1 << position) - 1)).count_ones();

@@ -11,7 +11,7 @@ ghost use Rattle.lent_reading.specs.Reading.{counted};
 use lent::LentJob;
 use reader::Lengths;
 use refusal::Refusal;
-use route::Step;
+use route::{Places, Step};
 
 // An array of records, of which the first `len` are lent: such a caller is what this crate shows.
 #[derive(Clone, Copy)]
@@ -22,9 +22,9 @@ pub struct Array {
 }
 
 pub fn job<'a>(
-    old_places: u64,
+    old_places: Places,
     old: &'a Array,
-    new_places: u64,
+    new_places: Places,
     new: &'a Array,
     done: &'a [u32],
 ) -> LentJob<'a>

@@ -1,7 +1,7 @@
 // drive: a script of operations on standard input, and on standard output what each answers: a line for each, up to the
 // first that isn't whole. A script is numbers in base ten with spaces or LFs between, for each operation its own number
-// and its arguments. A record is its name, in-places, out-places, reads, writes and mark, 1 or 0. The program takes the
-// first 65,536 bytes and reads no further.
+// and its arguments. A record is its name, in-places, out-places, reads, writes and mark, 1 or 0; a route's place count
+// has the mask of its start places behind it. The program takes the first 65,536 bytes and reads no further.
 //
 //     1                  fire: tokens and a record
 //     2, 3, 4, 5, 8      run, slice, try, judge and write over two routes by value and a done list; then the order, the

@@ -7,7 +7,7 @@ use facts::Sheet;
 use out_slice::Wrote;
 use reader::Counts;
 use refusal::Refusal;
-use route::{Fired, Marking, Route, Step};
+use route::{Fired, Marking, Places, Route, Step};
 use slicing::Sliced;
 use std::alloc::AllocError;
 
@@ -45,8 +45,13 @@ fn records(out: &mut Answer, list: &[Step]) -> Result<(), AllocError> {
     Ok(())
 }
 
+// A place count, the mask of the start places, and how many steps.
+pub fn head(places: Places, len: usize) -> [u64; 3] {
+    [places.count, places.start, len as u64]
+}
+
 fn route(out: &mut Answer, r: &Route) -> Result<(), AllocError> {
-    out.list(&[r.places, r.len as u64])?;
+    out.list(&head(r.places, r.len))?;
     records(out, &r.steps)
 }
 
@@ -70,8 +75,9 @@ pub fn printed(out: &mut Answer, r: &Wrote, work: &[u8], s: &[u8]) -> Result<(),
 
 pub fn counts(out: &mut Answer, c: &Counts) -> Result<(), AllocError> {
     out.list(&[u64::from(c.number), c.second])?;
-    out.list(&[c.old_places, c.old_len as u64])?;
-    out.list(&[c.new_places, c.new_len as u64, c.done_len as u64])
+    out.list(&head(c.old_places, c.old_len))?;
+    out.list(&head(c.new_places, c.new_len))?;
+    out.number(c.done_len as u64)
 }
 
 // A lent list afterwards: its length, then each record.

@@ -8,14 +8,14 @@ use drive_out::Answer;
 use drive_routes::answer;
 use drive_script::operations::OverJob;
 use lent::LentJob;
-use route::Step;
+use route::{Places, Step};
 
 // The lists to lend.
 #[derive(Drop)]
 struct Lists {
-    old_places: u64,
+    old_places: Places,
     old: Vec<Step>,
-    new_places: u64,
+    new_places: Places,
     new: Vec<Step>,
     done: Vec<u32>,
 }
@@ -35,9 +35,9 @@ impl Lists {
 impl Argument for Lists {
     fn take(script: &mut Script<'_>) -> Result<Lists, Stop> {
         Ok(Lists {
-            old_places: u64::from(u32::take(script)?),
+            old_places: Places::take(script)?,
             old: script.list(LENT)?,
-            new_places: u64::from(u32::take(script)?),
+            new_places: Places::take(script)?,
             new: script.list(LENT)?,
             done: script.names()?,
         })

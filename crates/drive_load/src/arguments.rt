@@ -1,6 +1,6 @@
 // What an argument is made of, each kind by its numbers.
 use crate::{Routes, Script, Stop};
-use route::{Route, Step};
+use route::{Places, Route, Step};
 
 pub trait Argument: Drop {
     fn take(script: &mut Script<'_>) -> Result<Self, Stop>;
@@ -37,11 +37,21 @@ impl Argument for Step {
     }
 }
 
-// A route by value: a place count, any `len`, and records counted.
+// A place count, and any mask of start places.
+impl Argument for Places {
+    fn take(script: &mut Script<'_>) -> Result<Places, Stop> {
+        Ok(Places {
+            count: u64::from(u32::take(script)?),
+            start: u64::take(script)?,
+        })
+    }
+}
+
+// A route by value: its places, any `len`, and records counted.
 impl Argument for Route {
     fn take(script: &mut Script<'_>) -> Result<Route, Stop> {
         let mut route = Route::empty();
-        route.places = u64::from(u32::take(script)?);
+        route.places = Places::take(script)?;
         route.len = u64::take(script)? as usize;
         let count = script.count(Route::STEPS)?;
         for step in route.steps.iter_mut().take(count) {

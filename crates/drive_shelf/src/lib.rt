@@ -30,10 +30,11 @@ fn whole(script: &mut Script<'_>) -> Result<Shelf, Stop> {
     Ok(shelf)
 }
 
-// An entry: its number, the place count, `len`, and the records' numbers in runs.
+// An entry: its number, the route's places and `len`, and the records' numbers in runs.
 fn entry(out: &mut Answer, e: &Edition) -> Result<(), AllocError> {
     let r = &e.route;
-    out.list(&[u64::from(e.number), r.places, r.len as u64])?;
+    out.number(u64::from(e.number))?;
+    out.list(&drive_answers::head(r.places, r.len))?;
     let records = r.steps.map(|s| drive_answers::record(&s));
     out.runs(records.as_flattened())
 }

@@ -1,14 +1,15 @@
 -- Every sheet of the tables gives its listing, by computing the whole way from the sheet's bytes to the listing's.
 use mathlib.Core.Path.{refl}
+use mathlib.Core.List.{List, [], ◌∷◌, ◌++◌}
 use Rattle.mask.specs.Mask.{has, members_from, members, collect, count}
 use Rattle.route.specs.Steps.{steps_of, union, names, lookup}
-use Rattle.route.specs.Firing.{can_fire, fire, if_fires, start}
+use Rattle.route.specs.Firing.{can_fire, fire, if_fires}
 use Rattle.refusal.specs.Rows.{unless, first}
 use Rattle.opening.specs.Net.{net_row}
 use Rattle.version.specs.Limits.{name_fits}
 use Rattle.name_set.specs.Among.{among}
-use Rattle.job.specs.Lines.{places_fit, step_fits, variable_list, place_list, lists_fit, step_row, step_rows, route_rows}
-use Rattle.job.specs.Lines.{done_row, done_rows, line_rows, checked}
+use Rattle.job.specs.Lines.{places_fit, start_fits, step_fits, variable_list, place_list, lists_fit, step_row}
+use Rattle.job.specs.Lines.{step_rows, head_rows, route_rows, done_row, done_rows, line_rows, checked}
 use Rattle.running.specs.Run.{run_from, ran, performed}
 use Rattle.precedence.specs.Order.{in_turn}
 use Rattle.precedence.specs.Precedence.{clash, tied, comes_after, row}
@@ -23,19 +24,21 @@ use Rattle.candidates.specs.FirstFit.{first_of, first_fit}
 use Rattle.judging.specs.Judge.{judge_found, judge_rows, judged}
 use Rattle.layout.specs.Words.{spelling}
 use Rattle.layout.specs.Points.{digit, alive, expect, chosen, spelt, in_list, past_word, first as first_digit, ended}
-use Rattle.layout.specs.Points.{more as more_digits, closed, next}
-use Rattle.layout.specs.Parse.{stored, took, put_step, put_line, keep, at_end, run, parse}
-use Rattle.facts.specs.Forms.{all_below, rising, form_fits, list_fits, form_lists, form_row, masked, record_of}
-use Rattle.facts.specs.Facts.{failed, settled, headed, stepped, old_head, new_head, job_head, done_in, step_in, more}
-use Rattle.facts.specs.Facts.{more_steps, more_dones, facts_of, answered, read_by}
+use Rattle.layout.specs.Points.{more as more_digits, closed, list_end, past_head, past_line, next}
+use Rattle.layout.specs.Parse.{stored, took, put_step, put_start, put_line, keep, at_end, run, parse}
+use Rattle.facts.specs.Forms.{all_below, rising, form_fits, list_fits, form_lists, form_row, start_row, masked}
+use Rattle.facts.specs.Forms.{record_of}
+use Rattle.facts.specs.Facts.{failed, settled, headed, started, stepped, old_head, new_head, job_head, done_in, step_in}
+use Rattle.facts.specs.Facts.{start_in, more, more_start, more_steps, more_dones, facts_of, answered, read_by}
 use Rattle.emit.specs.Numbers.{digits, decimal, entry, over}
 use Rattle.listing_lines.specs.Lines.{line, moved_line, after_line, after_lines, order_line, marking_line, value_line}
 use Rattle.listing_lines.specs.Lines.{value_lines, refused_line}
 use Rattle.listing.specs.Listing.{moved_text, listing}
 use Rattle.ops.specs.Print.{sheet_answer, listing_of}
-use Rattle.examples.specs.Table.{codes, bytes, AllPrint, table}
+use Rattle.examples.specs.Table.{Example, codes, bytes, AllPrint, table}
 use Rattle.examples.specs.LongNames.{long_names}
 use Rattle.examples.specs.Cuts.{cuts}
+use Rattle.examples.specs.Starts.{rounds, misplaced, wrong_places, empty_starts, starts}
 
 -- The definitions on the way, a name for each stage: to open the name opens all on its line.
 
@@ -44,22 +47,23 @@ unfolding has members_from members collect count
 the-masks = tt
 
 unfoldable the-routes : Unit {0}
-unfolding steps_of union names lookup can_fire fire if_fires start unless first net_row
+unfolding steps_of union names lookup can_fire fire if_fires unless first net_row
 the-routes = tt
 
 unfoldable the-layout : Unit {0}
-unfolding spelling digit alive expect chosen spelt in_list past_word first_digit ended more_digits closed next stored took
-    put_step put_line keep at_end run parse
+unfolding spelling digit alive expect chosen spelt in_list past_word first_digit ended more_digits closed list_end
+    past_head past_line next stored took put_step put_start put_line keep at_end run parse
 the-layout = tt
 
 unfoldable the_facts : Unit {0}
-unfolding all_below rising form_fits list_fits form_lists form_row masked record_of failed settled headed stepped old_head
-    new_head job_head done_in step_in more more_steps more_dones facts_of answered read_by
+unfolding all_below rising form_fits list_fits form_lists form_row start_row masked record_of failed settled headed
+    started stepped old_head new_head job_head done_in step_in start_in more more_start more_steps more_dones facts_of
+    answered read_by
 the_facts = tt
 
 unfoldable the-run : Unit {0}
-unfolding name_fits places_fit step_fits variable_list place_list lists_fit among step_row step_rows route_rows done_row done_rows
-    line_rows checked run_from ran
+unfolding name_fits places_fit start_fits step_fits variable_list place_list lists_fit among step_row step_rows
+    head_rows route_rows done_row done_rows line_rows checked run_from ran
 the-run = tt
 
 unfoldable the-slice : Unit {0}
@@ -67,14 +71,14 @@ unfolding in_turn clash tied comes_after row performed variables keeps sweep_ste
 the-slice = tt
 
 unfoldable the-judge : Unit {0}
-unfolding is_some same_mark same_data same_step all_of fire_all steps_on runs_straight kept_row kept_lines kept_rows or_else onwards
-    try_each search before place_next padded last_writer after_of writer_of answer first_of first_fit judge_found judge_rows
-    judged
+unfolding is_some same_mark same_data same_step all_of fire_all steps_on runs_straight kept_row kept_lines kept_rows
+    or_else onwards try_each search before place_next padded last_writer after_of writer_of answer first_of first_fit
+    judge_found judge_rows judged
 the-judge = tt
 
 unfoldable the-listing : Unit {0}
-unfolding digits decimal entry over line moved_line after_line after_lines order_line marking_line value_line value_lines
-    refused_line moved_text listing sheet_answer listing_of
+unfolding digits decimal entry over line moved_line after_line after_lines order_line marking_line value_line
+    value_lines refused_line moved_text listing sheet_answer listing_of
 the-listing = tt
 
 pub examples : AllPrint table
@@ -88,3 +92,30 @@ long-names = (refl, (refl, (refl, (refl, (refl, (refl, (refl, (refl, (refl, (ref
 pub cuts-print : AllPrint cuts
 unfolding codes bytes the-layout the_facts the-masks the-routes the-run the-slice the-judge the-listing
 cuts-print = (refl, (refl, (refl, (refl, (refl, (refl, (refl, (refl, (refl, tt)))))))))
+
+-- two lists that print, behind one another
+print-both : (l m : List Example) → AllPrint l → AllPrint m → AllPrint (l ++ m)
+print-both [] m a b = b
+print-both (e ∷ l) m a b = (a.0, print-both l m a.1 b)
+
+rounds-print : AllPrint rounds
+unfolding codes bytes the-layout the_facts the-masks the-routes the-run the-slice the-judge the-listing
+rounds-print = (refl, (refl, (refl, (refl, (refl, tt)))))
+
+misplaced-print : AllPrint misplaced
+unfolding codes bytes the-layout the_facts the-masks the-routes the-run the-slice the-judge the-listing
+misplaced-print = (refl, (refl, (refl, tt)))
+
+wrong-places-print : AllPrint wrong_places
+unfolding codes bytes the-layout the_facts the-masks the-routes the-run the-slice the-judge the-listing
+wrong-places-print = (refl, (refl, (refl, (refl, (refl, (refl, tt))))))
+
+empty-starts-print : AllPrint empty_starts
+unfolding codes bytes the-layout the_facts the-masks the-routes the-run the-slice the-judge the-listing
+empty-starts-print = (refl, (refl, (refl, (refl, (refl, (refl, (refl, tt)))))))
+
+pub starts-print : AllPrint starts
+starts-print =
+    print-both rounds (misplaced ++ (wrong_places ++ empty_starts)) rounds-print
+    (print-both misplaced (wrong_places ++ empty_starts) misplaced-print
+    (print-both wrong_places empty_starts wrong-places-print empty-starts-print))

@@ -1,2 +1,3 @@
--- The one theorem over the table.
+-- The theorems over the tables, and a job whose listing is the longest.
 pub mod Examples
+pub mod LongestListing

@@ -8,6 +8,7 @@ use Rattle.examples.specs.Table.{Example}
 abbrev pub old_panel : List String
 old_panel =
     "(old 4)"
+    ∷ "(start 0)"
     ∷ "(step 10 (in 0) (out 1) (read) (write 0))"
     ∷ "(step 20 (in 1) (out 2) (read 0) (write) (cloth))"
     ∷ "(step 30 (in 2) (out 3) (read) (write 1))"
@@ -16,6 +17,7 @@ old_panel =
 abbrev pub new_panel : List String
 new_panel =
     "(new 4)"
+    ∷ "(start 0)"
     ∷ "(step 10 (in 0) (out 1) (read) (write 0))"
     ∷ "(step 30 (in 1) (out 2) (read) (write 1))"
     ∷ "(step 20 (in 2) (out 3) (read 0) (write) (cloth))"
@@ -45,8 +47,8 @@ panel =
 abbrev pub unmarked : Example
 unmarked =
     record {
-      old = set old_panel 2 "(step 20 (in 1) (out 2) (read 0) (write))";
-      new = set new_panel 3 "(step 20 (in 2) (out 3) (read 0) (write))";
+      old = set old_panel 3 "(step 20 (in 1) (out 2) (read 0) (write))";
+      new = set new_panel 4 "(step 20 (in 2) (out 3) (read 0) (write))";
       done = done_panel;
       listing =
           "(moved (kept 2) (dropped 1))"
@@ -69,10 +71,11 @@ new_cut k new line = record { old = old_panel; new = set new_panel k new; done =
 abbrev pub two_cuts : List String → String → Example
 two_cuts new line = record {
   old = "(old 3)"
+      ∷ "(start 0)"
       ∷ "(step 10 (in 0) (out 1) (read) (write) (cloth))"
       ∷ "(step 20 (in 1) (out 2) (read) (write) (cloth))"
       ∷ [];
-  new = "(new 3)" ∷ new;
+  new = "(new 3)" ∷ "(start 0)" ∷ new;
   done = "(done 10)" ∷ "(done 20)" ∷ [];
   listing = line ∷ [];
 }
@@ -83,22 +86,23 @@ cuts =
     ∷ unmarked
     -- "of two cloth occurrences the later comes after the earlier": in the other order no list is fit
     ∷ two_cuts ("(step 20 (in 0) (out 1) (read) (write) (cloth))"
-    ∷ "(step 10 (in 1) (out 2) (read) (write) (cloth))" ∷ []) "(refused 13 7)"
+    ∷ "(step 10 (in 1) (out 2) (read) (write) (cloth))" ∷ []) "(refused 13 9)"
     -- "Refusal 12, and fit lists, straight or of kept occurrences, compare this mark too"
-    ∷ new_cut 3 "(step 20 (in 2) (out 3) (read 0) (write))" "(refused 12 11)"
+    ∷ new_cut 4 "(step 20 (in 2) (out 3) (read 0) (write))" "(refused 12 13)"
     ∷ record {
       old = unmarked.old;
       new = "(new 4)"
+          ∷ "(start 0)"
           ∷ "(step 10 (in 0) (out 1) (read) (write 0))"
           ∷ "(step 20 (in 1) (out 2) (read 0) (write) (cloth))"
           ∷ "(step 30 (in 2) (out 3) (read) (write 1))"
           ∷ [];
       done = done_panel;
-      listing = "(refused 13 9)" ∷ [];
+      listing = "(refused 13 11)" ∷ [];
     }
     -- "A step form may end with ` (cloth)` inside its bracket": at no other place, once, and whole
-    ∷ other_cut 2 "(step 20 (in 1) (out 2) (read 0) (cloth) (write))" "(refused 1 84)"
-    ∷ other_cut 2 "(step 20 (in 1) (out 2) (read 0) (write) (cloth) (cloth))" "(refused 1 98)"
-    ∷ other_cut 2 "(step 20 (in 1) (out 2) (read 0) (write) (clot))" "(refused 1 96)"
-    ∷ other_cut 2 "(step 20 (in 1) (out 2) (read 0) (write) )" "(refused 1 91)"
+    ∷ other_cut 3 "(step 20 (in 1) (out 2) (read 0) (cloth) (write))" "(refused 1 94)"
+    ∷ other_cut 3 "(step 20 (in 1) (out 2) (read 0) (write) (cloth) (cloth))" "(refused 1 108)"
+    ∷ other_cut 3 "(step 20 (in 1) (out 2) (read 0) (write) (clot))" "(refused 1 106)"
+    ∷ other_cut 3 "(step 20 (in 1) (out 2) (read 0) (write) )" "(refused 1 101)"
     ∷ []

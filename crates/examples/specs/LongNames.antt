@@ -12,23 +12,23 @@ other_old k old line = record { old = set old_a k old; new = new_a; done = done_
 
 -- A with another name for its step 30
 abbrev pub renamed : String → String → Example
-renamed s d = record { old = set old_a 3 s; new = set new_a 3 s; done = set done_a 2 d; listing = A.listing }
+renamed s d = record { old = set old_a 4 s; new = set new_a 4 s; done = set done_a 2 d; listing = A.listing }
 
 abbrev pub long_names : List Example
 long_names =
     -- "`(done 65536)` is then a plain name", and so is the greatest
     renamed "(step 65536 (in 2) (out 3) (read 0 1) (write 2))" "(done 65536)"
     ∷ renamed "(step 4294967295 (in 2) (out 3) (read 0 1) (write 2))" "(done 4294967295)"
-    ∷ other_done 0 "(done 65546)" "(refused 8 10)"
+    ∷ other_done 0 "(done 65546)" "(refused 8 12)"
     -- "A name may be 1 to 4,294,967,295": one that ends with the bits of 10 is none
-    ∷ other_done 0 "(done 4294967306)" "(refused 2 10)"
-    ∷ other_done 2 "(done 4294967296)" "(refused 2 12)"
-    ∷ other_done 2 "(done 9999999999)" "(refused 2 12)"
+    ∷ other_done 0 "(done 4294967306)" "(refused 2 12)"
+    ∷ other_done 2 "(done 4294967296)" "(refused 2 14)"
+    ∷ other_done 2 "(done 9999999999)" "(refused 2 14)"
     -- "every number up to ten digits long": of a place count, a place and a variable too
     ∷ other_old 0 "(old 9999999999)" "(refused 2 1)"
-    ∷ other_old 3 "(step 30 (in 9999999999) (out 3) (read 0 1) (write 2))" "(refused 2 4)"
-    ∷ other_old 3 "(step 30 (in 2) (out 3) (read 0 1) (write 9999999999))" "(refused 2 4)"
+    ∷ other_old 4 "(step 30 (in 9999999999) (out 3) (read 0 1) (write 2))" "(refused 2 5)"
+    ∷ other_old 4 "(step 30 (in 2) (out 3) (read 0 1) (write 9999999999))" "(refused 2 5)"
     -- "Eleven digits break the layout", at the eleventh
-    ∷ other_done 2 "(done 10000000000)" "(refused 1 318)"
+    ∷ other_done 2 "(done 10000000000)" "(refused 1 338)"
     ∷ other_old 0 "(old 10000000000)" "(refused 1 15)"
     ∷ []

@@ -24,7 +24,7 @@ facts-dones : (v : Version) (x : Lines) → Dones (facts_of v x)
 unfolding facts_record
 facts-dones v x = go (facts-stand v x)
   where
-    go : Stand (facts_of v x) (sheet_rows v x) (facts_record x) (length x.done ≤ 64) → Dones (facts_of v x)
+    go : Stand (facts_of v x) (sheet_rows v x) (facts_record v x) (length x.done ≤ 64) → Dones (facts_of v x)
     go (stands e q h) = subst Dones (sym q) (record {
       room = length-append x.done (replicate (64 - length x.done) 0)
           ∙ omega (arith, length-replicate {A = ℕ} (64 - length x.done) 0, h);

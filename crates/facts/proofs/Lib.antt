@@ -8,6 +8,7 @@ pub mod PartText
 pub mod Widths
 pub mod RowOne
 pub mod Wider
+pub mod StartsPutIn
 pub mod RowsFold
 pub mod PassingLines
 pub mod DoneNames

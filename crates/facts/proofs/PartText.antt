@@ -13,7 +13,7 @@ use Rattle.version.specs.Limits.{present}
 use Rattle.version.proofs.Limits.{present-limits}
 use Rattle.layout.specs.Words.{spelling}
 use Rattle.layout.specs.Text.{Form, Lines, digits, number, entries, listed, marked, step_line, word_line, step_lines}
-use Rattle.layout.specs.Text.{job_text, text}
+use Rattle.layout.specs.Text.{start_line, job_text, text}
 use Rattle.layout.specs.declared.Word.{Word}
 use Rattle.layout.specs.declared.Word.TheVariants.{Old, New}
 use Rattle.layout.proofs.Sound.{sound}
@@ -76,28 +76,36 @@ over-steps [] k s = ap (λ (n : ℕ). after_lines n s) (omega arith)
 over-steps (f ∷ l) k s = ap (λ (n : ℕ). after_lines n (step_line f (step_lines l s))) (omega arith)
     ∙ over-step-line (length l + k) f (step_lines l s) ∙ over-steps l k s
 
-over-text : (x : Lines) → after_lines (length x.old + length x.new + 2) (text x) ≡ job_text x.done
+-- the present version has start lines
+over-start : (k : ℕ) (l s : List ℕ) → after_lines (suc k) (start_line present l s) ≡ after_lines k s
+unfolding start_line spelling after_lines
+over-start k l s = over-entries k l (41 ∷ 10 ∷ s)
+
+over-text : (x : Lines) → after_lines (length x.old + length x.new + 4) (text present x) ≡ job_text x.done
 unfolding text
 over-text x =
-    ap (λ (n : ℕ). after_lines n (text x)) first-line
-    ∙ over-word-line (length x.old + suc (length x.new + 0)) Old x.old_places _
+    ap (λ (n : ℕ). after_lines n (text present x)) first-line
+    ∙ over-word-line (suc (length x.old + suc (suc (length x.new + 0)))) Old x.old_places _
     (unfold spelling after_lines in λ r. refl)
-    ∙ over-steps x.old (suc (length x.new + 0)) _
-    ∙ over-word-line (length x.new + 0) New x.new_places _ (unfold spelling after_lines in λ r. refl)
+    ∙ over-start (length x.old + suc (suc (length x.new + 0))) x.old_start _
+    ∙ over-steps x.old (suc (suc (length x.new + 0))) _
+    ∙ over-word-line (suc (length x.new + 0)) New x.new_places _ (unfold spelling after_lines in λ r. refl)
+    ∙ over-start (length x.new + 0) x.new_start _
     ∙ over-steps x.new 0 (job_text x.done)
     ∙ (unfold after_lines in refl)
   where
-    first-line : length x.old + length x.new + 2 ≡ suc (length x.old + suc (length x.new + 0))
+    first-line : length x.old + length x.new + 4
+        ≡ suc (suc (length x.old + suc (suc (length x.new + 0))))
     first-line = omega arith
 
 -- the job part of a sheet that reads
 pub job-part-text : (s : List ℕ) → (read_of s).number ≡ 0 → job_part s ≡ job_text (job_read (read_of s)).done
 unfolding job_part facts_record filled
 job-part-text s z =
-    ap (λ (t : Bool). cond t (after_lines ((read_of s).old.len + (read_of s).new.len + 2) s) [])
+    ap (λ (t : Bool). cond t (after_lines ((read_of s).old.len + (read_of s).new.len + 4) s) [])
     (eq-eqb (read_of s).number 0 z)
-    ∙ ap (λ (y : Sheet). after_lines (y.old.len + y.new.len + 2) s) r.facts
-    ∙ (λ i. after_lines (length-map x.old record_of i + length-map x.new record_of i + 2)
+    ∙ ap (λ (y : Sheet). after_lines (y.old.len + y.new.len + 4) s) r.facts
+    ∙ (λ i. after_lines (length-map x.old record_of i + length-map x.new record_of i + 4)
     ((sound present present-limits s x r.parsed).same i))
     ∙ over-text x
     ∙ ap job_text (sym (ap (λ (y : Sheet). (job_read y).done) r.facts

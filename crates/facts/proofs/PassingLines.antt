@@ -1,7 +1,7 @@
--- What rows that pass say of the lines: every form fits its range and its lists, no count is over 64, and every number
--- is short. Assumes nothing.
-use mathlib.Core.Path.{◌≡◌, refl}
-use mathlib.Core.Bool.{true, not, ◌&&◌}
+-- What rows that pass say of the lines: every form fits its range and its lists, every start line rises below its
+-- count, no count is over 64, and every number is short. Assumes nothing.
+use mathlib.Core.Path.{◌≡◌, refl, sym, ap, ◌∙◌, subst}
+use mathlib.Core.Bool.{Bool, true, false, not, cond, ◌&&◌, false≢true}
 use mathlib.Core.List.{List, [], ◌∷◌, ◌++◌}
 use Prim.Native.Nat.{ℕ, ◌+◌, ◌≤◌, ◌<◌}
 use native.Mathlib.Omega.{arith}
@@ -12,16 +12,18 @@ use Rattle.mask.proofs.Truth.{both}
 use Rattle.version.proofs.Limits.{fits_iff, low-short, name-short}
 use Rattle.refusal.specs.Rows.{first}
 use Rattle.refusal.specs.declared.Outcome.{Outcome}
-use Rattle.refusal.proofs.Rows.{head_passed, unless-elim, rows-passed}
+use Rattle.refusal.proofs.Rows.{head_passed, unless-elim, row-passed, rows-passed}
 use Rattle.version.specs.Limits.{name_fits}
 use Rattle.job.specs.Lines.{places_fit, done_row, done_rows}
 use Rattle.version.specs.Limits.{Limits}
 use Rattle.version.specs.declared.Version.{Version}
-use Rattle.layout.specs.Text.{Form, Lines, Shorts, ShortForm, ShortForms, ShortLines}
-use Rattle.facts.specs.Forms.{all_below, rising, list_fits, form_fits, form_lists, form_row}
+use Rattle.layout.specs.Text.{Form, Lines, Shorts, ShortForm, ShortForms, ShortStart, ShortLines}
+use Rattle.facts.specs.Forms.{all_below, rising, list_fits, form_fits, form_lists, form_row, start_row}
 use Rattle.facts.specs.Names.{Within, form_names, NamesTo}
 use Rattle.facts.specs.Marks.{Marks, MarksTo}
-use Rattle.facts.specs.SheetRows.{form_rows, after_forms, route_form_rows, sheet_rows}
+use Rattle.facts.specs.Starts.{StartsTo, RisingBelow}
+use Rattle.facts.specs.SheetRows.{form_rows, start_line_count, start_rows, after_forms, head_form_rows, route_form_rows}
+use Rattle.facts.specs.SheetRows.{sheet_rows}
 
 abbrev pub Passes : List Outcome → Type 0
 Passes rows = eqb (first rows).number 0 ≡ true
@@ -90,6 +92,18 @@ forms-fine v (f ∷ l) line places earlier few h =
       omega (arith, rest.1, length-append earlier (f.name ∷ [])),
     )
 
+-- a start line that passes, where the version has it
+abbrev pub FineStart : Version → ℕ → List ℕ → Type 0
+FineStart v n l = v.starts ≡ true → RisingBelow n l
+
+start_fine : (v : Version) (line n : ℕ) (l : List ℕ) → Passes (start_rows v line n l) → FineStart v n l
+unfolding start_rows start_row
+start_fine v line n l h e =
+    let here = ap (λ (t : Bool). eqb (first (cond t (start_row line n l ∷ []) [])).number 0) (sym e) ∙ h in
+    let row = (head_passed (start_row line n l) [] here).0 in
+    let (low, three) = row-passed (all_below n l) 2 line _ refl row in
+    record { low = low; rises = (row-passed (rising 0 l) 3 line [] refl three).0 }
+
 abbrev AllNamed : Version → List ℕ → Type 0
 AllNamed v [] = Unit {0}
 AllNamed v (n ∷ l) = (name_fits v n ≡ true) × AllNamed v l
@@ -110,23 +124,28 @@ dones-fine v (n ∷ l) line above few h =
 -- what the lines of a sheet that passes are
 pub record AllLines (v : Version) (x : Lines) : Type 0 where
   pub old_places : x.old_places ≤ 64
+  pub old_start : FineStart v x.old_places x.old_start
   pub old : AllFine v x.old_places x.old
   pub old_few : length x.old ≤ 64
   pub new_places : x.new_places ≤ 64
+  pub new_start : FineStart v x.new_places x.new_start
   pub new : AllFine v x.new_places x.new
   pub new_few : length x.new ≤ 64
   pub done : AllNamed v x.done
   pub done_few : length x.done ≤ 64
 
-route-fine : (v : Version) (line places : ℕ) (l : List Form) → Passes (route_form_rows v line places l)
-    → (places ≤ 64) × AllFine v places l × (length l ≤ 64)
-unfolding route_form_rows places_fit
-route-fine v line places l h =
-    let head = head_passed _ _ h in
-    let steps = forms-fine v l (line + 1) places [] (omega arith)
-    (rows-passed (form_rows v (line + 1) places [] l) _ head.1).0 in (
+route-fine : (v : Version) (line places : ℕ) (start : List ℕ) (l : List Form)
+    → Passes (route_form_rows v line places start l)
+    → (places ≤ 64) × FineStart v places start × AllFine v places l × (length l ≤ 64)
+unfolding route_form_rows head_form_rows places_fit
+route-fine v line places start l h =
+    let head = rows-passed (head_form_rows v line places start) _ h in
+    let (count, starts) = head_passed _ _ head.0 in
+    let steps = forms-fine v l (line + 1 + start_line_count v) places [] (omega arith)
+    (rows-passed (form_rows v (line + 1 + start_line_count v) places [] l) _ head.1).0 in (
       leb-true places 64 (both (leb 1 places) (leb places 64)
-          (unless-elim (leb 1 places && leb places 64) 2 line refl head.0)).1,
+          (unless-elim (leb 1 places && leb places 64) 2 line refl count)).1,
+      start_fine v (line + 1) places start starts,
       steps.0,
       omega (arith, steps.1),
     )
@@ -134,18 +153,20 @@ route-fine v line places l h =
 pub lines-fine : (v : Version) (x : Lines) → Passes (sheet_rows v x) → AllLines v x
 unfolding sheet_rows
 lines-fine v x h =
-    let a = rows-passed (route_form_rows v 1 x.old_places x.old) _ h in
-    let b = rows-passed (route_form_rows v (after_forms 1 x.old) x.new_places x.new) _ a.1 in
-    let old = route-fine v 1 x.old_places x.old a.0 in
-    let new = route-fine v (after_forms 1 x.old) x.new_places x.new b.0 in
+    let a = rows-passed (route_form_rows v 1 x.old_places x.old_start x.old) _ h in
+    let b = rows-passed (route_form_rows v (after_forms v 1 x.old) x.new_places x.new_start x.new) _ a.1 in
+    let old = route-fine v 1 x.old_places x.old_start x.old a.0 in
+    let new = route-fine v (after_forms v 1 x.old) x.new_places x.new_start x.new b.0 in
     let done = dones-fine v x.done _ 0 (omega arith) b.1 in
     record {
       old_places = old.0;
-      old = old.1;
-      old_few = old.2;
+      old_start = old.1;
+      old = old.2;
+      old_few = old.3;
       new_places = new.0;
-      new = new.1;
-      new_few = new.2;
+      new_start = new.1;
+      new = new.2;
+      new_few = new.3;
       done = done.0;
       done_few = omega (arith, done.1);
     }
@@ -183,6 +204,14 @@ any-marks (f ∷ l) = (λ e. refl, any-marks l)
 pub all-marks : (x : Lines) → MarksTo true x
 all-marks x = record { old = any-marks x.old; new = any-marks x.new }
 
+-- ---- the start lines likewise
+
+pub short-starts : (v : Version) (x : Lines) → ShortLines v x → StartsTo v.starts x
+short-starts v x h = record { old = h.old_start.none; new = h.new_start.none }
+
+pub all-starts : (x : Lines) → StartsTo true x
+all-starts x = record { old = λ e. absurd (false≢true (sym e)); new = λ e. absurd (false≢true (sym e)) }
+
 -- ---- every number is short
 
 below-short : (v : Version) (limits : Limits v) (l : List ℕ) (n : ℕ) → n ≤ 64 → all_below n l ≡ true → Shorts v l
@@ -191,6 +220,14 @@ below-short v limits [] n h e = tt
 below-short v limits (m ∷ l) n h e =
     let parts = both (ltb m n) (all_below n l) e in
     (low-short v limits m (omega (arith, ltb-true m n parts.0)), below-short v limits l n h parts.1)
+
+start-short : (v : Version) (limits : Limits v) (l : List ℕ) (n : ℕ) → n ≤ 64 → (v.starts ≡ false → l ≡ [])
+    → FineStart v n l → ShortStart v l
+start-short v limits l n h none fine = record { entries = go v.starts refl; none = none }
+  where
+    go : (t : Bool) → v.starts ≡ t → Shorts v l
+    go true e = below-short v limits l n h ((fine e).low)
+    go false e = subst (Shorts v) (sym (none e)) tt
 
 form-short : (v : Version) (limits : Limits v) (places : ℕ) (f : Form) → places ≤ 64
     → (f.cloth ≡ true → v.cloth ≡ true) → Fine v places f → ShortForm v f
@@ -215,12 +252,15 @@ names-short : (v : Version) (limits : Limits v) (l : List ℕ) → AllNamed v l 
 names-short v limits [] h = tt
 names-short v limits (n ∷ l) h = (name-short v limits n h.0, names-short v limits l h.1)
 
-pub lines-short : (v : Version) (limits : Limits v) (x : Lines) → MarksTo v.cloth x → AllLines v x → ShortLines v x
-lines-short v limits x marks h = record {
+pub lines-short : (v : Version) (limits : Limits v) (x : Lines) → MarksTo v.cloth x → StartsTo v.starts x
+    → AllLines v x → ShortLines v x
+lines-short v limits x marks starts h = record {
   old_places = low-short v limits x.old_places (omega (arith, h.old_places));
+  old_start = start-short v limits x.old_start x.old_places h.old_places starts.old h.old_start;
   old = forms-short v limits x.old x.old_places h.old_places marks.old h.old;
   new_places =
       low-short v limits x.new_places (omega (arith, h.new_places));
+  new_start = start-short v limits x.new_start x.new_places h.new_places starts.new h.new_start;
   new =
       forms-short v limits x.new x.new_places h.new_places marks.new h.new;
   done =

@@ -2,6 +2,7 @@
 -- number is the first byte where no sheet begins so, and the bytes of a sheet answer what the rows of its lines say.
 use mathlib.Core.Path.{◌≡◌, refl, sym, ap, ◌∙◌, subst}
 use mathlib.Core.Logic.{◌↔◌}
+use mathlib.Core.Bool.{Bool, true, false, cond}
 use mathlib.Core.List.{List, [], ◌∷◌, ◌++◌}
 use Prim.Native.Nat.{ℕ, ◌+◌, ◌-◌}
 use native.Mathlib.Omega.{arith}
@@ -17,9 +18,10 @@ use Rattle.layout.specs.Begins.{IsSheet, FirstBroken}
 use Rattle.layout.proofs.Complete.{complete}
 use Rattle.layout.proofs.Sound.{sound}
 use Rattle.layout.proofs.Broken.{first-broken}
-use Rattle.facts.specs.Forms.{form_row}
+use Rattle.facts.specs.Forms.{form_row, start_row}
 use Rattle.facts.specs.Facts.{failed, facts_of, answered, read_by, job_read}
-use Rattle.facts.specs.SheetRows.{form_rows, after_forms, route_form_rows, sheet_rows}
+use Rattle.facts.specs.SheetRows.{form_rows, start_line_count, start_rows, after_forms, head_form_rows, route_form_rows}
+use Rattle.facts.specs.SheetRows.{sheet_rows}
 use Rattle.facts.specs.LinesOf.{lines_of}
 use Rattle.facts.specs.declared.Sheet.{Sheet}
 use Rattle.facts.proofs.RowsFold.{reads-facts, rows-answer}
@@ -63,19 +65,33 @@ dones-not v (n ∷ l) line above =
     (first-number NotOne _ [] (unless-number NotOne _ 2 line zero-not (λ e. omega arith)) none-not))
     (dones-not v l (line + 1) (above + 1))
 
-route-not : (v : Version) (line places : ℕ) (l : List Form) → NotOne (first (route_form_rows v line places l)).number
-unfolding route_form_rows
-route-not v line places l =
-    first-number NotOne _ _ (unless-number NotOne _ 2 line zero-not (λ e. omega arith))
-    (append-number NotOne (form_rows v (line + 1) places [] l) _ (forms-not v l (line + 1) places [])
-    (first-number NotOne _ [] (unless-number NotOne _ 4 (after_forms line l) zero-not (λ e. omega arith)) none-not))
+start-not : (v : Version) (line n : ℕ) (l : List ℕ) → NotOne (first (start_rows v line n l)).number
+unfolding start_rows start_row
+start-not v line n l = go v.starts
+  where
+    go : (t : Bool) → NotOne (first (cond t (start_row line n l ∷ []) [])).number
+    go true = first-number NotOne _ []
+        (first-number NotOne _ _ (unless-number NotOne _ 2 line zero-not (λ e. omega arith))
+        (first-number NotOne _ [] (unless-number NotOne _ 3 line zero-not (λ e. omega arith)) none-not)) none-not
+    go false = none-not
+
+route-not : (v : Version) (line places : ℕ) (start : List ℕ) (l : List Form)
+    → NotOne (first (route_form_rows v line places start l)).number
+unfolding route_form_rows head_form_rows
+route-not v line places start l =
+    append-number NotOne (head_form_rows v line places start) _
+    (first-number NotOne _ _ (unless-number NotOne _ 2 line zero-not (λ e. omega arith))
+    (start-not v (line + 1) places start))
+    (append-number NotOne (form_rows v (line + 1 + start_line_count v) places [] l) _ (forms-not v l _ places [])
+    (first-number NotOne _ [] (unless-number NotOne _ 4 (after_forms v line l) zero-not (λ e. omega arith)) none-not))
 
 facts-not : (v : Version) (x : Lines) → NotOne (facts_of v x).number
 unfolding sheet_rows
 facts-not v x e =
-    append-number NotOne (route_form_rows v 1 x.old_places x.old) _ (route-not v 1 x.old_places x.old)
-    (append-number NotOne (route_form_rows v (after_forms 1 x.old) x.new_places x.new) _
-    (route-not v _ x.new_places x.new)
+    append-number NotOne (route_form_rows v 1 x.old_places x.old_start x.old) _
+    (route-not v 1 x.old_places x.old_start x.old)
+    (append-number NotOne (route_form_rows v (after_forms v 1 x.old) x.new_places x.new_start x.new) _
+    (route-not v _ x.new_places x.new_start x.new)
     (dones-not v x.done _ 0))
     (sym (rows-answer v x).0 ∙ e)
 
@@ -96,7 +112,7 @@ sheet-lines {v} limits s x z =
     let parsed = ap (parse v) x.same ∙ complete v limits x.lines x.short in
     let is = read_is v s x.lines parsed in
     let (passes, facts) = reads-facts v x.lines (ap (λ (y : Sheet). y.number) (sym is) ∙ z) in
-    read_back v s (record { lines = x.lines; parsed = parsed; passes = passes; facts = is ∙ facts })
+    read_back limits s (record { lines = x.lines; parsed = parsed; passes = passes; facts = is ∙ facts })
 
 -- sound: bytes that reading answers otherwise than by 1 are a sheet
 pub read-sheet : {v : Version} (limits : Limits v) (s : List ℕ) → ((read_by v s).number ≡ 1 → ⊥) → IsSheet v s

@@ -17,7 +17,7 @@ use Rattle.layout.specs.Text.{Form, Lines}
 use Rattle.layout.specs.Parse.{Parsed, parse}
 use Rattle.layout.specs.declared.Part.{Part}
 use Rattle.layout.specs.declared.Part.TheVariants.{OldRoute, NewRoute, JobPart}
-use Rattle.facts.specs.Forms.{form_row, record_of}
+use Rattle.facts.specs.Forms.{form_row, start_row, masked, record_of}
 use Rattle.facts.specs.declared.Records.{Records}
 use Rattle.facts.specs.declared.Sheet.{Sheet}
 
@@ -34,9 +34,16 @@ sheet_told (Err e) = failed (number_of e.row) e.second
 unfoldable pub settled : Outcome → Sheet → Sheet
 settled o s = cond (eqb o.number 0) s (failed o.number o.second)
 
--- a route with its place count, which its head gives; one with one more step
+-- a route with its place count, which its head gives; with its start, as a mask; with one more step
 unfoldable pub headed : ℕ → Route → Route
-headed n r = record { places = n; len = r.len; steps = r.steps }
+headed n r = record { places = record { count = n; start = r.places.start }; len = r.len; steps = r.steps }
+
+unfoldable pub started : List ℕ → Route → Route
+started l r = record {
+  places = record { count = r.places.count; start = masked 64 0 l };
+  len = r.len;
+  steps = r.steps;
+}
 
 unfoldable pub stepped : Route → Step → Route
 stepped r s = cond (ltb r.len 64) (record {
@@ -84,6 +91,11 @@ unfoldable pub new_head : ℕ → ℕ → Sheet → Sheet
 new_head line n s = settled (first (unless (not (eqb s.old.len 0)) 4 line ∷ unless (places_fit n) 2 line ∷ []))
     (with_new (headed n s.new) s)
 
+unfoldable pub start_in : Part → ℕ → List ℕ → Sheet → Sheet
+start_in OldRoute line l s = settled (start_row line s.old.places.count l) (with_old (started l s.old) s)
+start_in NewRoute line l s = settled (start_row line s.new.places.count l) (with_new (started l s.new) s)
+start_in JobPart line l s = s
+
 unfoldable pub job_head : ℕ → Sheet → Sheet
 job_head line s = settled (unless (not (eqb s.new.len 0)) 4 line) s
 
@@ -91,9 +103,9 @@ unfoldable pub done_in : Version → ℕ → ℕ → Sheet → Sheet
 done_in v line n s = settled (done_row v line s.done_len n) (with_done n s)
 
 unfoldable pub step_in : Version → Part → ℕ → Form → Sheet → Sheet
-step_in v OldRoute line f s = settled (form_row v line s.old.places s.old.len (names (steps_of s.old)) f)
+step_in v OldRoute line f s = settled (form_row v line s.old.places.count s.old.len (names (steps_of s.old)) f)
     (with_old (stepped s.old (record_of f)) s)
-step_in v NewRoute line f s = settled (form_row v line s.new.places s.new.len (names (steps_of s.new)) f)
+step_in v NewRoute line f s = settled (form_row v line s.new.places.count s.new.len (names (steps_of s.new)) f)
     (with_new (stepped s.new (record_of f)) s)
 step_in v JobPart line f s = s
 
@@ -110,6 +122,10 @@ more line k = record {
   sheet = cond (eqb k.sheet.number 0) (line (k.lines + 1) k.sheet) k.sheet;
 }
 
+-- a head's start line, where the version has it; else nothing is said of a start, and its mask stays 0
+unfoldable pub more_start : Version → Part → List ℕ → State → State
+more_start v p l k = cond v.starts (more (λ n s. start_in p n l s) k) k
+
 unfoldable pub more_steps : Version → Part → List Form → State → State
 more_steps v p [] k = k
 more_steps v p (f ∷ l) k = more_steps v p l (more (λ n s. step_in v p n f s) k)
@@ -125,9 +141,10 @@ unfoldable pub facts_of : Version → Lines → Sheet
 facts_of v x =
     (more_dones v x.done
     (more job_head
-    (more_steps v NewRoute x.new
+    (more_steps v NewRoute x.new (more_start v NewRoute x.new_start
     (more (λ i s. new_head i x.new_places s)
-    (more_steps v OldRoute x.old (more (λ i s. old_head i x.old_places s) nothing)))))
+    (more_steps v OldRoute x.old (more_start v OldRoute x.old_start
+    (more (λ i s. old_head i x.old_places s) nothing)))))))
     ).sheet
 
 -- row 1 over the whole sheet, then its lines

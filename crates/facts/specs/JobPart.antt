@@ -8,9 +8,9 @@ after_lines zero s = s
 after_lines (suc n) [] = []
 after_lines (suc n) (b ∷ s) = cond (eqb b 10) (after_lines n s) (after_lines (suc n) s)
 
--- past both heads and both routes' steps; "a refused sheet gives the empty part at its start"
+-- past both heads, their start lines and both routes' steps; "a refused sheet gives the empty part at its start"
 unfoldable pub job_part : List ℕ → List ℕ
-job_part s = cond (eqb (read_of s).number 0) (after_lines ((read_of s).old.len + (read_of s).new.len + 2) s) []
+job_part s = cond (eqb (read_of s).number 0) (after_lines ((read_of s).old.len + (read_of s).new.len + 4) s) []
 
 -- an offset past the first n lines
 pub record PastLines (n : ℕ) (s : List ℕ) (k : ℕ) : Type 0 where

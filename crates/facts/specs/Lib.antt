@@ -6,3 +6,4 @@ pub mod SheetRows
 pub mod LinesOf
 pub mod Names
 pub mod Marks
+pub mod Starts

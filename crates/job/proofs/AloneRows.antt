@@ -1,5 +1,5 @@
 -- The rows of one route by itself in turn: its lines, then rows 6 and 7.
-use Rattle.std.proofs.Common.{◌≡◌, sym, ◌∙◌, ℕ, List}
+use Rattle.std.proofs.Common.{◌≡◌, sym, ◌∙◌, List}
 use Rattle.refusal.specs.Rows.{pass, refuse, first}
 use Rattle.refusal.specs.declared.Outcome.{Outcome}
 use Rattle.refusal.specs.Refusal.{number_of}
@@ -7,11 +7,12 @@ use Rattle.refusal.specs.declared.Refusal.{Refusal}
 use Rattle.refusal.proofs.Rows.{first_alone}
 use Rattle.refusal.proofs.Answered.{err-rows, ok-rows}
 use Rattle.opening.specs.Net.{net_row}
+use Rattle.route.specs.declared.Places.{Places}
 use Rattle.route.specs.declared.Step.{Step}
 use Rattle.job.specs.Lines.{route_rows}
 use Rattle.job.specs.Alone.{alone_rows}
 
-module _ (places : ℕ) (l : List Step) where
+module _ (places : Places) (l : List Step) where
   pub alone-lines : (e : Refusal) → refuse (number_of e.row) e.second ≡ first (route_rows 1 places l)
       → refuse (number_of e.row) e.second ≡ first (alone_rows places l)
   unfolding alone_rows

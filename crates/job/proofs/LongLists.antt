@@ -10,21 +10,30 @@ use lib.Dec.{eqb, ltb}
 use lib.ListN.{length, take, drop, get_or, length-append, length-take}
 use lib.Seq.{take_all, take-take, split_at, length-take-le}
 use borrow.Author.Tests.{ltb-true, ltb-false}
-use Rattle.refusal.specs.Rows.{refuse, unless, first}
+use Rattle.refusal.specs.Rows.{refuse, first}
 use Rattle.refusal.specs.declared.Outcome.{Outcome}
 use Rattle.refusal.proofs.Rows.{rows_pass, rows-refuse, row-refuses, ends-refused}
 use Rattle.route.specs.Steps.{blank}
 use Rattle.flat.specs.Flat.{steps_in, Laid}
 use Rattle.opening.specs.Net.{net_row}
+use Rattle.route.specs.declared.Places.{Places}
 use Rattle.route.specs.declared.Step.{Step}
 use Rattle.job.specs.Job.{Job, cut, new_line}
 use Rattle.job.specs.Alone.{alone_rows}
-use Rattle.job.specs.Lines.{places_fit, step_row, step_rows, route_rows, line_rows, checked}
+use Rattle.job.specs.Lines.{step_row, step_rows, head_rows, route_rows, line_rows, checked}
 
 -- the job with other lists of steps
 abbrev with_steps : Job → List Step → List Step → Job
 with_steps j old new =
     record { old_places = j.old_places; old = old; new_places = j.new_places; new = new; done = j.done }
+
+-- rows that are the same, and then others with the same outcome
+then-first : (a b c : List Outcome) → first b ≡ first c → first (a ++ b) ≡ first (a ++ c)
+then-first a b c e = go (eqb (first a).number 0) refl
+  where
+    go : (t : Bool) → eqb (first a).number 0 ≡ t → first (a ++ b) ≡ first (a ++ c)
+    go true p = rows_pass a b p ∙ e ∙ sym (rows_pass a c p)
+    go false p = rows-refuse a b p ∙ sym (rows-refuse a c p)
 
 -- ---- a list over 64: the rows of its first 64 lines, and row 4 at the next
 
@@ -51,35 +60,34 @@ over-rows line places earlier (x ∷ a) s r e =
     ∙ ap (λ (n : ℕ). first (step_rows (line + 1) places (earlier ++ (x.name ∷ [])) a ++ (refuse 4 n ∷ [])))
     (omega arith))
 
-over_rows : ℕ → ℕ → List Step → Outcome
-over_rows line places a =
-    first (unless
-    (places_fit places) 2 line ∷ (step_rows (line + 1) places [] a ++ (refuse 4 (line + 1 + length a) ∷ [])))
+over_rows : ℕ → Places → List Step → Outcome
+over_rows line places a = first
+    (head_rows line places ++ (step_rows (line + 2) places.count [] a ++ (refuse 4 (line + 2 + length a) ∷ [])))
 
-over-refused : (line places : ℕ) (a : List Step) → eqb (over_rows line places a).number 0 ≡ false
-unfolding over_rows
+over-refused : (line : ℕ) (places : Places) (a : List Step) → eqb (over_rows line places a).number 0 ≡ false
+unfolding over_rows head_rows
 over-refused line places a =
-    ends-refused (unless (places_fit places) 2 line ∷ step_rows (line + 1) places [] a) (line + 1 + length a)
+    ends-refused (head_rows line places ++ step_rows (line + 2) places.count [] a) (line + 2 + length a)
 
-route-front : (line places : ℕ) (a : List Step) (s : Step) (r : List Step) → length a ≡ 64
+route-front : (line : ℕ) (places : Places) (a : List Step) (s : Step) (r : List Step) → length a ≡ 64
     → first (route_rows line places (a ++ s ∷ r)) ≡ over_rows line places a
-unfolding route_rows over_rows first too_many
+unfolding route_rows over_rows too_many
 route-front line places a s r e =
-    ap (λ (o : Outcome). cond (eqb (unless (places_fit places) 2 line).number 0) o (unless (places_fit places) 2 line))
-    (rows-refuse (step_rows (line + 1) places [] (a ++ s ∷ r)) _
-    (ap (λ (o : Outcome). eqb o.number 0) over ∙ ends-refused (step_rows (line + 1) places [] a)
-    (line + 1 + length a)) ∙ over)
+    then-first (head_rows line places) _ _
+    (rows-refuse (step_rows (line + 2) places.count [] (a ++ s ∷ r)) _
+    (ap (λ (o : Outcome). eqb o.number 0) over ∙ ends-refused (step_rows (line + 2) places.count [] a)
+    (line + 2 + length a)) ∙ over)
   where
-    over : first (step_rows (line + 1) places [] (a ++ s ∷ r)) ≡ too_many (line + 1) places [] a
-    over = over-rows (line + 1) places [] a s r (omega (arith, e))
+    over : first (step_rows (line + 2) places.count [] (a ++ s ∷ r)) ≡ too_many (line + 2) places.count [] a
+    over = over-rows (line + 2) places.count [] a s r (omega (arith, e))
 
-route-over : (line places : ℕ) (l : List Step) → 64 < length l
+route-over : (line : ℕ) (places : Places) (l : List Step) → 64 < length l
     → first (route_rows line places l) ≡ over_rows line places (take 64 l)
 route-over line places l h =
     ap (λ (x : List Step). first (route_rows line places x)) (split_at l 64 blank h)
     ∙ route-front line places (take 64 l) (get_or l 64 blank) (drop 65 l) (length-take-le 64 l (omega arith))
 
-cut-over : (line places : ℕ) (l : List Step) → 64 < length l
+cut-over : (line : ℕ) (places : Places) (l : List Step) → 64 < length l
     → first (route_rows line places (take 65 l)) ≡ over_rows line places (take 64 l)
 cut-over line places l h =
     route-over line places (take 65 l) (omega (arith, length-take 65 l))
@@ -108,16 +116,11 @@ front-alike o a b c d ea eb z = (
 
 -- rows that are the same, and then a refusal
 then-alike : (a b c : List Outcome) → Alike b c → Alike (a ++ b) (a ++ c)
-then-alike a b c h = go (eqb (first a).number 0) refl
+then-alike a b c h = (then-first a b c h.0, go (eqb (first a).number 0) refl)
   where
-    go : (t : Bool) → eqb (first a).number 0 ≡ t → Alike (a ++ b) (a ++ c)
-    go true e = (
-      rows_pass a b e ∙ h.0 ∙ sym (rows_pass a c e),
-      ap (λ (x : Outcome). eqb x.number 0) (rows_pass a c e)
-          ∙ h.1,
-    )
-    go false e =
-        (rows-refuse a b e ∙ sym (rows-refuse a c e), ap (λ (x : Outcome). eqb x.number 0) (rows-refuse a c e) ∙ e)
+    go : (t : Bool) → eqb (first a).number 0 ≡ t → eqb (first (a ++ c)).number 0 ≡ false
+    go true e = ap (λ (x : Outcome). eqb x.number 0) (rows_pass a c e) ∙ h.1
+    go false e = ap (λ (x : Outcome). eqb x.number 0) (rows-refuse a c e) ∙ e
 
 module _ (j : Job) where
   old-over : 64 < length j.old → Refused j (cut j)
@@ -189,7 +192,7 @@ laid-alike f by j k is x e = e ∙ ap f is ∙ sym (same-cut j f by)
 
 -- ---- one route by itself, laid as numbers
 
-alone-cut : (places : ℕ) (l : List Step) → first (alone_rows places (take 65 l)) ≡ first (alone_rows places l)
+alone-cut : (places : Places) (l : List Step) → first (alone_rows places (take 65 l)) ≡ first (alone_rows places l)
 unfolding alone_rows
 alone-cut places l = go (ltb 64 (length l)) refl
   where
@@ -205,6 +208,6 @@ alone-cut places l = go (ltb 64 (length l)) refl
         ap (λ (x : List Step). first (route_rows 1 places x ++ (net_row 1 places x ∷ [])))
         (take_all 65 l (omega arith))
 
-pub alone-laid : (places : ℕ) (l : List Step) (n : ℕ) (w : List ℕ) → Laid l n w
+pub alone-laid : (places : Places) (l : List Step) (n : ℕ) (w : List ℕ) → Laid l n w
     → first (alone_rows places (steps_in (take n w))) ≡ first (alone_rows places l)
 alone-laid places l n w laid = ap (λ (x : List Step). first (alone_rows places x)) laid.steps-are ∙ alone-cut places l

@@ -17,6 +17,7 @@ use Rattle.refusal.specs.Rows.{pass, refuse, unless, first}
 use Rattle.flat.specs.Flat.{steps_in}
 use Rattle.route.specs.Steps.{names}
 use Rattle.lookup.specs.Around.{Unique}
+use Rattle.route.specs.declared.Places.{Places}
 use Rattle.route.specs.declared.Step.{Step}
 use Rattle.refusal.specs.declared.Outcome.{Outcome}
 use Rattle.refusal.proofs.Rows.{head-refuses, head-passes, head_passed, row-refuses, row-passes, row-passed, rows_end}
@@ -25,8 +26,8 @@ use Rattle.refusal.proofs.Answered.{err-rows, ok-rows}
 use Rattle.refusal.specs.Refusal.{number_of}
 use Rattle.refusal.specs.declared.Refusal.{Refusal}
 use Rattle.version.specs.Limits.{present, name_fits}
-use Rattle.job.specs.Lines.{step_row, step_rows, route_rows, done_row, done_rows, line_rows, places_fit, LinesPass}
-use Rattle.job.specs.Lines.{AllNamed}
+use Rattle.job.specs.Lines.{places_fit, start_fits, step_row, step_rows, head_rows, route_rows, done_row, done_rows}
+use Rattle.job.specs.Lines.{line_rows, LinesPass, AllNamed}
 use Rattle.job.specs.Job.{Job, flat_job, after_steps, new_line, job_line}
 use Rattle.job.proofs.UniqueNames.{route-unique}
 
@@ -87,35 +88,70 @@ module _ (line i : ℕ) (done : List ℕ) (whole : Outcome) where
 
 -- ---- a route's lines from its head on
 
-places-bound : (places : ℕ) → places_fit places ≡ true → places ≤ 64
+places-bound : (n : ℕ) → places_fit n ≡ true → n ≤ 64
 unfolding places_fit
-places-bound places e = leb-true places 64 (both (leb 1 places) (leb places 64) e).1
+places-bound n e = leb-true n 64 (both (leb 1 n) (leb n 64) e).1
 
-pub head-places : (places : ℕ) (f : Bool) → f ≡ places_fit places → not f ≡ false → places ≤ 64
-head-places places f fits ok = places-bound places (sym fits ∙ not-false f ok)
+pub head-places : (n : ℕ) (f : Bool) → f ≡ places_fit n → not f ≡ false → n ≤ 64
+head-places n f fits ok = places-bound n (sym fits ∙ not-false f ok)
 
-module _ (line places : ℕ) (l : List Step) (f : Bool) (fits : f ≡ places_fit places) where
-  pub route-two : not f ≡ true → refuse 2 line ≡ first (route_rows line places l)
+-- the head, then the start line
+module _ (line : ℕ) (places : Places) (f : Bool) (fits : f ≡ places_fit places.count) where
+  pub head-two : not f ≡ true → refuse 2 line ≡ first (head_rows line places)
+  unfolding head_rows
+  head-two fails = sym (row-refuses (places_fit places.count) 2 line _ (sym fits ∙ not-true f fails) refl)
+
+  module _ (ok : not f ≡ false) (g : Bool) (starts : g ≡ start_fits places) where
+    after-count : (k : List Outcome) → first (unless (places_fit places.count) 2 line ∷ k) ≡ first k
+    after-count k = row-passes (places_fit places.count) 2 line k (sym fits ∙ not-false f ok)
+
+    pub start-two : not g ≡ true → refuse 2 (line + 1) ≡ first (head_rows line places)
+    unfolding head_rows
+    start-two fails =
+        sym (row-refuses (start_fits places) 2 (line + 1) [] (sym starts ∙ not-true g fails) refl) ∙ sym (after-count _)
+
+    pub head-pass : not g ≡ false → pass ≡ first (head_rows line places)
+    unfolding head_rows
+    head-pass passes =
+        sym rows_end ∙ sym (row-passes (start_fits places) 2 (line + 1) [] (sym starts ∙ not-false g passes))
+        ∙ sym (after-count _)
+
+-- what a head that passes has
+head-passing : (line : ℕ) (places : Places) → eqb (first (head_rows line places)).number 0 ≡ true → places.count ≤ 64
+unfolding head_rows
+head-passing line places e =
+    places-bound places.count (row-passed (places_fit places.count) 2 line _ refl e).0
+
+module _ (line : ℕ) (places : Places) where
+  pub route-head : (l : List Step) (e : Refusal) → refuse (number_of e.row) e.second ≡ first (head_rows line places)
+      → refuse (number_of e.row) e.second ≡ first (route_rows line places l)
   unfolding route_rows
-  route-two fails = sym (row-refuses (places_fit places) 2 line _ (sym fits ∙ not-true f fails) refl)
+  route-head l e is = err-rows e (head_rows line places) is _
 
-  module _ (ok : not f ≡ false) where
-    after-head : (k : List Outcome) → first (unless (places_fit places) 2 line ∷ k) ≡ first k
-    after-head k = row-passes (places_fit places) 2 line k (sym fits ∙ not-false f ok)
+  -- past a head whose rows pass
+  module _ (headed : pass ≡ first (head_rows line places)) where
+    pub head-count : places.count ≤ 64
+    head-count = head-passing line places (ap (λ (o : Outcome). eqb o.number 0) (sym headed))
 
-    pub route-steps : (e : Refusal) → refuse (number_of e.row) e.second ≡ first (step_rows (line + 1) places [] l) → refuse (number_of e.row) e.second ≡ first (route_rows line places l)
+    after-head : (k : List Outcome) → first (head_rows line places ++ k) ≡ first k
+    after-head k = ok-rows (head_rows line places) headed k
+
+    pub route-steps : (l : List Step) (e : Refusal)
+        → refuse (number_of e.row) e.second ≡ first (step_rows (line + 2) places.count [] l)
+        → refuse (number_of e.row) e.second ≡ first (route_rows line places l)
     unfolding route_rows
-    route-steps e lines = err-rows e (step_rows (line + 1) places [] l) lines _ ∙ sym (after-head _)
+    route-steps l e is = err-rows e (step_rows (line + 2) places.count [] l) is _ ∙ sym (after-head _)
 
-    module _ (passed : pass ≡ first (step_rows (line + 1) places [] l)) (n : ℕ) (is : n ≡ length l) where
-      past-steps : (k : List Outcome) → first (step_rows (line + 1) places [] l ++ k) ≡ first k
-      past-steps k = ok-rows (step_rows (line + 1) places [] l) passed k
+    module _ (l : List Step) (passed : pass ≡ first (step_rows (line + 2) places.count [] l)) (n : ℕ)
+        (is : n ≡ length l) where
+      past-steps : (k : List Outcome) → first (step_rows (line + 2) places.count [] l ++ k) ≡ first k
+      past-steps k = ok-rows (step_rows (line + 2) places.count [] l) passed k
 
-      pub route-none : n ≡ 0 → refuse 4 (line + 1) ≡ first (route_rows line places l)
+      pub route-none : n ≡ 0 → refuse 4 (line + 2) ≡ first (route_rows line places l)
       unfolding route_rows
       route-none nil =
           let none : length l ≡ 0 = sym is ∙ nil in
-          let next : line + 1 ≡ after_steps line l = omega arith in
+          let next : line + 2 ≡ after_steps line l = omega arith in
           ap (λ (n : ℕ). refuse 4 n) next
           ∙ sym (row-refuses (not (eqb (length l) 0)) 4 (after_steps line l) [] (ap not (eq-eqb (length l) 0 none)) refl)
           ∙ sym (past-steps _)
@@ -156,23 +192,23 @@ done-short line above (n ∷ l) h e =
     let rest : above + 1 + length l ≤ 64 = done-short (line + 1) (above + 1) l (omega arith) now.1 in
     omega arith
 
-pub record RouteFits (places : ℕ) (l : List Step) : Type 0 where
-  pub places-fit : places ≤ 64
+pub record RouteFits (places : Places) (l : List Step) : Type 0 where
+  pub places-fit : places.count ≤ 64
   pub steps-fit : length l ≤ 64
   pub some-step : 0 < length l
   pub names-unique : Unique (names l)
 
-pub route-fits : (line places : ℕ) (l : List Step) → eqb (first (route_rows line places l)).number 0 ≡ true
+pub route-fits : (line : ℕ) (places : Places) (l : List Step) → eqb (first (route_rows line places l)).number 0 ≡ true
     → RouteFits places l
 unfolding route_rows
 route-fits line places l e =
-    let head = row-passed (places_fit places) 2 line _ refl e in
-    let lines = rows-passed (step_rows (line + 1) places [] l) _ head.1 in
-    let bound : 0 + length l ≤ 64 = steps-short (line + 1) places [] l (omega arith) lines.0 in
+    let head = rows-passed (head_rows line places) _ e in
+    let lines = rows-passed (step_rows (line + 2) places.count [] l) _ head.1 in
+    let bound : 0 + length l ≤ 64 = steps-short (line + 2) places.count [] l (omega arith) lines.0 in
     let some = row-passed (not (eqb (length l) 0)) 4 (after_steps line l) [] refl lines.1 in
     let filled : (length l ≡ 0) → ⊥ = eqb-false (length l) 0 (not-true (eqb (length l) 0) some.0) in
     record {
-      places-fit = places-bound places head.0;
+      places-fit = head-passing line places head.0;
       steps-fit = omega arith;
       some-step = omega arith;
       names-unique = route-unique line places l e;
@@ -201,18 +237,18 @@ done-fits line l e = omega (arith, done-short line 0 l (omega arith) e)
 -- ---- all lines: the old route's, the new route's, the done lines
 
 -- a route's lines pass
-module _ (line places : ℕ) (l : List Step) (passed : pass ≡ first (route_rows line places l)) where
+module _ (line : ℕ) (places : Places) (l : List Step) (passed : pass ≡ first (route_rows line places l)) where
   asked : RouteFits places l
   asked = route-fits line places l (ap (λ (o : Outcome). eqb o.number 0) (sym passed))
 
   pub route-few : length l ≤ 64
   route-few = asked.steps-fit
 
-  pub route-places : places ≤ 64
+  pub route-places : places.count ≤ 64
   route-places = asked.places-fit
 
 -- where the lines after a route of at most 64 steps begin
-pub head-fits : (l : List Step) (head : ℕ) → head ≡ after_steps 1 l → length l ≤ 64 → head < 1000
+pub head-fits : (l : List Step) (head : ℕ) → head ≡ after_steps 1 l → length l ≤ 64 → head < 900
 head-fits l head is few = omega arith
 
 module _ (j : Job) where
@@ -268,15 +304,15 @@ lines_fit j e =
 pub pass_fits : (j : Job) → LinesPass j → LinesFit j
 pass_fits j e = lines_fit j (eq-eqb (first (line_rows j)).number 0 e)
 
-module _ (places : ℕ) (old : List ℕ) (places' : ℕ) (new done : List ℕ)
+module _ (places : Places) (old : List ℕ) (places' : Places) (new done : List ℕ)
     (e : LinesPass (flat_job places old places' new done)) where
   abbrev fits : LinesFit (flat_job places old places' new done)
   fits = pass_fits (flat_job places old places' new done) e
 
-  pub old-places-fit : places ≤ 64
+  pub old-places-fit : places.count ≤ 64
   old-places-fit = fits.old-fits.places-fit
 
-  pub new-places-fit : places' ≤ 64
+  pub new-places-fit : places'.count ≤ 64
   new-places-fit = fits.new-fits.places-fit
 
   pub old-steps-fit : length (steps_in old) ≤ 64

@@ -12,12 +12,13 @@ use borrow.Author.Tests.{ltb-true, ltb-false, not-true}
 use Rattle.refusal.specs.Rows.{first}
 use Rattle.refusal.proofs.Rows.{head_passed, row-passed, rows-passed}
 use Rattle.route.specs.Steps.{blank, names}
+use Rattle.route.specs.declared.Places.{Places}
 use Rattle.route.specs.declared.Step.{Step}
 use Rattle.route.proofs.StepList.{length-names, get_or-names, names-take}
 use Rattle.lookup.specs.Around.{Unique}
 use Rattle.name_set.specs.Among.{among}
 use Rattle.name_set.proofs.Among.{among-at}
-use Rattle.job.specs.Lines.{places_fit, step_fits, lists_fit, step_row, step_rows, route_rows}
+use Rattle.job.specs.Lines.{step_fits, lists_fit, step_row, step_rows, head_rows, route_rows}
 
 -- a step that passes has no earlier step's name
 row_new : (line places : ℕ) (earlier : List ℕ) (s : Step) → eqb (step_row line places earlier s).number 0 ≡ true
@@ -51,15 +52,16 @@ steps-new line places earlier (s ∷ l) e k h =
         ∙ ih now.1 k (le_of_suc-le-suc h)
 
 -- of two positions the later one has another name
-module _ (line places : ℕ) (l : List Step) (e : eqb (first (route_rows line places l)).number 0 ≡ true) where
+module _ (line : ℕ) (places : Places) (l : List Step)
+    (e : eqb (first (route_rows line places l)).number 0 ≡ true) where
   earlier-differs : (i k : ℕ) → i < k → k < length (names l) → get_or (names l) i 0 ≡ get_or (names l) k 0 → ⊥
   unfolding route_rows
   earlier-differs i k h b same =
-      let head = (row-passed (places_fit places) 2 line _ refl e).1 in
-      let lines = (rows-passed (step_rows (line + 1) places [] l) _ head).0 in
+      let head = (rows-passed (head_rows line places) _ e).1 in
+      let lines = (rows-passed (step_rows (line + 2) places.count [] l) _ head).0 in
       let new : among (get_or l k blank).name (take k (names l)) ≡ false =
       ap (λ (x : List ℕ). among (get_or l k blank).name x) (sym (names-take k l))
-      ∙ steps-new (line + 1) places [] l lines k (omega (arith, length-names l)) in
+      ∙ steps-new (line + 2) places.count [] l lines k (omega (arith, length-names l)) in
       let long : length (take k (names l)) ≡ k = length-take-le k (names l) (omega arith) in
       let old : among (get_or l k blank).name (take k (names l)) ≡ true =
       among-at (get_or l k blank).name (take k (names l)) i (omega arith)

@@ -2,16 +2,16 @@
 use Rattle.std.specs.Prelude.{List, ℕ, ◌+◌, length, take}
 use Rattle.route.specs.Steps.{steps_of}
 use Rattle.flat.specs.Flat.{steps_in}
-use Rattle.route.specs.Firing.{start}
+use Rattle.route.specs.declared.Places.{Places}
 use Rattle.route.specs.declared.Step.{Step}
 use Rattle.route.specs.declared.Route.{Route}
 use Rattle.job.specs.declared.FlatJob.{FlatJob}
 use Rattle.job.specs.declared.laying.RouteJob.{RouteJob}
 
 pub record Job : Type 0 where
-  pub old_places : ℕ
+  pub old_places : Places
   pub old : List Step
-  pub new_places : ℕ
+  pub new_places : Places
   pub new : List Step
   pub done : List ℕ
 
@@ -21,7 +21,7 @@ job_of old new done =
     record { old_places = old.places; old = steps_of old; new_places = new.places; new = steps_of new; done = done }
 
 -- the job of two lists of steps as numbers and a done list
-abbrev pub flat_job : ℕ → List ℕ → ℕ → List ℕ → List ℕ → Job
+abbrev pub flat_job : Places → List ℕ → Places → List ℕ → List ℕ → Job
 flat_job old_places old new_places new done =
     record { old_places = old_places; old = steps_in old; new_places = new_places; new = steps_in new; done = done }
 
@@ -43,16 +43,16 @@ cut j = record {
   done = j.done;
 }
 
--- where runs, replays and fit orders begin: the start of the old route, and of the new
+-- "Replay begins from the written places", and so do runs and fit orders: those of the old route, and of the new
 abbrev pub old_start : Job → ℕ
-old_start j = start j.old_places j.old
+old_start j = j.old_places.start
 
 abbrev pub new_start : Job → ℕ
-new_start j = start j.new_places j.new
+new_start j = j.new_places.start
 
--- The `(old` line is line 1; its steps follow. A head's next head stands right after its steps.
+-- The `(old` line is line 1; its start line and its steps follow. A head's next head stands right after its steps.
 abbrev pub after_steps : ℕ → List Step → ℕ
-after_steps line l = line + 1 + length l
+after_steps line l = line + 2 + length l
 
 -- the line of `(new`
 abbrev pub new_line : Job → ℕ

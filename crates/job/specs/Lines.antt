@@ -7,18 +7,23 @@ use Rattle.version.specs.Limits.{present, name_fits}
 use Rattle.version.specs.declared.Version.{Version}
 use Rattle.name_set.specs.Among.{among}
 use Rattle.opening.specs.Net.{net_row}
+use Rattle.route.specs.declared.Places.{Places}
 use Rattle.route.specs.declared.Step.{Step}
 use Rattle.refusal.specs.declared.Outcome.{Outcome}
 use Rattle.job.specs.Job.{Job, after_steps, new_line, job_line}
 
--- a place count is 1 to 64
+-- N, the place count, is 1 to 64
 unfoldable pub places_fit : ℕ → Bool
-places_fit places = leb 1 places && leb places 64
+places_fit n = leb 1 n && leb n 64
+
+-- 02, "Row 2 applies to it": each start place is below the place count. (A mask's entries rise by themselves.)
+unfoldable pub start_fits : Places → Bool
+start_fits places = within places.start (below places.count)
 
 -- a name is one of the present version's, and each place that a step names is below the place count. (A variable is
 -- below 32 by its mask's width.)
 unfoldable pub step_fits : ℕ → Step → Bool
-step_fits places s = name_fits present s.name && within (bit_or s.ins s.outs) (below places)
+step_fits n s = name_fits present s.name && within (bit_or s.ins s.outs) (below n)
 
 -- a list of variables has at most 8 entries, a list of places 1 to 8. (A mask's entries rise by themselves.)
 unfoldable pub variable_list : ℕ → Bool
@@ -32,24 +37,29 @@ lists_fit s = place_list s.ins && (place_list s.outs && (variable_list s.reads &
 
 -- the rows of one step's line, given the names of the steps above it
 unfoldable pub step_row : ℕ → ℕ → List ℕ → Step → Outcome
-step_row line places earlier s =
+step_row line n earlier s =
     first
     (unless (ltb (length earlier) 64) 4 line
-    ∷ unless (step_fits places s) 2 line
+    ∷ unless (step_fits n s) 2 line
     ∷ unless (lists_fit s) 3 line
     ∷ unless (not (among s.name earlier)) 5 line
     ∷ [])
 
 unfoldable pub step_rows : ℕ → ℕ → List ℕ → List Step → List Outcome
-step_rows line places earlier [] = []
-step_rows line places earlier (s ∷ l) =
-    step_row line places earlier s ∷ step_rows (line + 1) places (earlier ++ (s.name ∷ [])) l
+step_rows line n earlier [] = []
+step_rows line n earlier (s ∷ l) =
+    step_row line n earlier s ∷ step_rows (line + 1) n (earlier ++ (s.name ∷ [])) l
+
+-- a route's head, and the start line that follows it
+unfoldable pub head_rows : ℕ → Places → List Outcome
+head_rows line places = unless (places_fit places.count) 2 line ∷ unless (start_fits places) 2 (line + 1) ∷ []
 
 -- a route's lines from its head on, and row 4 of a route with no step, at the line that follows
-unfoldable pub route_rows : ℕ → ℕ → List Step → List Outcome
+unfoldable pub route_rows : ℕ → Places → List Step → List Outcome
 route_rows line places l =
-    unless (places_fit places) 2 line
-    ∷ (step_rows (line + 1) places [] l ++ (unless (not (eqb (length l) 0)) 4 (after_steps line l) ∷ []))
+    head_rows line places
+    ++ (step_rows (line + 2) places.count [] l
+    ++ (unless (not (eqb (length l) 0)) 4 (after_steps line l) ∷ []))
 
 -- the done lines of a version, with how many stand above
 unfoldable pub done_row : Version → ℕ → ℕ → ℕ → Outcome

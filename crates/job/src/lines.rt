@@ -3,11 +3,11 @@ ghost use Rattle.std.specs.Prelude.{◌≡◌, ◌≤◌};
 ghost use Rattle.refusal.specs.Rows.{first};
 ghost use Rattle.refusal.specs.Refusal.{outcome_of};
 ghost use Rattle.version.specs.Limits.{present, name_fits};
-ghost use Rattle.job.specs.Lines.{places_fit, step_fits, place_list, variable_list, lists_fit, done_rows};
+ghost use Rattle.job.specs.Lines.{places_fit, start_fits, step_fits, place_list, variable_list, lists_fit, done_rows};
 
 use mask::Mask;
 use refusal::{Refusal, Row};
-use route::{Route, Step};
+use route::{Places, Route, Step};
 use version::Version;
 
 fn name_fits(n: u32) -> bool
@@ -17,11 +17,11 @@ fn name_fits(n: u32) -> bool
 }
 
 #[tactic(auto, unfolding(crate::specs::Lines::step_fits))]
-pub fn step_fits(places: u64, s: Step) -> bool
-    requires { places ≤ 64 }
-    ensures { result ≡ step_fits places s }
+pub fn step_fits(count: u64, s: Step) -> bool
+    requires { count ≤ 64 }
+    ensures { result ≡ step_fits count s }
 {
-    name_fits(s.name) && (s.ins | s.outs).within(u64::below(places))
+    name_fits(s.name) && (s.ins | s.outs).within(u64::below(count))
 }
 
 #[tactic(auto, unfolding(crate::specs::Lines::place_list))]
@@ -50,6 +50,14 @@ pub fn places_fit(n: u64) -> bool
     ensures { result ≡ places_fit n }
 {
     (1..=Route::PLACES).contains(&n)
+}
+
+#[tactic(auto, unfolding(crate::specs::Lines::start_fits))]
+pub fn start_fits(places: Places) -> bool
+    requires { places.count ≤ 64 }
+    ensures { result ≡ start_fits places }
+{
+    places.start.within(u64::below(places.count))
 }
 
 // The done lines; the first is on `line`.

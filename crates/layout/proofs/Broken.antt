@@ -15,7 +15,7 @@ use Rattle.layout.specs.Parse.{Line, Parsed, no_line, no_lines, took, keep, at_e
 use Rattle.layout.specs.Begins.{Begins, FirstBroken}
 use Rattle.layout.specs.declared.Part.TheVariants.{OldRoute, NewRoute, JobPart}
 use Rattle.layout.specs.declared.Point.{Point}
-use Rattle.layout.specs.declared.Point.TheVariants.{Start, Open, Choice, Letters, Past, Digit, Digits, Gap}
+use Rattle.layout.specs.declared.Point.TheVariants.{Top, Open, Choice, Letters, Past, Digit, Digits, Gap}
 use Rattle.layout.specs.declared.Point.TheVariants.{Closed, Lf, Stuck}
 use Rattle.layout.proofs.Complete.{complete}
 use Rattle.layout.proofs.Sound.{sound, not-read}
@@ -35,7 +35,7 @@ module _ (v : Version) (limits : Limits v) where
 
   no_more : (p : Point) (t : Lines) (r : List ℕ) → at_end p t ≡ Parsed.broken r → r ≡ []
   unfolding at_end
-  no_more Start t r e = cc
+  no_more Top t r e = cc
   no_more (Open OldRoute) t r e = cc
   no_more (Open NewRoute) t r e = cc
   no_more (Open JobPart) t r e = cc
@@ -96,7 +96,7 @@ module _ (v : Version) (limits : Limits v) where
           }
 
   -- the bytes before the stop begin a sheet: the point's own ending makes one
-  begins-before : (s r : List ℕ) (on : Stops Start no_line no_lines s r) → Begins v on.before
+  begins-before : (s r : List ℕ) (on : Stops Top no_line no_lines s r) → Begins v on.before
   unfolding parse
   begins-before s r on =
       let end = ends v on.point on.line on.lines on.fine in
@@ -104,12 +104,12 @@ module _ (v : Version) (limits : Limits v) where
       record { rest = end.ending; sheet = record { lines = end.lines; short = made.short; same = made.same } }
 
   -- no sheet goes on with the byte behind the stop: reading its text would stop there too
-  no_longer : (s r : List ℕ) (on : Stops Start no_line no_lines s r) (b : ℕ) (k : List ℕ) → r ≡ b ∷ k
+  no_longer : (s r : List ℕ) (on : Stops Top no_line no_lines s r) (b : ℕ) (k : List ℕ) → r ≡ b ∷ k
       → Begins v (on.before ++ (b ∷ [])) → ⊥
   unfolding parse run
   no_longer s r on b k e begun =
       let sheet = begun.sheet in
-      let bytes : on.before ++ (b ∷ begun.rest) ≡ text sheet.lines =
+      let bytes : on.before ++ (b ∷ begun.rest) ≡ text v sheet.lines =
       sym (append_assoc on.before (b ∷ []) begun.rest) ∙ sheet.same in
       let halt : run v on.point on.line on.lines (b ∷ begun.rest) ≡ Parsed.broken (b ∷ begun.rest) =
       ap (λ (x : Bool). cond x (run v (next v on.point b) (took on.point b on.line)
@@ -121,9 +121,9 @@ module _ (v : Version) (limits : Limits v) where
   -- the offset is the first byte where no sheet begins so, or the length
   pub first-broken : (s r : List ℕ) → parse v s ≡ Parsed.broken r → FirstBroken v s (length s - length r)
   unfolding parse
-  first-broken s r e = go (stops s Start no_line no_lines r (unfold good in refl) e)
+  first-broken s r e = go (stops s Top no_line no_lines r (unfold good in refl) e)
     where
-      go : Stops Start no_line no_lines s r → FirstBroken v s (length s - length r)
+      go : Stops Top no_line no_lines s r → FirstBroken v s (length s - length r)
       go on =
           record {
             within = omega arith;

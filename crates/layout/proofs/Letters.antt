@@ -8,7 +8,7 @@ use lib.Dec.{lit<, lit≤}
 use lib.ListN.{length, get_or, take, drop}
 use Rattle.layout.specs.Words.{word_table, spelling, number_of}
 use Rattle.layout.specs.declared.Word.{Word}
-use Rattle.layout.specs.declared.Word.TheVariants.{Old, New, Job, Done, Step, In, Out, Read, Write, Cloth}
+use Rattle.layout.specs.declared.Word.TheVariants.{Old, New, Job, Done, Step, In, Out, Read, Write, Cloth, Start}
 
 pub word-short : (w : Word) → length (spelling w) ≤ 5
 unfolding spelling
@@ -22,8 +22,9 @@ word-short Out = lit≤ tt
 word-short Read = lit≤ tt
 word-short Write = lit≤ tt
 word-short Cloth = lit≤ tt
+word-short Start = lit≤ tt
 
-pub row_below : (w : Word) → number_of w < 10
+pub row_below : (w : Word) → number_of w < 11
 unfolding number_of
 row_below Old = lit< tt
 row_below New = lit< tt
@@ -35,6 +36,7 @@ row_below Out = lit< tt
 row_below Read = lit< tt
 row_below Write = lit< tt
 row_below Cloth = lit< tt
+row_below Start = lit< tt
 
 pub length_at : (w : Word) → get_or word_table (number_of w * 6) 0 ≡ length (spelling w)
 unfolding spelling number_of
@@ -48,6 +50,7 @@ length_at Out = refl
 length_at Read = refl
 length_at Write = refl
 length_at Cloth = refl
+length_at Start = refl
 
 -- a table that was lent, by the row that the code found
 module _ (t : List ℕ) (n : ℕ) (w : Word) (is : t ≡ word_table) (row : n ≡ number_of w) where
@@ -70,3 +73,4 @@ letters-at Out = refl
 letters-at Read = refl
 letters-at Write = refl
 letters-at Cloth = refl
+letters-at Start = refl

@@ -9,3 +9,4 @@ pub mod Ends
 pub mod Broken
 pub mod Prefix
 pub mod PrefixStep
+pub mod Apart

@@ -1,11 +1,12 @@
--- The line in hand after a step's name and its four lists: its form is that name with those lists, marked or not.
+-- The line in hand after a step's name and its four lists: its form is that name with those lists, marked or not. After
+-- a start line's list it has those places.
 use mathlib.Core.Path.{◌≡◌, refl, ap, ◌∙◌}
-use mathlib.Core.List.{List, [], ◌∷◌, reverse_aux, reverse-reverse}
+use mathlib.Core.List.{List, [], ◌∷◌, reverse, reverse_aux, reverse-reverse}
 use Prim.Native.Nat.{ℕ}
 use Rattle.layout.specs.Text.{Form}
 use Rattle.layout.specs.Parse.{Line, no_line, with_num, with_form, stored, form_of}
 use Rattle.layout.specs.inner.Entries.{with_entries}
-use Rattle.layout.specs.declared.Word.TheVariants.{Step, In, Out, Read, Write}
+use Rattle.layout.specs.declared.Word.TheVariants.{Step, In, Out, Read, Write, Start}
 
 -- the number in hand after a list
 last : List ℕ → ℕ → ℕ
@@ -32,6 +33,11 @@ with_entries-ins : (l : List ℕ) (c : Line) → with_entries In l c ≡ with_in
 unfolding with_entries stored last
 with_entries-ins [] c = refl
 with_entries-ins (n ∷ l) c = with_entries-ins l (stored In (with_num n c))
+
+with_entries-start : (l : List ℕ) (c : Line) → with_entries Start l c ≡ with_ins l c
+unfolding with_entries stored last
+with_entries-start [] c = refl
+with_entries-start (n ∷ l) c = with_entries-start l (stored Start (with_num n c))
 
 with_entries-outs : (l : List ℕ) (c : Line) → with_entries Out l c ≡ with_outs l c
 unfolding with_entries stored last
@@ -69,3 +75,7 @@ form_of-line_with f =
       writes = reverse-reverse f.writes i;
       cloth = f.cloth;
     })
+
+-- the places of a start line, from what was gathered
+pub places_of-start : (l : List ℕ) → reverse (with_entries Start l no_line).ins ≡ l
+places_of-start l = ap (λ (c : Line). reverse c.ins) (with_entries-start l no_line) ∙ reverse-reverse l

@@ -17,22 +17,23 @@ use Rattle.version.specs.declared.Version.{Version}
 use Rattle.version.proofs.Tens.{tens-mono}
 use Rattle.version.proofs.Limits.{low-short}
 use Rattle.layout.specs.Words.{spelling}
-use Rattle.layout.specs.Text.{Lines, digits, number, entries, listed, marked, step_line, word_line, job_line, Short}
-use Rattle.layout.specs.Text.{ShortForm, ShortLines}
-use Rattle.layout.specs.Points.{digit, alive, expect, chosen, spelt, in_list, past_word, first, ended, more, closed}
-use Rattle.layout.specs.Points.{next}
-use Rattle.layout.specs.Parse.{Line, no_line, with_num, grown, stored, took, form_of, put_step, put_line, keep}
+use Rattle.layout.specs.Text.{Lines, digits, number, entries, listed, marked, step_line, word_line, start_line}
+use Rattle.layout.specs.Text.{job_line, Short, Shorts, ShortForm, ShortStart, ShortLines}
+use Rattle.layout.specs.Points.{digit, alive, expect, chosen, spelt, list_end, in_list, past_word, first}
+use Rattle.layout.specs.Points.{ended, more, closed, past_head, past_line, next}
+use Rattle.layout.specs.Parse.{Line, no_line, with_num, grown, stored, took, form_of, put_step, put_start}
+use Rattle.layout.specs.Parse.{put_line, keep}
 use Rattle.layout.specs.declared.Word.{Word}
-use Rattle.layout.specs.declared.Word.TheVariants.{Old, New, Job, Done, Step, In, Out, Read, Write, Cloth}
+use Rattle.layout.specs.declared.Word.TheVariants.{Old, New, Job, Done, Step, In, Out, Read, Write, Cloth, Start}
 use Rattle.layout.specs.declared.Part.{Part}
 use Rattle.layout.specs.declared.Part.TheVariants.{OldRoute, NewRoute, JobPart}
 use Rattle.layout.specs.declared.Point.{Point}
-use Rattle.layout.specs.declared.Point.TheVariants.{Start, Open, Choice, Letters, Past, Digit, Digits, Gap}
+use Rattle.layout.specs.declared.Point.TheVariants.{Top, Open, Choice, Letters, Past, Digit, Digits, Gap}
 use Rattle.layout.specs.declared.Point.TheVariants.{Closed, Lf, Stuck}
 use Rattle.layout.proofs.Numbers.{digits-enough}
 use Rattle.layout.proofs.Reversed.{entries_back, steps_back, dones_back, entries-back, shorts-back}
-use Rattle.layout.proofs.Prefix.{rest, above, gap_in, gap_out, gap_read, gap_write, gap_cloth, gap, list_of, upto}
-use Rattle.layout.proofs.Prefix.{line_end, sofar, routed, goes, closes, From, After, Wide, Shape, ShortLine}
+use Rattle.layout.proofs.Prefix.{rest, headed, above, gap_in, gap_out, gap_read, gap_write, gap_cloth, gap, list_of}
+use Rattle.layout.proofs.Prefix.{upto, line_end, sofar, routed, goes, closes, From, After, Wide, Shape, ShortLine}
 use Rattle.layout.proofs.Prefix.{Onward}
 use Rattle.mask.proofs.Truth.{both}
 
@@ -68,6 +69,20 @@ either-where P b k y q r h other = go (eqb b k) refl y refl
     go true e false d l = other l
     go false e z d l = other l
 
+-- past a head: at its start line's bracket, or at the first step where the version has no start line
+pub at_head : (v : Version) (p : Part) (P : Point → Type 0) → (v.starts ≡ true → P (Gap Start p))
+    → (v.starts ≡ false → P (Open p)) → P (past_head v p)
+unfolding past_head
+at_head v p P one other = go v.starts refl
+  where
+    go : (x : Bool) → v.starts ≡ x → P (cond x (Gap Start p) (Open p))
+    go true e = one e
+    go false e = other e
+
+pub head-alive : (v : Version) (p : Part) → alive (past_head v p) ≡ true
+unfolding alive
+head-alive v p = at_head v p (λ q. alive q ≡ true) (λ has. refl) (λ lacks. refl)
+
 -- ---- numbers
 
 pub digit-bounds : (b : ℕ) → digit b ≡ true → (48 ≤ b) × (b ≤ 57)
@@ -97,9 +112,9 @@ single b s d =
 
 module _ (v : Version) (limits : Limits v) (c : Line) (t : Lines) (line : ShortLine v (rest c))
     (lines : ShortLines v t) where
-  at-start : (b : ℕ) → alive (next v Start b) ≡ true → Onward v Start b c t (next v Start b) c t
+  at-start : (b : ℕ) → alive (next v Top b) ≡ true → Onward v Top b c t (next v Top b) c t
   unfolding next sofar gap
-  at-start b = expected (λ x q. Onward v Start x c t q c t) b 40 (Letters Old OldRoute 0)
+  at-start b = expected (λ x q. Onward v Top x c t q c t) b 40 (Letters Old OldRoute 0)
       (record { same = λ s. refl; shape = (unfold goes in refl, tt); line = line; lines = lines })
 
   at_open : (p : Part) (b : ℕ) → Shape v (Open p) c → alive (next v (Open p) b) ≡ true
@@ -137,6 +152,7 @@ module _ (v : Version) (limits : Limits v) (c : Line) (t : Lines) (line : ShortL
   from-after Read h = h.1
   from-after Write h = tt
   from-after Cloth h = tt
+  from-after Start h = tt
 
   from_empty : (w : Word) → From w (rest c) → list_of w (rest c) ≡ []
   unfolding list_of
@@ -150,6 +166,7 @@ module _ (v : Version) (limits : Limits v) (c : Line) (t : Lines) (line : ShortL
   from_empty Read h = h.0
   from_empty Write h = h
   from_empty Cloth h = refl
+  from_empty Start h = h
 
   at-letters : (w : Word) (p : Part) (k b : ℕ) → Shape v (Letters w p k) c → alive (next v (Letters w p k) b) ≡ true
       → Onward v (Letters w p k) b c t (next v (Letters w p k) b) c t
@@ -170,17 +187,17 @@ module _ (v : Version) (limits : Limits v) (c : Line) (t : Lines) (line : ShortL
       reached true e room =
           record {
             same = λ s.
-                ap₂ (λ (l m : List ℕ). gap w p (rest c) t (40 ∷ (l ++ m)))
+                ap₂ (λ (l m : List ℕ). gap v w p (rest c) t (40 ∷ (l ++ m)))
                 (sym (take_all (k + 1) (spelling w) (omega (arith, eqb-true (k + 1) (length (spelling w)) e))))
                 (ap (λ (l : List ℕ). entries_back l s) (from_empty w h.1))
-                ∙ ap (λ (l : List ℕ). gap w p (rest c) t (40 ∷ l)) (one_more s room);
+                ∙ ap (λ (l : List ℕ). gap v w p (rest c) t (40 ∷ l)) (one_more s room);
             shape = (h.0, from-after w h.1);
             line = line;
             lines = lines;
           }
       reached false e room =
           record {
-            same = λ s. ap (λ (l : List ℕ). gap w p (rest c) t (40 ∷ l)) (one_more s room);
+            same = λ s. ap (λ (l : List ℕ). gap v w p (rest c) t (40 ∷ l)) (one_more s room);
             shape = h;
             line = line;
             lines = lines;
@@ -196,18 +213,20 @@ module _ (v : Version) (limits : Limits v) (c : Line) (t : Lines) (line : ShortL
       inside false e l = absurd (never l)
 
   at-list : (w : Word) (p : Part) (b : ℕ) (c' : Line) (from : Point)
-      → ((s : List ℕ) → upto w p (rest c') t s ≡ sofar from c t s) → Shape v (Closed w p) c' → ShortLine v (rest c')
+      → ((s : List ℕ) → upto v w p (rest c') t s ≡ sofar v from c t s)
+      → ((s : List ℕ) → sofar v (list_end w p) c' t s ≡ upto v w p (rest c') t (41 ∷ s)) → Shape v (Digit w p) c'
+      → Shape v (list_end w p) c' → ShortLine v (rest c')
       → alive (in_list w p b) ≡ true → Onward v from b c t (in_list w p b) c' t
   unfolding in_list sofar
-  at-list w p b c' from same h short =
-      either (λ x q. Onward v from x c t q c' t) b 32 (Digit w p) (expect b 41 (Closed w p))
+  at-list w p b c' from same end h k short =
+      either (λ x q. Onward v from x c t q c' t) b 32 (Digit w p) (expect b 41 (list_end w p))
       (record { same = λ s. same (32 ∷ s); shape = h; line = short; lines = lines })
-      (λ far. expected (λ x q. Onward v from x c t q c' t) b 41 (Closed w p)
-      (record { same = λ s. same (41 ∷ s); shape = h; line = short; lines = lines }))
+      (λ far. expected (λ x q. Onward v from x c t q c' t) b 41 (list_end w p)
+      (record { same = λ s. end s ∙ same (41 ∷ s); shape = k; line = short; lines = lines }))
 
   at-past : (w : Word) (p : Part) (b : ℕ) → Shape v (Past w p) c → alive (next v (Past w p) b) ≡ true
       → Onward v (Past w p) b c t (next v (Past w p) b) c t
-  unfolding next past_word sofar line_end closes
+  unfolding next past_word list_end sofar line_end closes
   at-past Old p b h = expected (λ x q. Onward v (Past Old p) x c t q c t) b 32 (Digit Old p)
       (record { same = λ s. refl; shape = h; line = line; lines = lines })
   at-past New p b h = expected (λ x q. Onward v (Past New p) x c t q c t) b 32 (Digit New p)
@@ -218,10 +237,11 @@ module _ (v : Version) (limits : Limits v) (c : Line) (t : Lines) (line : ShortL
       (record { same = λ s. refl; shape = h; line = line; lines = lines })
   at-past Job p b h = expected (λ x q. Onward v (Past Job p) x c t q c t) b 41 (Lf Job p)
       (record { same = λ s. refl; shape = h.0; line = line; lines = lines })
-  at-past In p b h = at-list In p b c (Past In p) (λ s. refl) h line
-  at-past Out p b h = at-list Out p b c (Past Out p) (λ s. refl) h line
-  at-past Read p b h = at-list Read p b c (Past Read p) (λ s. refl) h line
-  at-past Write p b h = at-list Write p b c (Past Write p) (λ s. refl) h line
+  at-past In p b h = at-list In p b c (Past In p) (λ s. refl) (λ s. refl) h h line
+  at-past Out p b h = at-list Out p b c (Past Out p) (λ s. refl) (λ s. refl) h h line
+  at-past Read p b h = at-list Read p b c (Past Read p) (λ s. refl) (λ s. refl) h h line
+  at-past Write p b h = at-list Write p b c (Past Write p) (λ s. refl) (λ s. refl) h h line
+  at-past Start p b h = at-list Start p b c (Past Start p) (λ s. refl) (λ s. refl) h h.0 line
   at-past Cloth p b h = expected (λ x q. Onward v (Past Cloth p) x c t q c t) b 41 (Closed Cloth p)
       (record { same = λ s. refl; shape = h; line = line; lines = lines })
 
@@ -251,7 +271,7 @@ module _ (v : Version) (limits : Limits v) (c : Line) (t : Lines) (line : ShortL
               let left : 1 ≡ v.digits - (v.digits - 1) = omega (arith, limits.two) in
               let one = subst (λ (m : ℕ). b - 48 < 10 ^ m) left (omega arith) in
               record {
-                same = λ s. ap (λ (m : List ℕ). upto w p (rest c) t (32 ∷ m)) (single b s e);
+                same = λ s. ap (λ (m : List ℕ). upto v w p (rest c) t (32 ∷ m)) (single b s e);
                 shape = (h, (omega (arith, limits.two), inl (omega arith, one)));
                 line = line;
                 lines = lines;
@@ -271,7 +291,7 @@ module _ (v : Version) (limits : Limits v) (c : Line) (t : Lines) (line : ShortL
 
   at_ended : (w : Word) (p : Part) (k b : ℕ) → Shape v (Digits w p k) c → alive (ended w p b) ≡ true
       → Onward v (Digits w p k) b c t (ended w p b) (stored w c) t
-  unfolding ended stored closes sofar line_end upto gap list_of gap_in gap_out gap_read gap_write entries_back
+  unfolding ended list_end stored closes sofar line_end upto gap list_of gap_in gap_out gap_read gap_write entries_back
   at_ended Old p k b h = expected (λ x q. Onward v (Digits Old p k) x c t q (stored Old c) t) b 41 (Lf Old p)
       (record { same = λ s. refl; shape = h.0.0; line = (wide_short k c.num h.1, line.1); lines = lines })
   at_ended New p k b h = expected (λ x q. Onward v (Digits New p k) x c t q (stored New c) t) b 41 (Lf New p)
@@ -287,14 +307,16 @@ module _ (v : Version) (limits : Limits v) (c : Line) (t : Lines) (line : ShortL
       })
   at_ended Job p k b h = λ l. absurd (never l)
   at_ended Cloth p k b h = λ l. absurd (never l)
-  at_ended In p k b h = at-list In p b (stored In c) (Digits In p k) (λ s. refl) h.0
+  at_ended In p k b h = at-list In p b (stored In c) (Digits In p k) (λ s. refl) (λ s. refl) h.0 h.0
       (line.0, ((wide_short k c.num h.1, line.1.0), line.1.1))
-  at_ended Out p k b h = at-list Out p b (stored Out c) (Digits Out p k) (λ s. refl) h.0
+  at_ended Out p k b h = at-list Out p b (stored Out c) (Digits Out p k) (λ s. refl) (λ s. refl) h.0 h.0
       (line.0, (line.1.0, ((wide_short k c.num h.1, line.1.1.0), line.1.1.1)))
-  at_ended Read p k b h = at-list Read p b (stored Read c) (Digits Read p k) (λ s. refl) h.0
+  at_ended Read p k b h = at-list Read p b (stored Read c) (Digits Read p k) (λ s. refl) (λ s. refl) h.0 h.0
       (line.0, (line.1.0, (line.1.1.0, ((wide_short k c.num h.1, line.1.1.1.0), line.1.1.1.1))))
-  at_ended Write p k b h = at-list Write p b (stored Write c) (Digits Write p k) (λ s. refl) h.0
+  at_ended Write p k b h = at-list Write p b (stored Write c) (Digits Write p k) (λ s. refl) (λ s. refl) h.0 h.0
       (line.0, (line.1.0, (line.1.1.0, (line.1.1.1.0, (wide_short k c.num h.1, line.1.1.1.1)))))
+  at_ended Start p k b h = at-list Start p b (stored Start c) (Digits Start p k) (λ s. refl) (λ s. refl) h.0
+      h.0.0 (line.0, ((wide_short k c.num h.1, line.1.0), line.1.1))
 
   at-digits : (w : Word) (p : Part) (k b : ℕ) → Shape v (Digits w p k) c → alive (next v (Digits w p k) b) ≡ true
       → Onward v (Digits w p k) b c t (next v (Digits w p k) b) (took (Digits w p k) b c) t
@@ -310,7 +332,7 @@ module _ (v : Version) (limits : Limits v) (c : Line) (t : Lines) (line : ShortL
           let up : 10 ^ (v.digits - (k - 1)) ≡ 10 ^ (v.digits - k) * 10 =
           ap (λ (n : ℕ). 10 ^ n) left ∙ pow-suc 10 (v.digits - k) in
           record {
-            same = λ s. ap (λ (m : List ℕ). upto w p (rest c) t (32 ∷ m)) (grows c.num b s few.0 few.2 e);
+            same = λ s. ap (λ (m : List ℕ). upto v w p (rest c) t (32 ∷ m)) (grows c.num b s few.0 few.2 e);
             shape = (h.0, (omega arith, inl (omega (arith, few.0, few.1), omega (arith, few.1, few.2))));
             line = line;
             lines = lines;
@@ -359,6 +381,7 @@ module _ (v : Version) (limits : Limits v) (c : Line) (t : Lines) (line : ShortL
   at-closed Job p b h = λ l. absurd (never l)
   at-closed Done p b h = λ l. absurd (never l)
   at-closed Step p b h = λ l. absurd (never l)
+  at-closed Start p b h = λ l. absurd (never l)
 
 -- ---- the end of a line
 
@@ -399,6 +422,31 @@ form-short v m has c h = record {
   cloth = has;
 }
 
+-- a start line, where the version has it
+module _ (v : Version) (l s : List ℕ) where
+  pub start-some : v.starts ≡ true → start_line v l s ≡ 40 ∷ (spelling Start ++ entries l (41 ∷ 10 ∷ s))
+  unfolding start_line
+  start-some has = ap (λ (x : Bool). cond x (40 ∷ (spelling Start ++ entries l (41 ∷ 10 ∷ s))) s) has
+
+  pub start_none : v.starts ≡ false → start_line v l s ≡ s
+  unfolding start_line
+  start_none lacks = ap (λ (x : Bool). cond x (40 ∷ (spelling Start ++ entries l (41 ∷ 10 ∷ s))) s) lacks
+
+start_back : (v : Version) (l s : List ℕ) → v.starts ≡ true
+    → start_line v (reverse l) s ≡ 40 ∷ (spelling Start ++ entries_back l (41 ∷ 10 ∷ s))
+unfolding entries
+start_back v l s has = start-some v (reverse l) s has
+    ∙ ap (λ (m : List ℕ). 40 ∷ (spelling Start ++ m)) (entries-back l [] (41 ∷ 10 ∷ s))
+
+start-short : (v : Version) (l : List ℕ) → v.starts ≡ true → Shorts v l → ShortStart v (reverse l)
+start-short v l has h = record {
+  entries = shorts-back v l [] h tt;
+  none = λ lacks. absurd (false≢true (sym lacks ∙ has));
+}
+
+pub no-start-short : (v : Version) → ShortStart v []
+no-start-short v = record { entries = tt; none = λ e. refl }
+
 module _ (v : Version) (limits : Limits v) (c : Line) (t : Lines) (line : ShortLine v (rest c))
     (lines : ShortLines v t) where
   -- a step that is put away, marked or not
@@ -406,56 +454,84 @@ module _ (v : Version) (limits : Limits v) (c : Line) (t : Lines) (line : ShortL
   unfolding put_step
   put-short m has OldRoute = record {
     old_places = lines.old_places;
+    old_start = lines.old_start;
     old = (form-short v m has c line, lines.old);
     new_places = lines.new_places;
+    new_start = lines.new_start;
     new = lines.new;
     done = lines.done;
   }
   put-short m has NewRoute = record {
     old_places = lines.old_places;
+    old_start = lines.old_start;
     old = lines.old;
     new_places = lines.new_places;
+    new_start = lines.new_start;
     new = (form-short v m has c line, lines.new);
     done = lines.done;
   }
   put-short m has JobPart = lines
 
+  head-on : (p : Part) (u : Lines) → routed p ≡ true
+      → ((s : List ℕ) → v.starts ≡ false → above v p u s ≡ headed v p u s)
+      → ((s : List ℕ) → sofar v (past_head v p) no_line u s ≡ headed v p u s) × Shape v (past_head v p) no_line
+  unfolding sofar gap goes
+  head-on p u r none = at_head v p
+      (λ q. ((s : List ℕ) → sofar v q no_line u s ≡ headed v p u s) × Shape v q no_line)
+      (λ has. (λ s. refl, (ap₂ (λ (x y : Bool). x && y) r has, refl)))
+      (λ lacks. (λ s. none s lacks, (refl, (refl, (refl, refl)))))
+
   line_on : (w : Word) (p : Part) → closes v w p ≡ true
-      → ((s : List ℕ) → above p (put_line w p c t) s ≡ line_end w p (rest c) t (10 ∷ s)) × ShortLines v (put_line w p c t)
-  unfolding closes goes routed above put_line put_step line_end upto gap gap_in gap_out gap_read gap_write gap_cloth list_of
-      word_line job_line marked spelling entries_back steps_back dones_back
-  line_on Old OldRoute g = (
-    λ s. refl,
-    record {
-      old_places = line.0;
-      old = tt;
-      new_places = low-short v limits 0 (omega arith);
-      new = tt;
-      done = tt;
-    },
-  )
+      → ((s : List ℕ) → sofar v (past_line v w p) no_line (put_line w p c t) s ≡ line_end v w p (rest c) t (10 ∷ s))
+      × Shape v (past_line v w p) no_line × ShortLines v (put_line w p c t)
+  unfolding closes goes routed past_line sofar headed above put_line put_step put_start line_end upto gap gap_in gap_out
+      gap_read gap_write gap_cloth list_of word_line job_line marked spelling entries_back steps_back dones_back
+  line_on Old OldRoute g =
+      let on = head-on OldRoute (put_line Old OldRoute c t) refl (λ s lacks. ap (word_line Old c.head)
+      (start_none v [] s lacks)) in (
+        on.0,
+        on.1,
+        record {
+          old_places = line.0;
+          old_start = no-start-short v;
+          old = tt;
+          new_places = low-short v limits 0 (omega arith);
+          new_start = no-start-short v;
+          new = tt;
+          done = tt;
+        },
+      )
   line_on Old NewRoute g = absurd (false≢true g)
   line_on Old JobPart g = absurd (false≢true g)
   line_on New OldRoute g = absurd (false≢true g)
-  line_on New NewRoute g = (
-    λ s. refl,
-    record {
-      old_places = lines.old_places;
-      old = lines.old;
-      new_places = line.0;
-      new = tt;
-      done = tt;
-    },
-  )
+  line_on New NewRoute g =
+      let on = head-on NewRoute (put_line New NewRoute c t) refl (λ s lacks. ap (λ (y : List ℕ).
+      word_line Old t.old_places (start_line v t.old_start (steps_back t.old (word_line New c.head y))))
+      (start_none v [] s lacks)) in (
+        on.0,
+        on.1,
+        record {
+          old_places = lines.old_places;
+          old_start = lines.old_start;
+          old = lines.old;
+          new_places = line.0;
+          new_start = no-start-short v;
+          new = tt;
+          done = tt;
+        },
+      )
   line_on New JobPart g = absurd (false≢true g)
   line_on Job OldRoute g = absurd (false≢true g)
   line_on Job NewRoute g = absurd (false≢true g)
   line_on Job JobPart g = (
     λ s. refl,
+    (refl, (refl, (refl, refl))),
     record {
       old_places = lines.old_places;
+      old_start = lines.old_start;
       old = lines.old;
       new_places = lines.new_places;
+      new_start = lines.new_start;
       new = lines.new;
       done = tt;
     },
@@ -464,10 +540,13 @@ module _ (v : Version) (limits : Limits v) (c : Line) (t : Lines) (line : ShortL
   line_on Done NewRoute g = absurd (false≢true g)
   line_on Done JobPart g = (
     λ s. refl,
+    (refl, (refl, (refl, refl))),
     record {
       old_places = lines.old_places;
+      old_start = lines.old_start;
       old = lines.old;
       new_places = lines.new_places;
+      new_start = lines.new_start;
       new = lines.new;
       done = (line.0, lines.done);
     },
@@ -477,43 +556,72 @@ module _ (v : Version) (limits : Limits v) (c : Line) (t : Lines) (line : ShortL
   line_on Out p g = absurd (false≢true g)
   line_on Read p g = absurd (false≢true g)
   line_on Write OldRoute g = (
-    λ s. ap (λ (y : List ℕ). word_line Old t.old_places (steps_back t.old y))
+    λ s. ap (λ (y : List ℕ). headed v OldRoute t (start_line v t.old_start (steps_back t.old y)))
         (step_back false c s),
+    (refl, (refl, (refl, refl))),
     put-short false (λ e. absurd (false≢true e)) OldRoute,
   )
   line_on Write NewRoute g = (
-    λ s. ap (λ (y : List ℕ).
-        word_line Old t.old_places (steps_back t.old (word_line New t.new_places (steps_back t.new y))))
+    λ s. ap (λ (y : List ℕ). headed v NewRoute t (start_line v t.new_start (steps_back t.new y)))
         (step_back false c s),
+    (refl, (refl, (refl, refl))),
     put-short false (λ e. absurd (false≢true e)) NewRoute,
   )
   line_on Write JobPart g = absurd (false≢true g)
   line_on Cloth OldRoute g = (
-    λ s. ap (λ (y : List ℕ). word_line Old t.old_places (steps_back t.old y))
+    λ s. ap (λ (y : List ℕ). headed v OldRoute t (start_line v t.old_start (steps_back t.old y)))
         (step_back true c s),
+    (refl, (refl, (refl, refl))),
     put-short true (λ e. g) OldRoute,
   )
   line_on Cloth NewRoute g = (
-    λ s. ap (λ (y : List ℕ).
-        word_line Old t.old_places (steps_back t.old (word_line New t.new_places (steps_back t.new y))))
+    λ s. ap (λ (y : List ℕ). headed v NewRoute t (start_line v t.new_start (steps_back t.new y)))
         (step_back true c s),
+    (refl, (refl, (refl, refl))),
     put-short true (λ e. g) NewRoute,
   )
   line_on Cloth JobPart g = absurd (false≢true g)
+  line_on Start OldRoute g = (
+    λ s. ap (headed v OldRoute t) (start_back v c.ins s g),
+    (refl, (refl, (refl, refl))),
+    record {
+      old_places = lines.old_places;
+      old_start = start-short v c.ins g line.1.0;
+      old = tt;
+      new_places = low-short v limits 0 (omega arith);
+      new_start = no-start-short v;
+      new = tt;
+      done = tt;
+    },
+  )
+  line_on Start NewRoute g = (
+    λ s. ap (headed v NewRoute t) (start_back v c.ins s g),
+    (refl, (refl, (refl, refl))),
+    record {
+      old_places = lines.old_places;
+      old_start = lines.old_start;
+      old = lines.old;
+      new_places = lines.new_places;
+      new_start = start-short v c.ins g line.1.0;
+      new = tt;
+      done = tt;
+    },
+  )
+  line_on Start JobPart g = absurd (false≢true g)
 
   at-lf : (w : Word) (p : Part) (b : ℕ) → Shape v (Lf w p) c → alive (next v (Lf w p) b) ≡ true
       → Onward v (Lf w p) b c t (next v (Lf w p) b) no_line (put_line w p c t)
   unfolding next sofar
   at-lf w p b h =
       let on = line_on w p h in
-      expected (λ x q. Onward v (Lf w p) x c t q no_line (put_line w p c t)) b 10 (Open p)
-      (record { same = on.0; shape = (refl, (refl, (refl, refl))); line = no-line-short v limits; lines = on.1 })
+      expected (λ x q. Onward v (Lf w p) x c t q no_line (put_line w p c t)) b 10 (past_line v w p)
+      (record { same = on.0; shape = on.1; line = no-line-short v limits; lines = on.2 })
 
   -- every byte that the layout has
   pub onward : (p : Point) (b : ℕ) → Shape v p c → alive (next v p b) ≡ true
       → Onward v p b c t (next v p b) (took p b c) (keep p c t)
   unfolding took keep
-  onward Start b h l = at-start v limits c t line lines b l
+  onward Top b h l = at-start v limits c t line lines b l
   onward (Open p) b h l = at_open v limits c t line lines p b h l
   onward (Choice p) b h l = at-choice v limits c t line lines p b h l
   onward (Letters w p k) b h l = at-letters v limits c t line lines w p k b h l

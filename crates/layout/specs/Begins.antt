@@ -7,7 +7,7 @@ use Rattle.layout.specs.Text.{Lines, ShortLines, text}
 pub record IsSheet (v : Version) (s : List ℕ) : Type 0 where
   pub lines : Lines
   pub short : ShortLines v lines
-  pub same : s ≡ text lines
+  pub same : s ≡ text v lines
 
 -- some sheet begins with these bytes
 pub record Begins (v : Version) (s : List ℕ) : Type 0 where

@@ -4,11 +4,11 @@ use Rattle.version.specs.declared.Version.{Version}
 use Rattle.layout.specs.Text.{Form, Lines}
 use Rattle.layout.specs.Points.{digit, alive, next}
 use Rattle.layout.specs.declared.Word.{Word}
-use Rattle.layout.specs.declared.Word.TheVariants.{Old, New, Job, Done, Step, In, Out, Read, Write, Cloth}
+use Rattle.layout.specs.declared.Word.TheVariants.{Old, New, Job, Done, Step, In, Out, Read, Write, Cloth, Start}
 use Rattle.layout.specs.declared.Part.{Part}
 use Rattle.layout.specs.declared.Part.TheVariants.{OldRoute, NewRoute, JobPart}
 use Rattle.layout.specs.declared.Point.{Point}
-use Rattle.layout.specs.declared.Point.TheVariants.{Start, Open, Choice, Letters, Past, Digit, Digits, Gap}
+use Rattle.layout.specs.declared.Point.TheVariants.{Top, Open, Choice, Letters, Past, Digit, Digits, Gap}
 use Rattle.layout.specs.declared.Point.TheVariants.{Closed, Lf, Stuck}
 
 -- what has been read of the line: the number in hand, the line's own number, the entries of its lists
@@ -34,7 +34,8 @@ grown n b = n * 10 + (b - 48)
 abbrev pub with_form : Line → ℕ → List ℕ → List ℕ → List ℕ → List ℕ → Line
 with_form c h i o r w = record { num = c.num; head = h; ins = i; outs = o; reads = r; writes = w }
 
--- a number that has ended goes where the word says
+-- a number that has ended goes where the word says; the line in hand gathers a start line's places where a step's line
+-- has its in-places
 unfoldable pub stored : Word → Line → Line
 stored Old c = with_form c c.num c.ins c.outs c.reads c.writes
 stored New c = with_form c c.num c.ins c.outs c.reads c.writes
@@ -46,10 +47,11 @@ stored Out c = with_form c c.head c.ins (c.num ∷ c.outs) c.reads c.writes
 stored Read c = with_form c c.head c.ins c.outs (c.num ∷ c.reads) c.writes
 stored Write c = with_form c c.head c.ins c.outs c.reads (c.num ∷ c.writes)
 stored Cloth c = c
+stored Start c = with_form c c.head (c.num ∷ c.ins) c.outs c.reads c.writes
 
 -- what a byte does to the line in hand
 unfoldable pub took : Point → ℕ → Line → Line
-took Start b c = c
+took Top b c = c
 took (Open p) b c = c
 took (Choice p) b c = c
 took (Letters w p k) b c = c
@@ -74,34 +76,86 @@ form_of m c = record {
 
 -- the lines that have been read, the latest first in each list
 abbrev pub no_lines : Lines
-no_lines = record { old_places = 0; old = []; new_places = 0; new = []; done = [] }
+no_lines = record { old_places = 0; old_start = []; old = []; new_places = 0; new_start = []; new = []; done = [] }
 
 -- a line that has ended is put away
 unfoldable pub put_step : Part → Form → Lines → Lines
 put_step OldRoute f t = record {
   old_places = t.old_places;
+  old_start = t.old_start;
   old = f ∷ t.old;
   new_places = t.new_places;
+  new_start = t.new_start;
   new = t.new;
   done = t.done;
 }
 put_step NewRoute f t = record {
   old_places = t.old_places;
+  old_start = t.old_start;
   old = t.old;
   new_places = t.new_places;
+  new_start = t.new_start;
   new = f ∷ t.new;
   done = t.done;
 }
 put_step JobPart f t = t
 
-unfoldable pub put_line : Word → Part → Line → Lines → Lines
-put_line Old p c t = record { old_places = c.head; old = []; new_places = 0; new = []; done = [] }
-put_line New p c t = record { old_places = t.old_places; old = t.old; new_places = c.head; new = []; done = [] }
-put_line Job p c t = record { old_places = t.old_places; old = t.old; new_places = t.new_places; new = t.new; done = [] }
-put_line Done p c t = record {
+-- a start line that has ended, by its places in their order
+unfoldable pub put_start : Part → List ℕ → Lines → Lines
+put_start OldRoute l t = record {
   old_places = t.old_places;
+  old_start = l;
+  old = [];
+  new_places = 0;
+  new_start = [];
+  new = [];
+  done = [];
+}
+put_start NewRoute l t = record {
+  old_places = t.old_places;
+  old_start = t.old_start;
   old = t.old;
   new_places = t.new_places;
+  new_start = l;
+  new = [];
+  done = [];
+}
+put_start JobPart l t = t
+
+unfoldable pub put_line : Word → Part → Line → Lines → Lines
+put_line Old p c t = record {
+  old_places = c.head;
+  old_start = [];
+  old = [];
+  new_places = 0;
+  new_start = [];
+  new = [];
+  done = [];
+}
+put_line New p c t = record {
+  old_places = t.old_places;
+  old_start = t.old_start;
+  old = t.old;
+  new_places = c.head;
+  new_start = [];
+  new = [];
+  done = [];
+}
+put_line Job p c t = record {
+  old_places = t.old_places;
+  old_start = t.old_start;
+  old = t.old;
+  new_places = t.new_places;
+  new_start = t.new_start;
+  new = t.new;
+  done = [];
+}
+put_line Done p c t = record {
+  old_places = t.old_places;
+  old_start = t.old_start;
+  old = t.old;
+  new_places = t.new_places;
+  new_start = t.new_start;
   new = t.new;
   done = c.head ∷ t.done;
 }
@@ -111,9 +165,10 @@ put_line Out p c t = t
 put_line Read p c t = t
 put_line Write p c t = put_step p (form_of false c) t
 put_line Cloth p c t = put_step p (form_of true c) t
+put_line Start p c t = put_start p (reverse c.ins) t
 
 unfoldable pub keep : Point → Line → Lines → Lines
-keep Start c t = t
+keep Top c t = t
 keep (Open p) c t = t
 keep (Choice p) c t = t
 keep (Letters w p k) c t = t
@@ -129,8 +184,10 @@ keep Stuck c t = t
 abbrev pub in_order : Lines → Lines
 in_order t = record {
   old_places = t.old_places;
+  old_start = t.old_start;
   old = reverse t.old;
   new_places = t.new_places;
+  new_start = t.new_start;
   new = reverse t.new;
   done = reverse t.done;
 }
@@ -142,7 +199,7 @@ pub data Parsed : Type 0 where
 
 -- where a sheet may end
 unfoldable pub at_end : Point → Lines → Parsed
-at_end Start t = broken []
+at_end Top t = broken []
 at_end (Open OldRoute) t = broken []
 at_end (Open NewRoute) t = broken []
 at_end (Open JobPart) t = read (in_order t)
@@ -161,4 +218,4 @@ run v p c t [] = at_end p t
 run v p c t (b ∷ s) = cond (alive (next v p b)) (run v (next v p b) (took p b c) (keep p c t) s) (broken (b ∷ s))
 
 unfoldable pub parse : Version → List ℕ → Parsed
-parse v s = run v Start no_line no_lines s
+parse v s = run v Top no_line no_lines s

@@ -1,10 +1,10 @@
 -- The text of a sheet as a function of its lines. Each definition puts its text in front of what follows, `s`. The
 -- bytes: 40 and 41 are the brackets, 32 the space, 10 the LF, 48 the digit 0.
-use Rattle.std.specs.Prelude.{◌≡◌, Bool, true, cond, List, [], ◌∷◌, ◌++◌, ℕ, zero, suc, ◌+◌, ◌/◌, ◌%◌, ◌^◌, ◌<◌, ltb}
+use Rattle.std.specs.Prelude.{◌≡◌, Bool, true, false, cond, List, [], ◌∷◌, ◌++◌, ℕ, zero, suc, ◌+◌, ◌/◌, ◌%◌, ◌^◌, ◌<◌, ltb}
 use Rattle.version.specs.declared.Version.{Version}
 use Rattle.layout.specs.Words.{spelling}
 use Rattle.layout.specs.declared.Word.{Word}
-use Rattle.layout.specs.declared.Word.TheVariants.{Old, New, Job, Done, Step, In, Out, Read, Write, Cloth}
+use Rattle.layout.specs.declared.Word.TheVariants.{Old, New, Job, Done, Step, In, Out, Read, Write, Cloth, Start}
 
 -- a step as it is written: its name, the entries of its four lists in turn, and whether it is marked
 pub record Form : Type 0 where
@@ -15,12 +15,14 @@ pub record Form : Type 0 where
   pub writes : List ℕ
   pub cloth : Bool
 
--- the lines of a sheet: `(old N)`, its steps, `(new N)`, its steps, `(job)`, then `(done NAME)` lines, as many as there
--- are
+-- the lines of a sheet: `(old N)`, its start line, its steps, `(new N)`, its start line, its steps, `(job)`, then
+-- `(done NAME)` lines, as many as there are; of a start line its places
 pub record Lines : Type 0 where
   pub old_places : ℕ
+  pub old_start : List ℕ
   pub old : List Form
   pub new_places : ℕ
+  pub new_start : List ℕ
   pub new : List Form
   pub done : List ℕ
 
@@ -58,6 +60,10 @@ step_line f s =
 unfoldable pub word_line : Word → ℕ → List ℕ → List ℕ
 word_line w n s = 40 ∷ (spelling w ++ (32 ∷ number n (41 ∷ 10 ∷ s)))
 
+-- 02: "A line `(start ..)` [..] follows each head", where the version has it
+unfoldable pub start_line : Version → List ℕ → List ℕ → List ℕ
+start_line v l s = cond v.starts (40 ∷ (spelling Start ++ entries l (41 ∷ 10 ∷ s))) s
+
 unfoldable pub job_line : List ℕ → List ℕ
 job_line s = 40 ∷ (spelling Job ++ (41 ∷ 10 ∷ s))
 
@@ -73,9 +79,9 @@ done_lines (n ∷ l) s = word_line Done n (done_lines l s)
 unfoldable pub job_text : List ℕ → List ℕ
 job_text done = job_line (done_lines done [])
 
-unfoldable pub text : Lines → List ℕ
-text x = word_line Old x.old_places (step_lines x.old
-    (word_line New x.new_places (step_lines x.new (job_text x.done))))
+unfoldable pub text : Version → Lines → List ℕ
+text v x = word_line Old x.old_places (start_line v x.old_start (step_lines x.old
+    (word_line New x.new_places (start_line v x.new_start (step_lines x.new (job_text x.done))))))
 
 -- "A number has one to five digits", and in 02 "every number up to ten digits long": every number has at most as many
 -- as the version allows
@@ -99,9 +105,16 @@ abbrev pub ShortForms : Version → List Form → Type 0
 ShortForms v [] = Unit {0}
 ShortForms v (f ∷ l) = ShortForm v f × ShortForms v l
 
+-- a version without start lines says nothing of a start
+pub record ShortStart (v : Version) (l : List ℕ) : Type 0 where
+  pub entries : Shorts v l
+  pub none : v.starts ≡ false → l ≡ []
+
 pub record ShortLines (v : Version) (x : Lines) : Type 0 where
   pub old_places : Short v x.old_places
+  pub old_start : ShortStart v x.old_start
   pub old : ShortForms v x.old
   pub new_places : Short v x.new_places
+  pub new_start : ShortStart v x.new_start
   pub new : ShortForms v x.new
   pub done : Shorts v x.done

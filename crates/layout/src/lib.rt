@@ -1,9 +1,9 @@
-// The layout of a sheet: the one table of the ten words. The parts and the points are what the definitions speak of.
+// The layout of a sheet: the one table of the eleven words. The parts and the points are what the definitions speak of.
 #![tactic(auto)]
 
 pub mod words;
 
-// 01's nine words and 02's tenth, cloth.
+// 01's nine words, and 02's cloth and start.
 #[derive(Clone, Copy)]
 pub enum Word {
     Old,
@@ -16,6 +16,7 @@ pub enum Word {
     Read,
     Write,
     Cloth,
+    Start,
 }
 
 // Which part of the sheet a line belongs to; a head opens its part.
@@ -30,7 +31,7 @@ pub enum Part {
 #[derive(Clone, Copy)]
 pub enum Point {
     // before the first byte
-    Start,
+    Top,
     // at the start of a line
     Open(Part),
     // past a line's bracket, where its first letter says which line it is
@@ -43,9 +44,9 @@ pub enum Point {
     Digit(Word, Part),
     // past a digit of a number, where that many more may follow; none may follow a lone 0
     Digits(Word, Part, usize),
-    // at the bracket of the list of that word, or of the mark
+    // at the bracket of the list of that word, of the mark, or of the start line
     Gap(Word, Part),
-    // past the closing bracket of a list, or of the mark
+    // past the closing bracket of a step's list, or of the mark
     Closed(Word, Part),
     // at the LF of a line whose last word it is
     Lf(Word, Part),

@@ -1,4 +1,4 @@
-// The one table of the ten words.
+// The one table of the eleven words.
 ghost use Rattle.std.specs.Prelude.{◌≡◌, length};
 ghost use Rattle.layout.specs.Words.{word_table, spelling, number_of};
 
@@ -6,7 +6,7 @@ use crate::Word;
 
 // Six bytes for each word: its length, and its letters filled up with 0. Bytes, not slices: the fixed texts of `tokens`
 // are made of them, so that a word's letters are said once.
-pub const TABLE: [u8; 60] = [
+pub const TABLE: [u8; 66] = [
     3, 111, 108, 100, 0, 0, // old
     3, 110, 101, 119, 0, 0, // new
     3, 106, 111, 98, 0, 0, // job
@@ -17,6 +17,7 @@ pub const TABLE: [u8; 60] = [
     4, 114, 101, 97, 100, 0, // read
     5, 119, 114, 105, 116, 101, // write
     5, 99, 108, 111, 116, 104, // cloth
+    5, 115, 116, 97, 114, 116, // start
 ];
 
 // The row of a word.

@@ -6,13 +6,13 @@ ghost use Rattle.lent.specs.Lent.{lent_in};
 use job::FlatJob;
 use job::laying::Lay;
 use records::lay;
-use route::Step;
+use route::{Places, Step};
 
 #[derive(Clone, Copy)]
 pub struct LentJob<'r> {
-    pub old_places: u64,
+    pub old_places: Places,
     pub old: &'r [Step],
-    pub new_places: u64,
+    pub new_places: Places,
     pub new: &'r [Step],
     pub done: &'r [u32],
 }

@@ -107,6 +107,22 @@ fits-is : (l : List ℕ) → entries_fit (along no_entries l) ≡ list_fits l
 unfolding entries_fit list_fits
 fits-is l = ap₂ (λ (x y : Bool). x && y) (ap (λ (n : ℕ). leb n 8) (count-is l)) (along-falls no_entries l)
 
+-- the mask of places below the count
+places-mask : (count : ℕ) (l : List ℕ) → count ≤ 64 → all_below count l ≡ true → (along no_entries l).mask ≡ masked 64 0 l
+places-mask count l few b = along-mask 64 (omega arith) no_entries l (below_wider count 64 l few b)
+
+-- ---- a start line
+
+module _ (e : Entries) (l : List ℕ) (is : e ≡ along no_entries l) where
+  pub start_fits : (count : ℕ) → leb e.top count ≡ all_below count l
+  start_fits count = ap (λ (x : Entries). leb x.top count) is ∙ top-is l count
+
+  pub start-rises : not e.falls ≡ rising 0 l
+  start-rises = ap (λ (x : Entries). not x.falls) is ∙ along-falls no_entries l
+
+  pub start-mask : (count : ℕ) → count ≤ 64 → all_below count l ≡ true → e.mask ≡ masked 64 0 l
+  start-mask count few b = ap (λ (x : Entries). x.mask) is ∙ places-mask count l few b
+
 -- ---- a step's line
 
 module _ (r : StepLine) (f : Form) (h : IsForm r f) where
@@ -145,8 +161,8 @@ module _ (r : StepLine) (f : Form) (h : IsForm r f) where
       let rest = and_right (name_fits v f.name) _ fits in
       let rest₁ = and_right (all_below places f.ins) _ rest in
       let rest₂ = and_right (all_below places f.outs) _ rest₁ in
-      let ins = places-mask f.ins (and_left (all_below places f.ins) _ rest) in
-      let outs = places-mask f.outs (and_left (all_below places f.outs) _ rest₁) in
+      let ins = places-mask places f.ins few (and_left (all_below places f.ins) _ rest) in
+      let outs = places-mask places f.outs few (and_left (all_below places f.outs) _ rest₁) in
       let reads = vars-mask f.reads (and_left (all_below 32 f.reads) _ rest₂) in
       let writes = vars-mask f.writes (and_right (all_below 32 f.reads) _ rest₂) in
       let name : r.name % 4294967296 ≡ f.name =
@@ -160,9 +176,6 @@ module _ (r : StepLine) (f : Form) (h : IsForm r f) where
         writes = (ap (λ (e : Entries). e.mask % 4294967296) h.writes ∙ writes) j;
       }
     where
-      places-mask : (l : List ℕ) → all_below places l ≡ true → (along no_entries l).mask ≡ masked 64 0 l
-      places-mask l b = along-mask 64 (omega arith) no_entries l (below_wider places 64 l few b)
-
       vars-mask : (l : List ℕ) → all_below 32 l ≡ true → (along no_entries l).mask % 4294967296 ≡ masked 32 0 l
       vars-mask l b =
           let small : masked 32 0 l < 4294967296 = masked_below 32 0 l (lit< tt) in

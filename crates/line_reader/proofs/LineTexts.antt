@@ -12,13 +12,15 @@ use Rattle.version.specs.declared.Version.{Version}
 use Rattle.layout.specs.Words.{spelling}
 use Rattle.layout.specs.Text.{Lines}
 use Rattle.layout.specs.Points.{digit, alive, next, expect, chosen, spelt, more, ended, closed, past_word}
+use Rattle.layout.specs.Points.{past_line}
 use Rattle.layout.specs.Parse.{Line, no_line, stored, took, keep, put_line, at_end}
 use Rattle.layout.specs.declared.Word.{Word}
-use Rattle.layout.specs.declared.Word.TheVariants.{Old, New, Job, Done, Step, In, Out, Read, Write, Cloth}
+use Rattle.layout.specs.declared.Word.TheVariants.{Old, New, Job, Done, Step, In, Out, Read, Write, Cloth, Start}
 use Rattle.layout.specs.declared.Part.{Part}
 use Rattle.layout.specs.declared.Part.TheVariants.{OldRoute, NewRoute, JobPart}
 use Rattle.layout.specs.declared.Point.{Point}
-use Rattle.layout.specs.declared.Point.TheVariants.{Start, Open, Past, Digit, Digits, Gap, Closed, Lf, Stuck}
+use Rattle.layout.specs.declared.Point.TheVariants.{Top, Open, Past, Digit, Digits, Gap, Closed, Lf, Stuck}
+use Rattle.layout.proofs.PrefixStep.{head-alive}
 use Rattle.tokens.specs.inner.Tokens.{Spells}
 use Rattle.line_reader.specs.inner.Lines.{head_word, has_steps}
 
@@ -54,7 +56,7 @@ byte live far ends on = (live, (far, (ends, on)))
 -- ---- the heads and the done lines
 
 pub old-spells : (v : Version) (s : List ℕ) (i : ℕ) (c : Line) (t : Lines)
-    → Spells v s i Start c t (40 ∷ 111 ∷ 108 ∷ 100 ∷ 32 ∷ []) (Digit Old OldRoute) c t
+    → Spells v s i Top c t (40 ∷ 111 ∷ 108 ∷ 100 ∷ 32 ∷ []) (Digit Old OldRoute) c t
 unfolding Spells next expect alive took keep at_end spelt spelling past_word
 old-spells v s i c t =
     byte refl (λ far. other _ 40 _ far) (λ _. refl) (λ is.
@@ -78,7 +80,7 @@ new-spells v s i c t far₀ =
 pub job-spells : (v : Version) (s : List ℕ) (i : ℕ) (c : Line) (t : Lines) → (get_or s (i + 1) 0 ≡ 115 → ⊥)
     → Spells v s i (Open NewRoute) c t (40 ∷ 106 ∷ 111 ∷ 98 ∷ 41 ∷ 10 ∷ []) (Open JobPart) no_line
     (put_line Job JobPart c t)
-unfolding Spells next expect alive took keep at_end chosen spelt spelling past_word
+unfolding Spells next past_line expect alive took keep at_end chosen spelt spelling past_word
 job-spells v s i c t far₀ =
     byte refl (λ far. other _ 40 _ far) (λ _. refl) (λ is.
     byte refl (λ far. neither _ 115 106 _ _ far₀ far) (λ _. refl) (λ is.
@@ -102,15 +104,15 @@ done-spells v s i c t room =
 
 -- past the number of such a line: the bracket and the LF
 pub end-spells : (v : Version) (s : List ℕ) (i : ℕ) (w : Word) (q : Part) (c : Line) (t : Lines) → head_word w ≡ true
-    → Spells v s i (Digits w q 0) c t (41 ∷ 10 ∷ []) (Open q) no_line (put_line w q (stored w c) t)
-unfolding Spells head_word next more ended expect digit alive took keep at_end
+    → Spells v s i (Digits w q 0) c t (41 ∷ 10 ∷ []) (past_line v w q) no_line (put_line w q (stored w c) t)
+unfolding Spells head_word next more ended past_line expect digit alive took keep at_end
 end-spells v s i Old q c t h =
     byte refl (λ far. after (digit (get_or s i 0)) (get_or s i 0) 41 (Lf Old q) far) (λ _. refl) (λ is.
-    byte refl (λ far. other _ 10 _ far) (λ _. refl) (λ is.
+    byte (head-alive v q) (λ far. other _ 10 _ far) (λ _. refl) (λ is.
     (refl, (refl, refl))))
 end-spells v s i New q c t h =
     byte refl (λ far. after (digit (get_or s i 0)) (get_or s i 0) 41 (Lf New q) far) (λ _. refl) (λ is.
-    byte refl (λ far. other _ 10 _ far) (λ _. refl) (λ is.
+    byte (head-alive v q) (λ far. other _ 10 _ far) (λ _. refl) (λ is.
     (refl, (refl, refl))))
 end-spells v s i Done q c t h =
     byte refl (λ far. after (digit (get_or s i 0)) (get_or s i 0) 41 (Lf Done q) far) (λ _. refl) (λ is.
@@ -123,6 +125,28 @@ end-spells v s i Out q c t h = absurd (false≢true h)
 end-spells v s i Read q c t h = absurd (false≢true h)
 end-spells v s i Write q c t h = absurd (false≢true h)
 end-spells v s i Cloth q c t h = absurd (false≢true h)
+end-spells v s i Start q c t h = absurd (false≢true h)
+
+-- ---- a start line
+
+pub start-spells : (v : Version) (s : List ℕ) (i : ℕ) (q : Part) (c : Line) (t : Lines)
+    → Spells v s i (Gap Start q) c t (40 ∷ 115 ∷ 116 ∷ 97 ∷ 114 ∷ 116 ∷ []) (Past Start q) c t
+unfolding Spells next expect alive took keep at_end spelt spelling
+start-spells v s i q c t =
+    byte refl (λ far. other _ 40 _ far) (λ _. refl) (λ is.
+    byte refl (λ far. other _ 115 _ far) (λ _. refl) (λ is.
+    byte refl (λ far. other _ 116 _ far) (λ _. refl) (λ is.
+    byte refl (λ far. other _ 97 _ far) (λ _. refl) (λ is.
+    byte refl (λ far. other _ 114 _ far) (λ _. refl) (λ is.
+    byte refl (λ far. other _ 116 _ far) (λ _. refl) (λ is.
+    (refl, (refl, refl))))))))
+
+pub start-end-spells : (v : Version) (s : List ℕ) (i : ℕ) (q : Part) (c : Line) (t : Lines)
+    → Spells v s i (Lf Start q) c t (10 ∷ []) (Open q) no_line (put_line Start q c t)
+unfolding Spells next past_line expect alive took keep at_end
+start-end-spells v s i q c t =
+    byte refl (λ far. other _ 10 _ far) (λ _. refl) (λ is.
+    (refl, (refl, refl)))
 
 -- ---- a step's line
 
@@ -197,7 +221,7 @@ write-spells v s i q c t =
 pub write-end-spells : (v : Version) (s : List ℕ) (i : ℕ) (q : Part) (c : Line) (t : Lines)
     → (eqb (get_or s i 0) 32 && v.cloth) ≡ false
     → Spells v s i (Closed Write q) c t (41 ∷ 10 ∷ []) (Open q) no_line (put_line Write q c t)
-unfolding Spells next expect alive took keep at_end closed
+unfolding Spells next past_line expect alive took keep at_end closed
 write-end-spells v s i q c t none =
     byte refl (λ far. ap (λ (x : Bool). cond x (Gap Cloth q) (expect (get_or s i 0) 41 (Lf Write q))) none
     ∙ other _ 41 _ far) (λ _. refl) (λ is.
@@ -233,7 +257,7 @@ cloth-spells v s i q c t space has =
 
 pub cloth-end-spells : (v : Version) (s : List ℕ) (i : ℕ) (q : Part) (c : Line) (t : Lines)
     → Spells v s i (Closed Cloth q) c t (41 ∷ 10 ∷ []) (Open q) no_line (put_line Cloth q c t)
-unfolding Spells next expect alive took keep at_end closed
+unfolding Spells next past_line expect alive took keep at_end closed
 cloth-end-spells v s i q c t =
     byte refl (λ far. other _ 41 _ far) (λ _. refl) (λ is.
     byte refl (λ far. other _ 10 _ far) (λ _. refl) (λ is.

@@ -12,23 +12,25 @@ use Rattle.std.specs.Prelude.{Result, Ok, Err}
 use Rattle.mask.proofs.Truth.{both}
 use Rattle.version.specs.declared.Version.{Version}
 use Rattle.layout.specs.Text.{Form, Lines}
-use Rattle.layout.specs.Parse.{Line, no_line, with_num, stored, put_step, put_line}
+use Rattle.layout.specs.Points.{list_end}
+use Rattle.layout.specs.Parse.{Line, no_line, with_num, stored, put_step, put_start, put_line}
 use Rattle.layout.specs.inner.Entries.{with_entries}
 use Rattle.layout.specs.declared.Word.{Word}
-use Rattle.layout.specs.declared.Word.TheVariants.{Step, In, Out, Read, Write, Cloth}
+use Rattle.layout.specs.declared.Word.TheVariants.{Step, In, Out, Read, Write, Cloth, Start}
 use Rattle.layout.specs.declared.Part.{Part}
 use Rattle.layout.specs.declared.Point.{Point}
-use Rattle.layout.specs.declared.Point.TheVariants.{Open, Digits, Past, Closed}
-use Rattle.layout.proofs.LineLists.{form_of-line_with}
+use Rattle.layout.specs.declared.Point.TheVariants.{Open, Digits, Past, Gap, Closed}
+use Rattle.layout.proofs.LineLists.{form_of-line_with, places_of-start}
 use Rattle.tokens.specs.inner.Tokens.{Reading, Spells, TextTo, TextBreaks, NumberTo, NumberBreaks, ListOn, list_word}
 use Rattle.tokens.specs.declared.Broken.{Broken}
 use Rattle.tokens.specs.declared.Numeral.{Numeral}
 use Rattle.tokens.specs.declared.Listed.{Listed}
 use Rattle.line_reader.specs.inner.Lines.{has_steps, NumberedTo, NumberedBreaks, ListedTo, ListedBreaks, ListedOn}
-use Rattle.line_reader.specs.inner.Lines.{EndingTo, EndingBreaks, StepTo, StepBreaks}
+use Rattle.line_reader.specs.inner.Lines.{StartTo, StartBreaks, EndingTo, EndingBreaks, StepTo, StepBreaks}
 use Rattle.line_reader.specs.declared.Ending.{Ending}
-use Rattle.line_reader.proofs.LineTexts.{end-spells, step-spells, in-spells, out-spells, read-spells}
-use Rattle.line_reader.proofs.LineTexts.{write-spells, write-end-spells, cloth-spells, cloth-end-spells}
+use Rattle.line_reader.proofs.LineTexts.{end-spells, start-spells, start-end-spells, step-spells, in-spells}
+use Rattle.line_reader.proofs.LineTexts.{out-spells, read-spells, write-spells, write-end-spells, cloth-spells}
+use Rattle.line_reader.proofs.LineTexts.{cloth-end-spells}
 
 -- ---- a line of one word and one number
 
@@ -78,6 +80,40 @@ module _ (v : Version) (s : List ℕ) (from : ℕ) (w : List ℕ) where
     listed-on (Err e) list = record {
       within = list.within;
       goes = λ p c d t x q h way r. list.goes x q d t h (first.goes v p c t _ _ _ way r);
+    }
+
+-- ---- a start line
+
+module _ (v : Version) (s : List ℕ) (from : ℕ) where
+  pub places-breaks : (at : ℕ) → ListedBreaks v s from (40 ∷ 115 ∷ 116 ∷ 97 ∷ 114 ∷ 116 ∷ []) at
+      → StartBreaks v s from at
+  places-breaks at stop = record {
+    within = stop.within;
+    goes = λ q t h. stop.goes _ _ _ _ Start q (unfold list_word in refl) (start-spells v s from q no_line t) h;
+  }
+
+  module _ (l : Listed) (list : ListedTo v s from (40 ∷ 115 ∷ 116 ∷ 97 ∷ 114 ∷ 116 ∷ []) l) where
+    past-places : (q : Part) (t : Lines) → Reading v s from (Gap Start q) no_line t
+        → Reading v s l.at (list_end Start q) (with_entries Start list.entries no_line) t
+    past-places q t h = list.goes _ _ _ _ Start q (unfold list_word in refl) (start-spells v s from q no_line t) h
+
+    pub lf-breaks : (at : ℕ) → TextBreaks s l.at (10 ∷ []) at → StartBreaks v s from at
+    unfolding list_end
+    lf-breaks at lf = record {
+      within = lf.within;
+      goes = λ q t h. lf.goes v _ _ _ _ _ _ (start-end-spells v s l.at q _ t) (past-places q t h);
+    }
+
+    pub start-on : (at : ℕ) → TextTo s l.at (10 ∷ []) at → StartTo v s from (record { at = at; entries = l.entries })
+    unfolding list_end put_line
+    start-on at lf = record {
+      past = omega (arith, list.later, lf.past);
+      within = lf.within;
+      places = list.entries;
+      kept = list.kept;
+      goes = λ q t h. subst (λ (x : List ℕ). Reading v s at (Open q) no_line (put_start q x t))
+          (places_of-start list.entries)
+          (lf.goes v _ _ _ _ _ _ (start-end-spells v s l.at q _ t) (past-places q t h));
     }
 
 -- ---- the end of a step's line, with the mark and without
@@ -140,7 +176,7 @@ record Came (v : Version) (s : List ℕ) (from i : ℕ) (p : Part → Point) (c 
 module _ (v : Version) (s : List ℕ) (from i : ℕ) (p : Part → Point) (c : Line) (w : List ℕ) (x : Word) (d : Line)
     (h : Came v s from i p c) (l : list_word x ≡ true)
     (way : (q : Part) (t : Lines) → Spells v s i (p q) c t w (Past x q) d t) where
-  past_list : (r : Listed) (to : ListedTo v s i w r) → Came v s from r.at (Closed x) (with_entries x to.entries d)
+  past_list : (r : Listed) (to : ListedTo v s i w r) → Came v s from r.at (list_end x) (with_entries x to.entries d)
   past_list r to = record {
     past = omega (arith, h.past, to.later);
     goes = λ q t route is so. to.goes (p q) c d t x q l (way q t) (h.goes q t route is so);
@@ -185,6 +221,7 @@ module _ (v : Version) (s : List ℕ) (from : ℕ) where
         in_line = with_entries In hi.entries (stored Step (with_num n.value no_line))
 
         past-in : Came v s from i.at (Closed In) in_line
+        unfolding list_end
         past-in = past_list v s from n.at _ _ _ In _ named (unfold list_word in refl)
             (λ q t. in-spells v s n.at q (with_num n.value no_line) t) i hi
 
@@ -197,6 +234,7 @@ module _ (v : Version) (s : List ℕ) (from : ℕ) where
           out_line = with_entries Out ho.entries in_line
 
           past-out : Came v s from o.at (Closed Out) out_line
+          unfolding list_end
           past-out = past_list v s from i.at _ _ _ Out _ past-in (unfold list_word in refl)
               (λ q t. out-spells v s i.at q _ t) o ho
 
@@ -210,6 +248,7 @@ module _ (v : Version) (s : List ℕ) (from : ℕ) where
             read_line = with_entries Read hr.entries out_line
 
             past-read : Came v s from r.at (Closed Read) read_line
+            unfolding list_end
             past-read = past_list v s from o.at _ _ _ Read _ past-out (unfold list_word in refl)
                 (λ q t. read-spells v s o.at q _ t) r hr
 
@@ -223,6 +262,7 @@ module _ (v : Version) (s : List ℕ) (from : ℕ) where
               write_line = with_entries Write hw.entries read_line
 
               past-write : Came v s from w.at (Closed Write) write_line
+              unfolding list_end
               past-write = past_list v s from r.at _ _ _ Write _ past-read (unfold list_word in refl)
                   (λ q t. write-spells v s r.at q _ t) w hw
 

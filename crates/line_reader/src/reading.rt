@@ -1,6 +1,6 @@
 // The lines, each made of its tokens. Version, bytes and place stay apart, as in `tokens`.
 ghost use Rattle.std.specs.Prelude.{◌≡◌, ◌&&◌, ◌+◌, ◌≤◌, eqb, length, get_or};
-ghost use Rattle.line_reader.specs.inner.Lines.{NumberedOn, ListedOn, EndingOn, StepOn};
+ghost use Rattle.line_reader.specs.inner.Lines.{NumberedOn, ListedOn, StartOn, EndingOn, StepOn};
 
 use crate::{Ending, StepLine};
 use tokens::lists::list;
@@ -62,6 +62,21 @@ fn listed(v: Version, s: &[u8], from: usize, w: &[u8]) -> Result<Listed, Broken>
 {
     let at = text(s, from, w)?;
     list(v, s, at)
+}
+
+// A start line: its list, and the LF.
+pub fn start(v: Version, s: &[u8], from: usize) -> Result<Listed, Broken>
+    requires { from ≤ length s.now }
+    ensures { StartOn v s.now from result }
+{
+    let word = texts::START;
+    let lf = texts::LF;
+    let l = listed(v, s, from, &word)?;
+    let at = text(s, l.at, &lf)?;
+    Ok(Listed {
+        at,
+        entries: l.entries,
+    })
 }
 
 pub fn step(v: Version, s: &[u8], from: usize) -> Result<StepLine, Broken>

@@ -1,5 +1,5 @@
 // Rows 4, 2, 3 and 5 of a line. A number and its line are two, as in `opening`.
-ghost use Rattle.std.specs.Prelude.{◌≡◌, true, ℕ, ◌≤◌, length};
+ghost use Rattle.std.specs.Prelude.{◌≡◌, true, List, ℕ, ◌≤◌, length};
 ghost use Rattle.route.specs.Steps.{names};
 ghost use Rattle.name_set.specs.inner.Hints.{Hinted};
 ghost use Rattle.flat.specs.Flat.{steps_in};
@@ -8,7 +8,8 @@ ghost use Rattle.version.specs.Limits.{Limits};
 ghost use Rattle.version.specs.declared.Version.{Version};
 ghost use Rattle.job.specs.Lines.{done_row};
 ghost use Rattle.layout.specs.Text.{Form};
-ghost use Rattle.facts.specs.Forms.{form_fits, form_row, record_of};
+ghost use Rattle.facts.specs.Forms.{form_fits, form_row, start_row, record_of};
+ghost use Rattle.tokens.specs.inner.Tokens.{no_entries, along};
 ghost use Rattle.line_reader.specs.inner.Lines.{entries_fit, line_fits, line_lists, IsForm};
 ghost use Rattle.line_reader.specs.inner.Rows.{head_row, new_row, job_row};
 
@@ -25,6 +26,19 @@ pub fn head_row(n: u64, line: u64) -> Result<(), Refusal>
 {
     if !places_fit(n) {
         return Err(Row::OutOfRange.at(line));
+    }
+    Ok(())
+}
+
+// Each place below the count, and each above the one before.
+pub fn start_row(count: u64, e: Entries, line: u64) -> Result<(), Refusal>
+    ensures { (l : List ℕ) → e ≡ along no_entries l → outcome_of result ≡ start_row line count l }
+{
+    if count < e.top {
+        return Err(Row::OutOfRange.at(line));
+    }
+    if e.falls {
+        return Err(Row::BadList.at(line));
     }
     Ok(())
 }
@@ -69,12 +83,12 @@ fn entries_fit(e: Entries) -> bool
 
 // A name in its range, each place below the count, each variable below 32.
 #[tactic(auto, unfolding(crate::specs::inner::Lines::line_fits))]
-fn line_fits(v: Version, places: u64, l: StepLine) -> bool
-    ensures { result ≡ line_fits v places l }
+fn line_fits(v: Version, count: u64, l: StepLine) -> bool
+    ensures { result ≡ line_fits v count l }
 {
     v.numbers.name_fits(l.name)
-        && l.ins.top <= places
-        && l.outs.top <= places
+        && l.ins.top <= count
+        && l.outs.top <= count
         && l.reads.top <= 32
         && l.writes.top <= 32
 }
@@ -96,19 +110,19 @@ pub fn step_row(
     v: Version,
     hint: &[u8; 256],
     steps: &[u64],
-    places: u64,
+    count: u64,
     l: StepLine,
     line: u64,
 ) -> Result<(), Refusal>
     requires { Hinted (names (steps_in steps.now)) hint.now }
     ensures { (f : Form) → IsForm l f
-        → outcome_of result ≡ form_row v line places (length (steps_in steps.now))
+        → outcome_of result ≡ form_row v line count (length (steps_in steps.now))
         (names (steps_in steps.now)) f }
 {
     if Route::STEPS <= flat::count(steps) {
         return Err(Row::BadLength.at(line));
     }
-    if !line_fits(v, places, l) {
+    if !line_fits(v, count, l) {
         return Err(Row::OutOfRange.at(line));
     }
     if !line_lists(l) {
@@ -121,8 +135,8 @@ pub fn step_row(
 }
 
 pub fn step_of(l: StepLine) -> Step
-    ensures { (v : Version) (f : Form) (places : ℕ) → Limits v → IsForm l f → places ≤ 64
-        → form_fits v places f ≡ true → result ≡ record_of f }
+    ensures { (v : Version) (f : Form) (n : ℕ) → Limits v → IsForm l f → n ≤ 64
+        → form_fits v n f ≡ true → result ≡ record_of f }
 {
     Step::of(
         l.name,

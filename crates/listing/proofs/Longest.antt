@@ -327,26 +327,3 @@ longest j room =
   where
     done : List Step
     done = performed j.old j.done
-
--- ---- and lines of these lengths add up to it (a marking of 64 places is no answer of judge: a start place is an
--- out-place of no step)
-
--- what the longest lines are shown of
-unfoldable pub longest_answer : Judged
-longest_answer =
-    record {
-      number = 0;
-      second = 0;
-      kept = below 64;
-      dropped = 0;
-      len = 64;
-      order = map suc (in_turn 0 64);
-      marking = record { tokens = below 64 };
-      after = map below (in_turn 0 64);
-      writers = replicate 32 64;
-    }
-
-pub longest-met : length (listing longest_answer) ≡ 7053
-unfolding longest_answer listing moved_text moved_line after_line after_lines order_line marking_line value_line value_lines line
-    over in_turn entry decimal digits members members_from has count
-longest-met = refl

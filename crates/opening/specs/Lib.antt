@@ -1,3 +1,3 @@
--- A route as a whole: rows 6 and 7, and its start.
+-- A route as a whole: rows 6 and 7.
 pub mod Ends
 pub mod Net

@@ -1,17 +1,18 @@
 -- The rows of a route as a whole, 6 and 7.
-use Rattle.std.specs.Prelude.{not, List, [], ◌∷◌, ℕ, eqb}
+use Rattle.std.specs.Prelude.{not, List, [], ◌∷◌, ℕ, ◌+◌, eqb}
 use Rattle.std.specs.Int.Bits.{bit_or}
 use Rattle.mask.specs.Mask.{below, within}
 use Rattle.route.specs.Steps.{union}
-use Rattle.route.specs.Firing.{start}
+use Rattle.route.specs.declared.Places.{Places}
 use Rattle.route.specs.declared.Step.{Step}
 use Rattle.refusal.specs.declared.Outcome.{Outcome}
 use Rattle.refusal.specs.Rows.{unless, first}
 
--- 6: a place in no step; 7: no start place; both at the head's line
-unfoldable pub net_row : ℕ → ℕ → List Step → Outcome
+-- 6: a place in no step, at the head's line; 7: no start place, at the start line, which follows it
+unfoldable pub net_row : ℕ → Places → List Step → Outcome
 net_row line places l =
     first
-    (unless (within (below places) (bit_or (union (λ (s : Step). s.ins) l) (union (λ (s : Step). s.outs) l))) 6 line
-    ∷ unless (not (eqb (start places l) 0)) 7 line
+    (unless
+    (within (below places.count) (bit_or (union (λ (s : Step). s.ins) l) (union (λ (s : Step). s.outs) l))) 6 line
+    ∷ unless (not (eqb places.start 0)) 7 (line + 1)
     ∷ [])

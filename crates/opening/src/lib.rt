@@ -1,16 +1,16 @@
-// A list of steps as a whole: the places that they take from and put to, the start, and rows 6 and 7.
+// A route as a whole: the places that its steps take from and put to, rows 6 and 7, and the marking that it starts
+// from.
 #![tactic(auto)]
 
 ghost use Rattle.std.specs.Prelude.{◌≡◌, ◌≤◌, IfOk};
 ghost use Rattle.flat.specs.Flat.{steps_in};
-ghost use Rattle.route.specs.Firing.{start};
 ghost use Rattle.refusal.specs.Refusal.{outcome_of};
 ghost use Rattle.opening.specs.Net.{net_row};
 ghost use Rattle.opening.specs.Ends.{EndsOf};
 
 use mask::Mask;
 use refusal::{Refusal, Row};
-use route::Marking;
+use route::{Marking, Places};
 
 // The places that some step takes from, and those that some step puts to.
 #[derive(Clone, Copy)]
@@ -32,21 +32,23 @@ fn ends_of(steps: &[u64]) -> Ends
     Ends { ins, outs }
 }
 
-// The start, unless row 6 or 7 refuses at the line of the route's head. Places, steps and line are three plain
-// parameters, here and in `job`: a type for their bounds would be made and taken apart in every function.
-pub fn open(places: u64, steps: &[u64], line: u64) -> Result<Marking, Refusal>
-    requires { places ≤ 64 }
+// The marking of the written places, unless row 6 refuses at the line of the route's head or row 7 at its start line.
+// Places, steps and line are three plain parameters, here and in `job`: a type for their bounds would be made and taken
+// apart in every function.
+pub fn open(places: Places, steps: &[u64], line: u64) -> Result<Marking, Refusal>
+    requires { (places.count ≤ 64) × (line ≤ 1000) }
     ensures outcome { outcome_of result ≡ net_row line places (steps_in steps.now) }
-    ensures start { IfOk result (λ m. m.tokens ≡ start places (steps_in steps.now)) }
+    ensures start { IfOk result (λ m. m.tokens ≡ places.start) }
 {
     let e = ends_of(steps);
-    let all = u64::below(places);
+    let all = u64::below(places.count);
     if !all.within(e.ins | e.outs) {
         return Err(Row::UnusedPlace.at(line));
     }
-    let tokens = all.without(e.outs);
-    if tokens == 0 {
-        return Err(Row::NoStart.at(line));
+    if places.start == 0 {
+        return Err(Row::NoStart.at(line + 1));
     }
-    Ok(Marking { tokens })
+    Ok(Marking {
+        tokens: places.start,
+    })
 }

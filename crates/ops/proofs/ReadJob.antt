@@ -7,6 +7,7 @@ use Rattle.std.specs.Prelude.{Ok}
 use lib.ListN.{length, take, replicate, length-append, length-replicate, length-map}
 use Rattle.route.specs.Steps.{blank, steps_of}
 use Rattle.flat.specs.Flat.{steps_in}
+use Rattle.route.specs.declared.Places.{Places}
 use Rattle.route.specs.declared.Step.{Step}
 use Rattle.route.specs.declared.Route.{Route}
 use Rattle.flat.proofs.FlatSteps.{flat-take}
@@ -23,7 +24,7 @@ use Rattle.reader.specs.inner.Read.{ReadTo}
 use Rattle.reader.specs.Refused.{counts_of}
 use Rattle.reader.specs.declared.Lengths.{Lengths}
 
-filled-length : (n : ℕ) (l : List Step) → length l ≤ 64 → length (filled n l).steps ≡ 64
+filled-length : (n : Places) (l : List Step) → length l ≤ 64 → length (filled n l).steps ≡ 64
 unfolding filled
 filled-length n l h =
     omega (arith, length-append l (replicate (64 - length l) blank), length-replicate (64 - length l) blank)

@@ -18,6 +18,7 @@ use Rattle.version.specs.Limits.{name_fits, Limits}
 use Rattle.version.specs.declared.Version.{Version}
 use Rattle.version.proofs.Limits.{name-stored}
 use Rattle.layout.specs.Text.{Lines}
+use Rattle.layout.specs.Points.{past_line}
 use Rattle.layout.specs.Parse.{no_line, with_num, stored, put_line}
 use Rattle.layout.specs.declared.Word.TheVariants.{Done}
 use Rattle.layout.specs.declared.Part.TheVariants.{JobPart}
@@ -79,7 +80,7 @@ module _ (v : Version) (s list₀ list : List ℕ) (from lines₀ : ℕ) (outcom
   reads-done : (z : Sheet) → z.number ≡ 0 → Prefix v s from JobPart (passed lines₀ outcome₀ (with_dones 0 list₀ z))
       → (k : State) → more (λ i x. done_in v i n.value x) (passed lines outcome (with_dones len list z)) ≡ k
       → Prefix v s n.at JobPart k
-  unfolding head_word
+  unfolding head_word past_line
   reads-done z zero pre k e =
       let now = h.goes z zero pre in
       prefix-of v s n.at JobPart _ k (hn.goes (Open JobPart) no_line now.lines Done JobPart refl

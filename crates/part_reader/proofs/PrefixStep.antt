@@ -5,22 +5,23 @@ use mathlib.Core.Bool.{Bool, true, false, cond, false≢true}
 use mathlib.Core.List.{List, [], ◌∷◌, reverse_aux}
 use Prim.Native.Nat.{ℕ, ◌+◌}
 use lib.Dec.{eqb}
-use borrow.Author.Tests.{eq-eqb, ne_eqb, eqb-false}
+use borrow.Author.Tests.{eq-eqb, ne_eqb, eqb-true, eqb-false}
 use Rattle.std.specs.Prelude.{Ok, Err, is_ok}
 use Rattle.refusal.specs.Refusal.{outcome_of}
 use Rattle.refusal.proofs.Answered.{number-some}
 use Rattle.refusal.specs.declared.Outcome.{Outcome}
+use Rattle.route.specs.declared.Route.{Route}
 use Rattle.version.specs.declared.Version.{Version}
 use Rattle.layout.specs.Text.{Form, Lines}
 use Rattle.layout.specs.Parse.{no_line, in_order}
 use Rattle.layout.specs.declared.Part.{Part}
-use Rattle.layout.specs.declared.Part.TheVariants.{OldRoute, NewRoute}
+use Rattle.layout.specs.declared.Part.TheVariants.{OldRoute, NewRoute, JobPart}
 use Rattle.layout.specs.declared.Point.TheVariants.{Open}
-use Rattle.facts.specs.Facts.{State, failed, settled, new_head, job_head, more, more_steps, more_dones, facts_of}
+use Rattle.facts.specs.Facts.{State, failed, settled, new_head, job_head, more, more_start, more_steps, more_dones, facts_of}
 use Rattle.facts.specs.declared.Sheet.{Sheet}
 use Rattle.tokens.specs.inner.Tokens.{Reading}
 use Rattle.part_reader.specs.inner.Prefix.{back_steps, back_dones, old_state, new_state, job_state, state_of, Prefix}
-use Rattle.part_reader.specs.inner.Prefix.{Rows, passed}
+use Rattle.part_reader.specs.inner.Prefix.{Rows, passed, with_route}
 
 -- ---- the rows so far, and an outcome over the facts
 
@@ -39,6 +40,16 @@ settled-yes o z h = ap (λ (x : Bool). cond x z (failed o.number o.second)) (eq-
 pub settled-no : (o : Outcome) (z : Sheet) → (o.number ≡ 0 → ⊥) → settled o z ≡ failed o.number o.second
 unfolding settled
 settled-no o z h = ap (λ (x : Bool). cond x z (failed o.number o.second)) (ne_eqb o.number 0 h)
+
+-- what is settled doesn't show where it is refused
+pub settled_same : (o : Outcome) (a b : Sheet) → (o.number ≡ 0 → a ≡ b) → settled o a ≡ settled o b
+unfolding settled
+settled_same o a b h = go (eqb o.number 0) refl
+  where
+    go : (x : Bool) → eqb o.number 0 ≡ x
+        → cond x a (failed o.number o.second) ≡ cond x b (failed o.number o.second)
+    go true e = h (eqb-true o.number 0 e)
+    go false e = refl
 
 module _ (line : ℕ → Sheet → Sheet) (n : ℕ) (o : Outcome) (z z' : Sheet) where
   -- a line after lines that pass is settled by its own rows
@@ -66,6 +77,12 @@ module _ (line : ℕ → Sheet → Sheet) (n : ℕ) (o : Outcome) (z z' : Sheet)
 
 -- ---- where reading stands
 
+pub route-number : (q : Part) (r : Route) (z : Sheet) → (with_route q r z).number ≡ z.number
+unfolding with_route
+route-number OldRoute r z = refl
+route-number NewRoute r z = refl
+route-number JobPart r z = refl
+
 pub prefix-of : (v : Version) (s : List ℕ) (i : ℕ) (q : Part) (t : Lines) (k : State)
     → Reading v s i (Open q) no_line t → state_of v q t ≡ k → Prefix v s i q k
 prefix-of v s i q t k h e = record { lines = t; reading = h; state = e }
@@ -91,5 +108,5 @@ whole-state v t =
     (ap (λ (k : State). k.sheet) (dones-forth v t.done [] _)
     ∙ ap (λ (k : State). (back_dones v t.done (more job_head k)).sheet)
     (steps-forth v NewRoute t.new [] _ ∙ ap (λ (k : State).
-    back_steps v NewRoute t.new (more (λ i s. new_head i t.new_places s) k))
+    back_steps v NewRoute t.new (more_start v NewRoute t.new_start (more (λ i s. new_head i t.new_places s) k)))
     (steps-forth v OldRoute t.old [] _)))

@@ -19,6 +19,7 @@ use Rattle.route.specs.Steps.{blank, steps_of, names}
 use Rattle.name_set.specs.inner.Hints.{Hinted}
 use Rattle.flat.specs.Flat.{steps_in}
 use Rattle.route.specs.declared.Step.{Step}
+use Rattle.route.specs.declared.Places.{Places}
 use Rattle.route.specs.declared.Route.{Route}
 use Rattle.flat.proofs.FlatSteps.{length-flat, flat-take, flat-zeros}
 use Rattle.route.proofs.StepList.{length-names}
@@ -38,7 +39,7 @@ use Rattle.part_reader.specs.inner.Prefix.{back_steps, old_state, new_state, sta
 use Rattle.part_reader.specs.inner.Prefix.{Rows, Placed, bare, with_route, StepsTo, StepsBreak}
 use Rattle.line_reader.specs.declared.StepLine.{StepLine}
 use Rattle.part_reader.specs.declared.Pass.{Pass}
-use Rattle.part_reader.proofs.PrefixStep.{settled-no, more-on, more-refused, prefix-of}
+use Rattle.part_reader.proofs.PrefixStep.{settled-no, more-on, more-refused, route-number, prefix-of}
 
 -- ---- a step's line in the facts
 
@@ -49,14 +50,8 @@ step-state v OldRoute t f h = refl
 step-state v NewRoute t f h = refl
 step-state v JobPart t f h = absurd (false≢true h)
 
-route-number : (q : Part) (r : Route) (z : Sheet) → (with_route q r z).number ≡ z.number
-unfolding with_route
-route-number OldRoute r z = refl
-route-number NewRoute r z = refl
-route-number JobPart r z = refl
-
 step-settled : (v : Version) (q : Part) (line : ℕ) (f : Form) (r : Route) (z : Sheet) → has_steps q ≡ true
-    → step_in v q line f (with_route q r z) ≡ settled (form_row v line r.places r.len (names (steps_of r)) f)
+    → step_in v q line f (with_route q r z) ≡ settled (form_row v line r.places.count r.len (names (steps_of r)) f)
     (with_route q (stepped r (record_of f)) z)
 unfolding has_steps step_in with_route
 step-settled v OldRoute line f r z h = refl
@@ -97,14 +92,14 @@ take_more l k s h = ap (λ (n : ℕ). names (take n (set l k s))) (add-one k) �
 
 -- ---- the loop
 
-pub record Stepped (v : Version) (s : List ℕ) (places : ℕ) (list hint : List ℕ) (from lines₀ : ℕ)
+pub record Stepped (v : Version) (s : List ℕ) (places : Places) (list hint : List ℕ) (from lines₀ : ℕ)
     (outcome₀ outcome : Outcome) (lines at len : ℕ) : Type 0 where
   pub limits : Limits v
   pub within : at ≤ length s
   pub counted : lines ≤ at
   pub few : len ≤ 64
   pub long : length list ≡ 256
-  pub fits : outcome.number ≡ 0 → places ≤ 64
+  pub fits : outcome.number ≡ 0 → places.count ≤ 64
   pub hinted : Hinted (names (take len (steps_in list))) hint
   pub goes : (q : Part) (z : Sheet) → has_steps q ≡ true → z.number ≡ 0
       → Prefix v s from q (passed lines₀ outcome₀ (with_route q (bare places) z))
@@ -112,8 +107,8 @@ pub record Stepped (v : Version) (s : List ℕ) (places : ℕ) (list hint : List
       (record { places = places; len = len; steps = steps_in list })
       z))
 
-pub stepped-init : (v : Version) (limits : Limits v) (s : List ℕ) (places : ℕ) (list hint : List ℕ) (p : Pass)
-    → Placed s p → ((outcome_of p.rows).number ≡ 0 → places ≤ 64) → list ≡ replicate 256 0
+pub stepped-init : (v : Version) (limits : Limits v) (s : List ℕ) (places : Places) (list hint : List ℕ) (p : Pass)
+    → Placed s p → ((outcome_of p.rows).number ≡ 0 → places.count ≤ 64) → list ≡ replicate 256 0
     → hint ≡ replicate 256 0 → Stepped v s places list hint p.at p.lines (outcome_of p.rows) (outcome_of p.rows) p.lines
     p.at 0
 unfolding names
@@ -132,8 +127,9 @@ stepped-init v limits s places list hint p hp fits is hs =
           ∙ flat-zeros 64)) pre;
     }
 
-module _ (v : Version) (s : List ℕ) (places : ℕ) (list hint : List ℕ) (from lines₀ : ℕ) (outcome₀ outcome : Outcome)
-    (lines at len : ℕ) (h : Stepped v s places list hint from lines₀ outcome₀ outcome lines at len) (l : StepLine)
+module _ (v : Version) (s : List ℕ) (places : Places) (list hint : List ℕ) (from lines₀ : ℕ)
+    (outcome₀ outcome : Outcome) (lines at len : ℕ)
+    (h : Stepped v s places list hint from lines₀ outcome₀ outcome lines at len) (l : StepLine)
     (hl : StepTo v s at l) where
   abbrev route : Route
   route = record { places = places; len = len; steps = steps_in list }
@@ -148,28 +144,28 @@ module _ (v : Version) (s : List ℕ) (places : ℕ) (list hint : List ℕ) (fro
   line-later = omega (arith, hl.past, hl.within)
 
   abbrev RowIs : Outcome → Type 0
-  RowIs o = (f : Form) → IsForm l f → o ≡ form_row v (lines + 1) places (length (steps_in (take (4 * len) list)))
+  RowIs o = (f : Form) → IsForm l f → o ≡ form_row v (lines + 1) places.count (length (steps_in (take (4 * len) list)))
       (names (steps_in (take (4 * len) list))) f
 
   module _ (o : Outcome) (row : RowIs o) where
-    the_row : o ≡ form_row v (lines + 1) places len (names (steps_of route)) hl.form
+    the_row : o ≡ form_row v (lines + 1) places.count len (names (steps_of route)) hl.form
     the_row =
         row hl.form hl.is
-        ∙ ap₂ (λ (n : ℕ) (x : List ℕ). form_row v (lines + 1) places n x hl.form)
+        ∙ ap₂ (λ (n : ℕ) (x : List ℕ). form_row v (lines + 1) places.count n x hl.form)
         (above-is list len h.long h.few)
         (names-above list len h.long h.few ∙ ap names (sym (few-steps route h.few)))
 
     module _ (z₁ : o.number ≡ 0) where
-      passing : eqb (form_row v (lines + 1) places len (names (steps_of route)) hl.form).number 0 ≡ true
+      passing : eqb (form_row v (lines + 1) places.count len (names (steps_of route)) hl.form).number 0 ≡ true
       passing = ap (λ (x : Outcome). eqb x.number 0) (sym the_row) ∙ eq-eqb o.number 0 z₁
 
       row-four : eqb (unless (ltb len 64) 4 (lines + 1)).number 0 ≡ true
       unfolding form_row
       row-four = (head_passed (unless (ltb len 64) 4 (lines + 1)) _ passing).0
 
-      row-two : eqb (unless (form_fits v places hl.form) 2 (lines + 1)).number 0 ≡ true
+      row-two : eqb (unless (form_fits v places.count hl.form) 2 (lines + 1)).number 0 ≡ true
       unfolding form_row
-      row-two = (head_passed (unless (form_fits v places hl.form) 2 (lines + 1)) _
+      row-two = (head_passed (unless (form_fits v places.count hl.form) 2 (lines + 1)) _
           (head_passed (unless (ltb len 64) 4 (lines + 1)) _ passing).1).0
 
       pub step_room : len < 64
@@ -238,8 +234,8 @@ module _ (v : Version) (s : List ℕ) (places : ℕ) (list hint : List ℕ) (fro
           (of : (v : Version) (f : Form) (n : ℕ) → Limits v → IsForm l f → n ≤ 64 → form_fits v n f ≡ true
           → one ≡ record_of f) (put : steps_in list' ≡ set (steps_in list) len one) where
         one-is : one ≡ record_of hl.form
-        one-is = of v hl.form places h.limits hl.is (h.fits z₀)
-            (unless-elim (form_fits v places hl.form) 2 (lines + 1) refl (row-two o row z₁))
+        one-is = of v hl.form places.count h.limits hl.is (h.fits z₀)
+            (unless-elim (form_fits v places.count hl.form) 2 (lines + 1) refl (row-two o row z₁))
 
         put_is : stepped route (record_of hl.form)
             ≡ record { places = places; len = len + 1; steps = steps_in list' }
@@ -280,8 +276,9 @@ module _ (v : Version) (s : List ℕ) (places : ℕ) (list hint : List ℕ) (fro
 
 -- ---- what the loop needs on its way
 
-module _ (v : Version) (s : List ℕ) (places : ℕ) (list hint : List ℕ) (from lines₀ : ℕ) (outcome₀ outcome : Outcome)
-    (lines at len : ℕ) (h : Stepped v s places list hint from lines₀ outcome₀ outcome lines at len) where
+module _ (v : Version) (s : List ℕ) (places : Places) (list hint : List ℕ) (from lines₀ : ℕ)
+    (outcome₀ outcome : Outcome) (lines at len : ℕ)
+    (h : Stepped v s places list hint from lines₀ outcome₀ outcome lines at len) where
   pub hinted-above : Hinted (names (steps_in (take (4 * len) list))) hint
   hinted-above = subst (λ (l : List ℕ). Hinted l hint) (sym (names-above list len h.long h.few)) h.hinted
 
@@ -290,7 +287,7 @@ module _ (v : Version) (s : List ℕ) (places : ℕ) (list hint : List ℕ) (fro
 
 -- ---- its ends
 
-module _ (v : Version) (s : List ℕ) (p : Pass) (places : ℕ) (list hint : List ℕ) (rows : Rows) (lines at len : ℕ)
+module _ (v : Version) (s : List ℕ) (p : Pass) (places : Places) (list hint : List ℕ) (rows : Rows) (lines at len : ℕ)
     (h : Stepped v s places list hint p.at p.lines (outcome_of p.rows) (outcome_of rows) lines at len) (x : Bool)
     (test : x ≡ eqb (get_or s (at + 1) 0) 115) where
   pub steps-break : (i : ℕ) → x ≡ true → StepBreaks v s at i → StepsBreak v s p places i

@@ -2,6 +2,7 @@
 #![tactic(auto)]
 
 use refusal::Refusal;
+use route::Places;
 
 pub mod parts;
 
@@ -14,11 +15,11 @@ pub struct Pass {
     pub rows: Result<(), Refusal>,
 }
 
-// Past a route's head: where reading stands, and the place count.
+// Past a route's head, or past its start line too: where reading stands, and what is known of the route's places.
 #[derive(Clone, Copy)]
 pub struct Head {
     pub pass: Pass,
-    pub places: u64,
+    pub places: Places,
 }
 
 // Past the steps or the done names: where reading stands, and how many were put away.

@@ -1,17 +1,49 @@
-// The parts of a sheet in turn: a head, the steps below it, the done lines. Each ends where the layout breaks. Version,
-// bytes and where reading stands are three, as in `tokens`.
+// The parts of a sheet in turn: a head with its start line, the steps below it, the done lines. Each ends where the
+// layout breaks. Version, bytes and where reading stands are three, as in `tokens`.
 ghost use Rattle.std.specs.Prelude.{◌≡◌, ◌≤◌, replicate};
 ghost use Rattle.refusal.specs.Refusal.{outcome_of};
 ghost use Rattle.flat.specs.Flat.{steps_in};
-ghost use Rattle.part_reader.specs.inner.Prefix.{Placed, OldOn, NewOn, JobOn, StepsOn, DonesOn};
+ghost use Rattle.part_reader.specs.inner.Prefix.{Placed, StartLineOn, OldOn, NewLineOn, NewOn, JobOn, StepsOn, DonesOn};
 
 use crate::{Filled, Head, Pass};
-use line_reader::reading::{numbered, step, stepping};
-use line_reader::rows::{done_row, head_row, job_row, new_row, step_of, step_row};
+use line_reader::reading::{numbered, start, step, stepping};
+use line_reader::rows::{done_row, head_row, job_row, new_row, start_row, step_of, step_row};
+use route::Places;
 use route::steps::low;
 use tokens::texts::text;
 use tokens::{Broken, texts};
 use version::Version;
+
+// Past a head's line, with the count that it gave: its start line, where the version has one.
+fn start_line(v: Version, s: &[u8], p: Pass, count: u64) -> Result<Head, Broken>
+    requires placed { Placed s.now p }
+    requires count_bound { (outcome_of p.rows).number ≡ 0 → count ≤ 64 }
+    ensures { StartLineOn v s.now p count result }
+{
+    if !v.numbers.starts {
+        return Ok(Head {
+            pass: p,
+            places: Places { count, start: 0 },
+        });
+    }
+    let l = start(v, s, p.at)?;
+    let lines = p.lines + 1;
+    let mut rows = p.rows;
+    if rows.is_ok() {
+        rows = start_row(count, l.entries, lines);
+    }
+    Ok(Head {
+        pass: Pass {
+            at: l.at,
+            lines,
+            rows,
+        },
+        places: Places {
+            count,
+            start: l.entries.mask,
+        },
+    })
+}
 
 pub fn old_head(v: Version, s: &[u8]) -> Result<Head, Broken>
     ensures { OldOn v s.now result }
@@ -19,20 +51,18 @@ pub fn old_head(v: Version, s: &[u8]) -> Result<Head, Broken>
     let w = texts::OLD;
     let n = numbered(v, s, 0, &w)?;
     let rows = head_row(n.value, 1);
-    Ok(Head {
-        pass: Pass {
-            at: n.at,
-            lines: 1,
-            rows,
-        },
-        places: n.value,
-    })
+    let p = Pass {
+        at: n.at,
+        lines: 1,
+        rows,
+    };
+    start_line(v, s, p, n.value)
 }
 
-// `above` is how many steps the old route has.
-pub fn new_head(v: Version, s: &[u8], p: Pass, above: usize) -> Result<Head, Broken>
+// The new route's head without its start line.
+fn new_line(v: Version, s: &[u8], p: Pass, above: usize) -> Result<Head, Broken>
     requires { Placed s.now p }
-    ensures { NewOn v s.now p above result }
+    ensures { NewLineOn v s.now p above result }
 {
     let w = texts::NEW;
     let n = numbered(v, s, p.at, &w)?;
@@ -47,8 +77,20 @@ pub fn new_head(v: Version, s: &[u8], p: Pass, above: usize) -> Result<Head, Bro
             lines,
             rows,
         },
-        places: n.value,
+        places: Places {
+            count: n.value,
+            start: 0,
+        },
     })
+}
+
+// `above` is how many steps the old route has.
+pub fn new_head(v: Version, s: &[u8], p: Pass, above: usize) -> Result<Head, Broken>
+    requires { Placed s.now p }
+    ensures { NewOn v s.now p above result }
+{
+    let h = new_line(v, s, p, above)?;
+    start_line(v, s, h.pass, h.places.count)
 }
 
 // `above` is how many steps the new route has.
@@ -67,9 +109,15 @@ pub fn job_head(s: &[u8], p: Pass, above: usize) -> Result<Pass, Broken>
 }
 
 // The steps below a head, put away in place.
-pub fn steps(v: Version, s: &[u8], p: Pass, places: u64, list: &mut [u64]) -> Result<Filled, Broken>
+pub fn steps(
+    v: Version,
+    s: &[u8],
+    p: Pass,
+    places: Places,
+    list: &mut [u64],
+) -> Result<Filled, Broken>
     requires placed { Placed s.now p }
-    requires places_bound { (outcome_of p.rows).number ≡ 0 → places ≤ 64 }
+    requires count_bound { (outcome_of p.rows).number ≡ 0 → places.count ≤ 64 }
     requires list_value { list.old ≡ replicate 256 0 }
     ensures { StepsOn v s.now p places result (steps_in list.new) }
 {
@@ -87,7 +135,7 @@ pub fn steps(v: Version, s: &[u8], p: Pass, places: u64, list: &mut [u64]) -> Re
             continue;
         }
         let end = 4 * len;
-        rows = step_row(v, &hint, &list[..end], places, l, lines);
+        rows = step_row(v, &hint, &list[..end], places.count, l, lines);
         if rows.is_err() {
             continue;
         }

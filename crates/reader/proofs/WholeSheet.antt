@@ -15,9 +15,10 @@ use Rattle.refusal.specs.Refusal.{number_of, outcome_of}
 use Rattle.refusal.specs.declared.Refusal.{Refusal}
 use Rattle.refusal.specs.declared.Row.TheVariants.{Layout}
 use Rattle.refusal.proofs.Answered.{number-some}
-use Rattle.route.specs.Steps.{blank}
+use Rattle.route.specs.Steps.{blank, no_places}
 use Rattle.flat.specs.Flat.{steps_in}
 use Rattle.route.specs.declared.Step.{Step}
+use Rattle.route.specs.declared.Places.{Places}
 use Rattle.route.specs.declared.Route.{Route}
 use Rattle.version.specs.declared.Version.{Version}
 use Rattle.layout.specs.Parse.{no_line, at_end, run}
@@ -30,8 +31,8 @@ use Rattle.tokens.specs.inner.Tokens.{Breaks}
 use Rattle.tokens.specs.declared.Broken.{Broken}
 use Rattle.tokens.proofs.Bytes.{handed}
 use Rattle.line_reader.specs.inner.Lines.{has_steps}
-use Rattle.part_reader.specs.inner.Prefix.{Rows, state_of, Prefix, passed, with_route, with_dones, OldTo, NewTo, HeadBreaks}
-use Rattle.part_reader.specs.inner.Prefix.{JobTo, StepsTo, StepsBreak, DonesTo, DonesBreak}
+use Rattle.part_reader.specs.inner.Prefix.{Rows, state_of, Prefix, passed, with_route, with_dones, OldTo, NewTo}
+use Rattle.part_reader.specs.inner.Prefix.{NewBreaks, HeadBreaks, JobTo, StepsTo, StepsBreak, DonesTo, DonesBreak}
 use Rattle.reader.specs.inner.Read.{PartsInto, ReadInto, ReadTo, route_in}
 use Rattle.part_reader.specs.declared.Pass.{Pass}
 use Rattle.part_reader.specs.declared.Head.{Head}
@@ -58,7 +59,7 @@ whole-read v s i k h over =
 
 -- ---- the parts
 
-abbrev sheet_with : ℕ → ℕ → ℕ → ℕ → ℕ → List Step → List Step → List ℕ → Sheet
+abbrev sheet_with : Places → ℕ → Places → ℕ → ℕ → List Step → List Step → List ℕ → Sheet
 sheet_with op ol np nl dl old new done =
     record {
       number = 0;
@@ -114,14 +115,14 @@ module _ (v : Version) (s : List ℕ) (a : Head) (ha : OldTo v s a) where
 
   module _ (old : List ℕ) (b : Filled) (hb : StepsTo v s a.pass a.places b (steps_in old)) where
     abbrev one : Sheet
-    one = sheet_with a.places b.len 0 0 0 (steps_in old) (replicate 64 blank) (replicate 64 0)
+    one = sheet_with a.places b.len no_places 0 0 (steps_in old) (replicate 64 blank) (replicate 64 0)
 
     old-steps : Prefix v s b.pass.at OldRoute (passed b.pass.lines (outcome_of b.pass.rows) one)
     unfolding has_steps with_route failed
     old-steps = hb.goes OldRoute (failed 0 0) refl refl ha.goes
 
-    pub new-head-breaks : (at : ℕ) → HeadBreaks v s b.pass OldRoute at → Breaks v s at
-    new-head-breaks at h = h.goes _ hb.over old-steps
+    pub new-head-breaks : (at : ℕ) → NewBreaks v s b.pass b.len at → Breaks v s at
+    new-head-breaks at h = h.goes one refl refl hb.over old-steps
 
     module _ (c : Head) (hc : NewTo v s b.pass b.len c) where
       new-head : Prefix v s c.pass.at NewRoute (passed c.pass.lines (outcome_of c.pass.rows)
@@ -220,15 +221,15 @@ module _ (s old new done : List ℕ) where
   pub part-refused : (e : Refusal) → ReadTo s (counts_of (Err e)) old new done → ◌≡◌ {A = List ℕ} [] (job_part s)
   unfolding job_part
   part-refused e h =
-      sym (ap (λ (t : Bool). cond t (after_lines ((read_of s).old.len + (read_of s).new.len + 2) s) [])
+      sym (ap (λ (t : Bool). cond t (after_lines ((read_of s).old.len + (read_of s).new.len + 4) s) [])
       (ap (λ (n : ℕ). eqb n 0) (sym h.number) ∙ number-some e.row))
 
   pub part-read : (l : Lengths) (h : ReadTo s (counts_of (Ok l)) old new done) (k : ℕ)
-      → PastLines (l.old_len + l.new_len + 2) s k → take (length s - k) (drop k s) ≡ job_part s
+      → PastLines (l.old_len + l.new_len + 4) s k → take (length s - k) (drop k s) ≡ job_part s
   unfolding job_part
   part-read l h k past =
       take_all (length s - k) (drop k s) (omega (arith, length-drop k s))
       ∙ past.rest
-      ∙ (λ j. after_lines (h.old-len j + h.new-len j + 2) s)
-      ∙ sym (ap (λ (t : Bool). cond t (after_lines ((read_of s).old.len + (read_of s).new.len + 2) s) [])
+      ∙ (λ j. after_lines (h.old-len j + h.new-len j + 4) s)
+      ∙ sym (ap (λ (t : Bool). cond t (after_lines ((read_of s).old.len + (read_of s).new.len + 4) s) [])
       (ap (λ (n : ℕ). eqb n 0) (sym h.number)))

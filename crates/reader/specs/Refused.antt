@@ -1,6 +1,7 @@
 -- What reading into lent lists answers, in plain numbers.
 use Rattle.std.specs.Prelude.{ℕ, Result, Ok, Err}
 use Rattle.refusal.specs.Refusal.{number_of}
+use Rattle.route.specs.Steps.{no_places}
 use Rattle.refusal.specs.declared.Refusal.{Refusal}
 use Rattle.reader.specs.declared.Counts.{Counts}
 use Rattle.reader.specs.declared.Lengths.{Lengths}
@@ -10,9 +11,9 @@ abbrev pub no_counts : ℕ → ℕ → Counts
 no_counts n k = record {
   number = n;
   second = k;
-  old_places = 0;
+  old_places = no_places;
   old_len = 0;
-  new_places = 0;
+  new_places = no_places;
   new_len = 0;
   done_len = 0;
 }

@@ -5,17 +5,18 @@ ghost use Rattle.std.specs.Prelude.{◌≡◌};
 ghost use Rattle.reader.specs.Refused.{counts_of};
 
 use refusal::Refusal;
+use route::Places;
 
 pub mod lists;
 pub mod part;
 pub mod reads;
 
-// What a sheet that reads tells besides the lists: both place counts and all three lengths.
+// What a sheet that reads tells besides the lists: both routes' places and all three lengths.
 #[derive(Clone, Copy)]
 pub struct Lengths {
-    pub old_places: u64,
+    pub old_places: Places,
     pub old_len: usize,
-    pub new_places: u64,
+    pub new_places: Places,
     pub new_len: usize,
     pub done_len: usize,
 }
@@ -25,9 +26,9 @@ pub struct Lengths {
 pub struct Counts {
     pub number: u32,
     pub second: u64,
-    pub old_places: u64,
+    pub old_places: Places,
     pub old_len: usize,
-    pub new_places: u64,
+    pub new_places: Places,
     pub new_len: usize,
     pub done_len: usize,
 }
@@ -49,9 +50,9 @@ impl From<Result<Lengths, Refusal>> for Counts {
             Err(e) => Counts {
                 number: e.row.number(),
                 second: e.second,
-                old_places: 0,
+                old_places: Places::NONE,
                 old_len: 0,
-                new_places: 0,
+                new_places: Places::NONE,
                 new_len: 0,
                 done_len: 0,
             },

@@ -28,6 +28,6 @@ pub fn job_part(sheet: &[u8]) -> &[u8]
     let Ok(c) = read_lists(sheet, &mut lists) else {
         return &sheet[..0];
     };
-    let k = past_lines(sheet, c.old_len + c.new_len + 2);
+    let k = past_lines(sheet, c.old_len + c.new_len + 4);
     &sheet[k..]
 }

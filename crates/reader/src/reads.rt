@@ -8,12 +8,12 @@ ghost use Rattle.reader.specs.inner.Read.{route_in};
 use crate::lists::{Lists, read_lists_by};
 use facts::Records;
 use refusal::Refusal;
-use route::Route;
+use route::{Places, Route};
 use std::array;
 use version::Version;
 
 // A route by value of the steps in 256 numbers: how many count stands beside them, as in the record.
-fn route_in(places: u64, len: usize, list: &[u64; 256]) -> Route
+fn route_in(places: Places, len: usize, list: &[u64; 256]) -> Route
     ensures { result ≡ route_in places len (steps_in list.now) }
 {
     Route {

@@ -1,4 +1,4 @@
-// A route by value, its steps, its marking, and firing's answer.
+// A route by value, its places and steps, its marking, and firing's answer.
 #![tactic(auto)]
 
 ghost use Rattle.std.specs.Prelude.{◌≡◌};
@@ -20,11 +20,18 @@ pub struct Step {
     pub writes: u32,
 }
 
+// A route's places: how many there are, and those with a token at the start.
+#[derive(Clone, Copy)]
+pub struct Places {
+    pub count: u64,
+    pub start: u64,
+}
+
 // The first `len` of the steps: 64 and a length, by the rule of fixed memory and no heap, here and in what is made of
 // routes. A length over 64 is that of a list that was too long.
 #[derive(Clone, Copy)]
 pub struct Route {
-    pub places: u64,
+    pub places: Places,
     pub len: usize,
     pub steps: [Step; 64],
 }

@@ -1,8 +1,8 @@
-// A step from its fields, the blank step, a route's limits and the empty route.
+// A step from its fields, the blank step, no places, a route's limits and the empty route.
 ghost use Rattle.std.specs.Prelude.{◌≡◌, ◌%◌};
 ghost use Rattle.route.specs.Steps.{blank, no_route};
 
-use crate::{Route, Step};
+use crate::{Places, Route, Step};
 
 // The lowest 32 bits, by a mask: a cast may lose nothing (`overflow_cast-result`).
 pub fn low(n: u64) -> u32
@@ -50,6 +50,11 @@ impl Step {
     }
 }
 
+impl Places {
+    // No place, and so none with a token.
+    pub const NONE: Places = Places { count: 0, start: 0 };
+}
+
 impl Route {
     pub const PLACES: u64 = 64;
 
@@ -63,7 +68,7 @@ impl Route {
         ensures { result ≡ no_route }
     {
         Route {
-            places: 0,
+            places: Places::NONE,
             len: 0,
             steps: [Step::BLANK; 64],
         }

@@ -27,7 +27,7 @@ run_from steps m line [] = reached m
 run_from steps m line (n ∷ l) = if_fires m (lookup n steps) (stopped 8 line) (stopped 9 line)
     (λ s m'. run_from steps m' (line + 1) l)
 
--- the operation run: the rows to 7, then the done lines from the old route's start
+-- the operation run: the rows to 7, then the done lines from the old route's written places
 unfoldable pub ran : Job → Fired
 ran j =
     cond (eqb (checked j).number 0)

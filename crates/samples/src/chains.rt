@@ -3,7 +3,7 @@ ghost use Rattle.std.specs.Prelude.{◌≤◌};
 
 use crate::step;
 use mask::Mask;
-use route::{Route, Step};
+use route::{Places, Route, Step};
 
 // Whether each step of a row lies one place further on than the one before, or one place back.
 #[derive(Clone, Copy)]
@@ -32,12 +32,15 @@ impl Way {
     }
 }
 
-// n steps, each the next of the one before.
+// n steps, each the next of the one before; the route starts on place 0.
 fn row(n: usize, first: Step, way: Way) -> Route
     requires { n ≤ 64 }
 {
     let mut r = Route::empty();
-    r.places = n as u64 + 1;
+    r.places = Places {
+        count: n as u64 + 1,
+        start: 1,
+    };
     r.len = n;
     let mut next = first;
     for s in &mut r.steps[..n] {
@@ -86,7 +89,10 @@ pub fn turned(n: usize) -> Route
 // every set of the other 15 can be reached.
 pub fn stuck() -> Route {
     let mut r = row(16, step(100, 1, 1 << 16, 0, 1), Way::On);
-    r.places = 34;
+    r.places = Places {
+        count: 34,
+        start: (1 << 33) | 65535,
+    };
     r.len = 17;
     r.steps[15].ins = 1 << 32;
     r.steps[16] = step(99, (1 << 33) | (1 << 15), 1 << 32, 0, 0);

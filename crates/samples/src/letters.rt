@@ -1,4 +1,4 @@
-// 01's examples as records. Place p is bit p, variable v is bit v.
+// 01's examples as records, and a job that goes round. Place p is bit p, variable v is bit v.
 use crate::{route_of, step};
 use job::laying::RouteJob;
 use route::{Route, Step};
@@ -27,7 +27,7 @@ fn job(old: Route, new: Route, done: &'static [u32]) -> Sample {
 
 // Two steps, and 30, which reads what they write.
 fn before_30(a: Step, b: Step) -> Route {
-    route_of(4, [a, b, step(30, 4, 8, 3, 4)])
+    route_of(4, 1, [a, b, step(30, 4, 8, 3, 4)])
 }
 
 pub fn a_old() -> Route {
@@ -47,11 +47,11 @@ fn d_new() -> Route {
 }
 
 fn e_new() -> Route {
-    route_of(3, [step(20, 1, 2, 0, 2), step(30, 2, 4, 3, 4)])
+    route_of(3, 1, [step(20, 1, 2, 0, 2), step(30, 2, 4, 3, 4)])
 }
 
 fn f_new() -> Route {
-    route_of(3, [step(20, 1, 2, 0, 2), step(30, 2, 4, 2, 4)])
+    route_of(3, 1, [step(20, 1, 2, 0, 2), step(30, 2, 4, 2, 4)])
 }
 
 fn g_new() -> Route {
@@ -100,16 +100,33 @@ pub fn i() -> Sample {
 }
 
 pub fn j() -> Sample {
-    let r = route_of(3, [step(10, 1, 4, 0, 0), step(20, 2, 4, 0, 0)]);
+    let r = route_of(3, 3, [step(10, 1, 4, 0, 0), step(20, 2, 4, 0, 0)]);
     job(r, r, &[10, 20])
 }
 
 pub fn k() -> Sample {
-    let r = route_of(2, [step(10, 1, 2, 0, 0), step(20, 2, 2, 0, 1)]);
+    let r = route_of(2, 1, [step(10, 1, 2, 0, 0), step(20, 2, 2, 0, 1)]);
     job(r, r, &[10, 20, 20])
 }
 
 pub fn l() -> Sample {
-    let r = route_of(2, [step(10, 1, 3, 0, 0)]);
+    let r = route_of(2, 1, [step(10, 1, 3, 0, 0)]);
     job(r, r, &[])
+}
+
+// The last step puts the token back on the first place, and the job has gone round twice.
+pub fn round() -> Sample {
+    let r = route_of(2, 1, [step(10, 1, 2, 0, 1), step(20, 2, 1, 1, 2)]);
+    job(r, r, &[10, 20, 10, 20])
+}
+
+// The same job, and the new route has one step more before it comes back.
+pub fn round_moved() -> Sample {
+    let old = round().old;
+    let steps = [
+        step(10, 1, 2, 0, 1),
+        step(20, 2, 4, 1, 2),
+        step(30, 4, 1, 2, 4),
+    ];
+    job(old, route_of(3, 1, steps), &[10, 20, 10, 20])
 }

@@ -4,7 +4,7 @@
 
 ghost use Rattle.std.specs.Prelude.{◌≤◌};
 
-use route::{Route, Step};
+use route::{Places, Route, Step};
 
 pub mod chains;
 pub mod letters;
@@ -14,11 +14,12 @@ pub fn step(name: u32, ins: u64, outs: u64, reads: u32, writes: u32) -> Step {
     Step::of(name as u64, false, ins, outs, reads as u64, writes as u64)
 }
 
-pub fn route_of<const N: usize>(places: u64, steps: [Step; N]) -> Route
+// A route of these steps: its place count, and the mask of its start places.
+pub fn route_of<const N: usize>(count: u64, start: u64, steps: [Step; N]) -> Route
     requires { N ≤ 64 }
 {
     let mut r = Route::empty();
-    r.places = places;
+    r.places = Places { count, start };
     r.len = N;
     r.steps[..N].copy_from_slice(&steps);
     r

@@ -11,14 +11,18 @@ use Rattle.emit.proofs.Chains.{parts, First, Second, Third, Fourth, Two, Three, 
 use Rattle.emit.specs.Emit.{Emits}
 use Rattle.emit.proofs.Chains.{third-room, fourth-room, two-emits, three-emits, four-emits, emits-as}
 use Rattle.emit.proofs.Over.{from_zero}
+use Rattle.version.specs.Limits.{present}
+use Rattle.route.specs.declared.Places.{Places}
 use Rattle.route.specs.declared.Step.{Step}
 use Rattle.layout.specs.Words.{spelling}
-use Rattle.layout.specs.Text.{entries, listed, marked, step_line, word_line, job_line, step_lines, done_lines, job_text}
+use Rattle.layout.specs.Text.{entries, listed, marked, step_line, word_line, start_line}
+use Rattle.layout.specs.Text.{job_line, step_lines, done_lines, job_text}
 use Rattle.layout.specs.declared.Word.{Word}
 use Rattle.layout.specs.declared.Word.TheVariants as W
 use Rattle.facts.specs.LinesOf.{form_of}
 use Rattle.sheet_lines.specs.inner.Parts.{opening, closing, lists, route_text}
-use Rattle.sheet_lines.proofs.TextsInFront.{number_is, entries-are, listed-front, lists-front, word-front}
+use Rattle.sheet_lines.proofs.TextsInFront.{number_is, entries-are, listed-front, lists-front}
+use Rattle.sheet_lines.proofs.TextsInFront.{word-front, start-front}
 
 -- `(` and a word
 module _ (w : Word) where
@@ -39,16 +43,18 @@ pub closing-whole : Two closing (41 ∷ []) (10 ∷ [])
 unfolding parts
 closing-whole = two-emits closing (41 ∷ []) (10 ∷ []) refl
 
+-- the entries of a mask, as they are written
+abbrev numbers : ℕ → List ℕ
+numbers m = over (λ (v : ℕ). entry (0 + v)) (members 64 m)
+
+numbers-are : (m : ℕ) (s : List ℕ) → entries (members 64 m) s ≡ numbers m ++ s
+numbers-are m s = entries-are (members 64 m) s ∙ ap (λ (t : List ℕ). t ++ s) (sym (from_zero (members 64 m)))
+
 -- a list
 module _ (w : Word) (m : ℕ) where
-  abbrev numbers : List ℕ
-  numbers = over (λ (v : ℕ). entry (0 + v)) (members 64 m)
-
-  list-parts : listed w (members 64 m) [] ≡ parts ((32 ∷ []) ∷ opening w ∷ numbers ∷ (41 ∷ []) ∷ [])
+  list-parts : listed w (members 64 m) [] ≡ parts ((32 ∷ []) ∷ opening w ∷ numbers m ∷ (41 ∷ []) ∷ [])
   unfolding listed members parts
-  list-parts =
-      ap (λ (t : List ℕ). 32 ∷ 40 ∷ (spelling w ++ t))
-      (entries-are (members 64 m) (41 ∷ []) ∙ ap (λ (t : List ℕ). t ++ (41 ∷ [])) (sym (from_zero (members 64 m))))
+  list-parts = ap (λ (t : List ℕ). 32 ∷ 40 ∷ (spelling w ++ t)) (numbers-are m (41 ∷ []))
 
   pub list-first : First (listed w (members 64 m) []) (32 ∷ [])
   list-first = first-room _ _ _ list-parts
@@ -56,13 +62,13 @@ module _ (w : Word) (m : ℕ) where
   pub list-second : Second (listed w (members 64 m) []) (32 ∷ []) (opening w)
   list-second = second-room _ _ _ _ list-parts
 
-  pub list-third : Third (listed w (members 64 m) []) (32 ∷ []) (opening w) numbers
+  pub list-third : Third (listed w (members 64 m) []) (32 ∷ []) (opening w) (numbers m)
   list-third = third-room _ _ _ _ _ list-parts
 
-  pub list-fourth : Fourth (listed w (members 64 m) []) (32 ∷ []) (opening w) numbers (41 ∷ [])
+  pub list-fourth : Fourth (listed w (members 64 m) []) (32 ∷ []) (opening w) (numbers m) (41 ∷ [])
   list-fourth = fourth-room _ _ _ _ _ _ list-parts
 
-  pub list-whole : Four (listed w (members 64 m) []) (32 ∷ []) (opening w) numbers (41 ∷ [])
+  pub list-whole : Four (listed w (members 64 m) []) (32 ∷ []) (opening w) (numbers m) (41 ∷ [])
   list-whole = four-emits _ _ _ _ _ list-parts
 
 -- the end of a step's line, with the mark and without
@@ -175,23 +181,53 @@ module _ (w : Word) (n : ℕ) where
   pub word-whole : Three (word_line w n []) (opening w) (entry n) closing
   word-whole = three-emits _ _ _ _ word-parts
 
+-- a start line
+module _ (m : ℕ) where
+  start-parts : start_line present (members 64 m) [] ≡ parts (opening W.Start ∷ numbers m ∷ closing ∷ [])
+  unfolding start_line parts
+  start-parts = ap (λ (t : List ℕ). 40 ∷ (spelling W.Start ++ t)) (numbers-are m closing)
+
+  pub start_first : First (start_line present (members 64 m) []) (opening W.Start)
+  start_first = first-room _ _ _ start-parts
+
+  pub start-second : Second (start_line present (members 64 m) []) (opening W.Start) (numbers m)
+  start-second = second-room _ _ _ _ start-parts
+
+  pub start-third : Third (start_line present (members 64 m) []) (opening W.Start) (numbers m) closing
+  start-third = third-room _ _ _ _ _ start-parts
+
+  pub start-whole : Three (start_line present (members 64 m) []) (opening W.Start) (numbers m) closing
+  start-whole = three-emits _ _ _ _ start-parts
+
 -- a route
-module _ (w : Word) (n : ℕ) (l : List Step) where
+module _ (w : Word) (places : Places) (l : List Step) where
+  abbrev head : List ℕ
+  head = word_line w places.count []
+
+  abbrev start : List ℕ
+  start = start_line present (members 64 places.start) []
+
   abbrev steps : List ℕ
   steps = step_lines (map form_of l) []
 
-  route-parts : route_text w n l [] ≡ parts (word_line w n [] ∷ steps ∷ [])
+  route-parts : route_text w places l [] ≡ parts (head ∷ start ∷ steps ∷ [])
   unfolding parts
-  route-parts = word-front w n steps ∙ ap (λ (t : List ℕ). word_line w n [] ++ t) (sym (append-nil steps))
+  route-parts =
+      word-front w places.count _
+      ∙ ap (λ (t : List ℕ). head ++ t) (start-front (members 64 places.start) steps
+      ∙ ap (λ (t : List ℕ). start ++ t) (sym (append-nil steps)))
 
-  pub route-first : First (route_text w n l []) (word_line w n [])
+  pub route-first : First (route_text w places l []) head
   route-first = first-room _ _ _ route-parts
 
-  pub route-second : Second (route_text w n l []) (word_line w n []) steps
+  pub route-second : Second (route_text w places l []) head start
   route-second = second-room _ _ _ _ route-parts
 
-  pub route-whole : Two (route_text w n l []) (word_line w n []) steps
-  route-whole = two-emits _ _ _ route-parts
+  pub route-third : Third (route_text w places l []) head start steps
+  route-third = third-room _ _ _ _ _ route-parts
+
+  pub route-whole : Three (route_text w places l []) head start steps
+  route-whole = three-emits _ _ _ _ route-parts
 
 -- the job part
 module _ (done : List ℕ) where

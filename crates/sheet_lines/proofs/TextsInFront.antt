@@ -5,12 +5,16 @@ use mathlib.Core.Bool.{Bool, true, false, cond}
 use mathlib.Core.List.{List, [], ◌∷◌, ◌++◌, append_assoc, append-nil, map}
 use Prim.Native.Nat.{ℕ, zero, suc, ◌+◌, ◌/◌, ◌%◌}
 use lib.Dec.{ltb}
+use Rattle.mask.specs.Mask.{members}
 use Rattle.mask.proofs.Truth.{split}
 use Rattle.emit.specs.Numbers.{decimal, entry, over}
 use Rattle.emit.specs.Numbers as N
+use Rattle.version.specs.Limits.{present}
+use Rattle.route.specs.declared.Places.{Places}
 use Rattle.route.specs.declared.Step.{Step}
 use Rattle.layout.specs.Words.{spelling}
-use Rattle.layout.specs.Text.{Form, digits, number, entries, listed, marked, step_line, word_line, step_lines}
+use Rattle.layout.specs.Text.{Form, digits, number, entries, listed, marked}
+use Rattle.layout.specs.Text.{step_line, word_line, start_line, step_lines}
 use Rattle.layout.specs.declared.Word.{Word}
 use Rattle.layout.specs.declared.Word.TheVariants.{In, Out, Read, Write}
 use Rattle.layout.specs.declared.Word.TheVariants as W
@@ -97,10 +101,19 @@ word-front w n =
     (front-then (λ s. 32 ∷ s) (λ s. number n (41 ∷ 10 ∷ s)) (λ s. refl)
     (front-then (number n) (λ s. 41 ∷ 10 ∷ s) (number-front n) (λ s. refl)))
 
+pub start-front : (l : List ℕ) → Front (start_line present l)
+unfolding start_line
+start-front l =
+    front-then (λ s. 40 ∷ (spelling W.Start ++ s)) (λ s. entries l (41 ∷ 10 ∷ s)) (front-text (40 ∷ spelling W.Start))
+    (front-then (entries l) (λ s. 41 ∷ 10 ∷ s) (entries-front l) (λ s. refl))
+
 steps_front : (l : List Form) → Front (step_lines l)
 unfolding step_lines
 steps_front [] s = refl
 steps_front (f ∷ l) s = front-then (step_line f) (step_lines l) (step-front f) (steps_front l) s
 
-pub route-front : (w : Word) (n : ℕ) (l : List Step) → Front (route_text w n l)
-route-front w n l = front-then (word_line w n) (step_lines (map form_of l)) (word-front w n) (steps_front (map form_of l))
+pub route-front : (w : Word) (places : Places) (l : List Step) → Front (route_text w places l)
+route-front w places l =
+    front-then (word_line w places.count) _ (word-front w places.count)
+    (front-then (start_line present (members 64 places.start)) (step_lines (map form_of l))
+    (start-front (members 64 places.start)) (steps_front (map form_of l)))

@@ -4,6 +4,6 @@ use native.Mathlib.Omega.{arith}
 use mir.Syntax.{w64}
 use mir.Val.{Fits}
 
--- an entry has 2,072 bytes
-pub entry-fits : (i : ℕ) → i < 8 → Fits w64 (i * 2072)
+-- an entry has 2,080 bytes
+pub entry-fits : (i : ℕ) → i < 8 → Fits w64 (i * 2080)
 entry-fits i h = omega arith

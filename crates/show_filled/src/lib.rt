@@ -3,8 +3,14 @@
 
 use arrays::Array;
 use reader::Counts;
-use route::Step;
+use route::{Places, Step};
 use std::io;
+
+// 64 places, and a start on the first.
+pub const PLACES: Places = Places {
+    count: 64,
+    start: 1,
+};
 
 pub fn number(rt: &impl Print, n: u64) -> io::Result<()> {
     rt.write_all(b" ")?;
@@ -23,13 +29,17 @@ fn names(rt: &impl Print, l: [Step; 100]) -> io::Result<()> {
     name(rt, l[99].name)
 }
 
+fn show_route(rt: &impl Print, places: Places, len: usize) -> io::Result<()> {
+    number(rt, places.count)?;
+    number(rt, places.start)?;
+    number(rt, len as u64)
+}
+
 fn show_counts(rt: &impl Print, c: Counts) -> io::Result<()> {
     number(rt, u64::from(c.number))?;
     number(rt, c.second)?;
-    number(rt, c.old_places)?;
-    number(rt, c.old_len as u64)?;
-    number(rt, c.new_places)?;
-    number(rt, c.new_len as u64)?;
+    show_route(rt, c.old_places, c.old_len)?;
+    show_route(rt, c.new_places, c.new_len)?;
     number(rt, c.done_len as u64)
 }
 
@@ -55,7 +65,7 @@ pub fn show_read(rt: &impl Print, steps: Array, old: Array, new: Array) -> io::R
     number(rt, old.len as u64)?;
     number(rt, new.len as u64)?;
     let mut out = [46u8; 6000];
-    let job = arrays::job(64, &steps, 64, &steps, &[100, 101]);
+    let job = arrays::job(PLACES, &steps, PLACES, &steps, &[100, 101]);
     let n = writer::writes::write(&job, &mut out).unwrap_or(0);
     show_sheet(rt, &out[..counts::within(n, &out)], old, new)?;
     rt.write_all(b"\n")

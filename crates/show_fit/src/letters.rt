@@ -1,4 +1,4 @@
-// 01's examples.
+// 01's examples, and a job that has gone round twice.
 use crate::say;
 use samples::letters;
 use std::io;
@@ -15,5 +15,7 @@ pub fn show(rt: &impl Print) -> io::Result<()> {
     say(rt, b"I", letters::i().job())?;
     say(rt, b"J", letters::j().job())?;
     say(rt, b"K", letters::k().job())?;
-    say(rt, b"L", letters::l().job())
+    say(rt, b"L", letters::l().job())?;
+    say(rt, b"twice round", letters::round().job())?;
+    say(rt, b"twice round, moved", letters::round_moved().job())
 }

@@ -20,7 +20,7 @@ pub fn show(rt: &impl Print) -> io::Result<()> {
     say_chains(rt, b"16 kept", line, &chains::turned(16), 16)?;
     say_chains(rt, b"17 kept", more, &chains::turned(17), 17)?;
     say_chains(rt, b"17 kept, straight", more, more, 17)?;
-    let old = &route_of(2, [step(10, 1, 2, 0, 1), step(20, 2, 2, 2, 2)]);
+    let old = &route_of(2, 1, [step(10, 1, 2, 0, 1), step(20, 2, 2, 2, 2)]);
     let (new, done) = (old, &[10, 20, 20, 20]);
     say(rt, b"looped", RouteJob { old, new, done })?;
     say_chains(rt, b"16 kept and no order", line, &chains::stuck(), 16)

@@ -14,7 +14,7 @@ use out_slice::Wrote;
 use refusal::Refusal;
 use route::{Fired, Marking, Step};
 use running::routes::run;
-use show_filled::{number, show_read};
+use show_filled::{PLACES, number, show_read};
 use slicing::Sliced;
 use std::io;
 use trying::trying::try_order;
@@ -72,7 +72,7 @@ fn show_write(rt: &impl Print, job: LentJob) -> io::Result<()> {
 fn show(rt: &impl Print, old: Array, new: Array) -> io::Result<()> {
     rt.print(old.len as u64)?;
     number(rt, new.len as u64)?;
-    let job = arrays::job(64, &old, 64, &new, &[100, 101]);
+    let job = arrays::job(PLACES, &old, PLACES, &new, &[100, 101]);
     fired(rt, run(&job))?;
     show_slice(rt, job)?;
     fired(rt, try_order(&job, &[1, 2]))?;

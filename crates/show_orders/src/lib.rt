@@ -45,7 +45,8 @@ pub fn show(rt: &impl Print) -> io::Result<()> {
     try_list(rt, b"try H", letters::h().job(), &[])
 }
 
-// 01's examples: the order that judge gives, or where it gives none, orders of all that is done.
+// 01's examples, and a job that has gone round twice: the order that judge gives, or where it gives none, orders of all
+// that is done.
 pub fn show_letters(rt: &impl Print) -> io::Result<()> {
     try_list(rt, b"try 2 1 3 of A", letters::a().job(), &[2, 1, 3])?;
     try_list(rt, b"try nothing of B", letters::b().job(), &[])?;
@@ -59,5 +60,17 @@ pub fn show_letters(rt: &impl Print) -> io::Result<()> {
     try_list(rt, b"try 1 of I", letters::i().job(), &[1])?;
     try_list(rt, b"try 1 2 of J", letters::j().job(), &[1, 2])?;
     try_list(rt, b"try 1 2 3 of K", letters::k().job(), &[1, 2, 3])?;
-    try_list(rt, b"try nothing of L", letters::l().job(), &[])
+    try_list(rt, b"try nothing of L", letters::l().job(), &[])?;
+    try_list(
+        rt,
+        b"try 1 2 3 4 of twice round",
+        letters::round().job(),
+        &[1, 2, 3, 4],
+    )?;
+    try_list(
+        rt,
+        b"try 3 4 of twice round, moved",
+        letters::round_moved().job(),
+        &[3, 4],
+    )
 }

@@ -1,6 +1,6 @@
 // A wrong record for each row, and for each place where it can stand.
 use crate::{say_bare, say_done};
-use route::{Route, Step};
+use route::{Places, Route, Step};
 use samples::{letters, route_of, step};
 use std::io;
 
@@ -15,12 +15,12 @@ fn say_new(rt: &impl Print, label: &[u8], r: &Route) -> io::Result<()> {
 }
 
 fn say_step(rt: &impl Print, label: &[u8], s: Step) -> io::Result<()> {
-    say_old(rt, label, &route_of(2, [s]))
+    say_old(rt, label, &route_of(2, 1, [s]))
 }
 
 pub fn show_routes(rt: &impl Print) -> io::Result<()> {
     let none = &Route::empty();
-    let bare = &Route { places: 4, ..*none };
+    let bare = &route_of(4, 1, []);
     say_old(rt, b"4 old has no step", bare)?;
     say_new(rt, b"4 new has no step", bare)?;
     say_old(rt, b"2 no old place", none)?;
@@ -42,24 +42,46 @@ pub fn show_steps(rt: &impl Print) -> io::Result<()> {
     say_old(
         rt,
         b"3 nine in-places",
-        &route_of(10, [step(1, 511, 512, 0, 0)]),
+        &route_of(10, 1, [step(1, 511, 512, 0, 0)]),
     )?;
     let a = step(7, 1, 2, 0, 0);
-    say_old(rt, b"5 name twice", &route_of(3, [a, step(7, 2, 4, 0, 0)]))?;
-    say_old(rt, b"3 before 5", &route_of(3, [a, step(7, 2, 0, 0, 0)]))
+    say_old(
+        rt,
+        b"5 name twice",
+        &route_of(3, 1, [a, step(7, 2, 4, 0, 0)]),
+    )?;
+    say_old(rt, b"3 before 5", &route_of(3, 1, [a, step(7, 2, 0, 0, 0)]))
+}
+
+// Two steps that go round, from these start places.
+fn round(start: u64) -> Route {
+    route_of(2, start, [step(1, 1, 2, 0, 0), step(2, 2, 1, 0, 0)])
+}
+
+// A start on a place that isn't there.
+fn show_beyond(rt: &impl Print) -> io::Result<()> {
+    let beyond = &round(5);
+    say_old(rt, b"2 old start not below N", beyond)?;
+    say_new(rt, b"2 new start not below N", beyond)?;
+    let both = &route_of(2, 4, [step(0, 1, 2, 0, 0)]);
+    say_old(rt, b"2 start before 2 name", both)
 }
 
 // A route with a place that belongs to no step, and one with no start.
 pub fn show_starts(rt: &impl Print) -> io::Result<()> {
     let a = letters::a_old();
-    let loose = &Route { places: 5, ..a };
-    let round = &route_of(2, [step(1, 1, 2, 0, 0), step(2, 2, 1, 0, 0)]);
+    let places = Places { count: 5, start: 1 };
+    let loose = &Route { places, ..a };
+    let bare = &round(0);
+    show_beyond(rt)?;
+    say_old(rt, b"0 goes round", &round(1))?;
+    say_old(rt, b"0 starts on both", &round(3))?;
     say_old(rt, b"6 old", loose)?;
     say_new(rt, b"6 new", loose)?;
-    say_old(rt, b"7 old", round)?;
-    say_new(rt, b"7 new", round)?;
-    say_old(rt, b"6 before 7", &route_of(3, [step(1, 1, 1, 0, 0)]))?;
-    say_bare(rt, b"old 7 before new 6", round, loose)?;
+    say_old(rt, b"7 old", bare)?;
+    say_new(rt, b"7 new", bare)?;
+    say_old(rt, b"6 before 7", &route_of(3, 0, [step(1, 1, 1, 0, 0)]))?;
+    say_bare(rt, b"old 7 before new 6", bare, loose)?;
     say_done(rt, b"9 second line", &[10, 10])?;
     say_done(rt, b"8 after 9 is not reached", &[20, 40])
 }

@@ -1,4 +1,4 @@
-// The route parts of 01's examples.
+// The route parts of 01's examples, and a job that has gone round twice.
 use samples::letters;
 use show_ran::say;
 use std::io;
@@ -10,5 +10,6 @@ pub fn show(rt: &impl Print) -> io::Result<()> {
     say(rt, b"I", letters::i().job())?;
     say(rt, b"J", letters::j().job())?;
     say(rt, b"K", letters::k().job())?;
-    say(rt, b"L", letters::l().job())
+    say(rt, b"L", letters::l().job())?;
+    say(rt, b"twice round", letters::round().job())
 }

@@ -14,7 +14,7 @@ fn say_same(rt: &impl Print, label: &[u8], r: &Route, done: &[u32]) -> io::Resul
 fn show_places(rt: &impl Print) -> io::Result<()> {
     let mut r = chains::chain();
     say_same(rt, b"64 places", &r, &[100, 101])?;
-    r.places = 65;
+    r.places.count = 65;
     say_same(rt, b"65 places", &r, &[100, 101])
 }
 

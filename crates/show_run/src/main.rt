@@ -1,5 +1,5 @@
-// Prints run's answers on records: the route parts of 01's examples, the limits, and a wrong record for each row; then
-// fire's. Each line is a label, the number, the second number and the marking.
+// Prints run's answers on records: the route parts of 01's examples and of a job that has gone round, the limits, and a
+// wrong record for each row; then fire's. Each line is a label, the number, the second number and the marking.
 #![tactic(auto)]
 
 use show_ran::faults;

@@ -1,11 +1,12 @@
-// Reads sheets from standard input, each ended by `%`, and writes for each: the refusal's two numbers, the two place
-// counts, the two step counts, how many done names, and the length of the job part. Before that the first sheet is read
-// cut off at every length.
+// Reads sheets from standard input, each ended by `%`, and writes for each: the refusal's two numbers, for each route
+// its place count and the mask of its start places, the two step counts, how many done names, and the length of the job
+// part. Before that the first sheet is read cut off at every length.
 #![tactic(auto)]
 
 ghost use Rattle.std.specs.Prelude.{◌<◌, length, IfSome};
 
 use facts::Sheet;
+use route::Places;
 use std::io;
 
 fn number(rt: &impl Print, n: u64) -> io::Result<()> {
@@ -13,12 +14,17 @@ fn number(rt: &impl Print, n: u64) -> io::Result<()> {
     rt.write_all(b" ")
 }
 
+fn places(rt: &impl Print, p: Places) -> io::Result<()> {
+    number(rt, p.count)?;
+    number(rt, p.start)
+}
+
 fn show(rt: &impl Print, s: &[u8]) -> io::Result<()> {
     let x = Sheet::from(reader::reads::read(s));
     number(rt, x.number as u64)?;
     number(rt, x.second)?;
-    number(rt, x.old.places)?;
-    number(rt, x.new.places)?;
+    places(rt, x.old.places)?;
+    places(rt, x.new.places)?;
     number(rt, x.old.len as u64)?;
     number(rt, x.new.len as u64)?;
     number(rt, x.done_len as u64)?;

@@ -1,6 +1,7 @@
-// The loft's route as it was redrawn in one season. Each step leads from the place of the step before it to the next.
+// The loft's route as it was redrawn in one season. It starts on place 0, and each step leads from the place of the
+// step before it to the next.
 use mask::Mask;
-use route::Route;
+use route::{Places, Route};
 
 // One step more, from the route's last place to the next. Variables are bits: 0 the cloth, 1 how far it shrinks, 2 the
 // plotter offset, 3 the panels, 4 the plies of the corners, 5 the seams, 6 the corners, 7 the weight.
@@ -12,7 +13,10 @@ fn then(r: Route, name: u32, cloth: bool, reads: u32, writes: u32) -> Route {
         s.cloth = cloth;
         longer.steps[n] = s;
         longer.len = n + 1;
-        longer.places = n as u64 + 2;
+        longer.places = Places {
+            count: n as u64 + 2,
+            start: 1,
+        };
     }
     longer
 }

@@ -41,11 +41,11 @@ fn say_same(rt: &impl Print, label: &[u8], r: &Route, done: &[u32]) -> io::Resul
 // A step that reads what its last run wrote, done three times: the middle run feeds the last.
 fn show_loops(rt: &impl Print) -> io::Result<()> {
     let done = &[10, 20, 20, 20];
-    let fed = &route_of(2, [step(10, 1, 2, 0, 1), step(20, 2, 2, 2, 2)]);
+    let fed = &route_of(2, 1, [step(10, 1, 2, 0, 1), step(20, 2, 2, 2, 2)]);
     say_same(rt, b"looped, each run feeds the next", fed, done)?;
-    let fresh = &route_of(2, [step(10, 1, 2, 0, 1), step(20, 2, 2, 1, 2)]);
+    let fresh = &route_of(2, 1, [step(10, 1, 2, 0, 1), step(20, 2, 2, 1, 2)]);
     say_same(rt, b"looped, only the last run counts", fresh, done)?;
-    let silent = &route_of(2, [step(10, 1, 2, 0, 1), step(20, 2, 2, 1, 0)]);
+    let silent = &route_of(2, 1, [step(10, 1, 2, 0, 1), step(20, 2, 2, 1, 0)]);
     say_same(rt, b"a step that writes nothing", silent, &[10, 20, 20])
 }
 
@@ -56,5 +56,6 @@ fn main(rt: HostRuntime) -> io::Result<()> {
     say(&rt, b"F", letters::f().job())?;
     say(&rt, b"K", letters::k().job())?;
     show_loops(&rt)?;
+    say(&rt, b"twice round", letters::round().job())?;
     say(&rt, b"refused", letters::h().job())
 }

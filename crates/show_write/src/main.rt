@@ -51,7 +51,9 @@ fn no_step(r: &Route) -> Route {
 }
 
 fn many_places(r: &Route) -> Route {
-    Route { places: 65, ..*r }
+    let mut q = *r;
+    q.places.count = 65;
+    q
 }
 
 fn no_in_place(r: &Route) -> Route {

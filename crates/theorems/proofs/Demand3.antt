@@ -6,7 +6,7 @@ use mathlib.Core.List.{List, [], ◌∷◌, map}
 use mathlib.Core.Option.{some-injective}
 use Prim.Native.Nat.{ℕ}
 use Rattle.route.specs.Steps.{names}
-use Rattle.route.specs.Firing.{start}
+use Rattle.route.specs.declared.Places.{Places}
 use Rattle.route.specs.declared.Step.{Step}
 use Rattle.job.specs.Job.{Job, new_start}
 use Rattle.precedence.specs.Order.{times}
@@ -40,7 +40,7 @@ same-places j j' o o' places new ok ok' a a' c =
     same-marking j.new (new_start j) (tried j o).marking.tokens (tried j' o').marking.tokens
     (steps_on (steps_done j) (positions o)) (steps_on (steps_done j') (positions o'))
     (try-marking j ok o a.0)
-    (ap₂ (λ (n : ℕ) (s : List Step). fire_all s (start n s) (steps_on (steps_done j') (positions o'))) places new
+    (ap₂ (λ (p : Places) (s : List Step). fire_all s p.start (steps_on (steps_done j') (positions o'))) places new
     ∙ try-marking j' ok' o' a'.0)
     (λ n. ap (times n) (names-on j ok (positions o)) ∙ c n ∙ sym (ap (times n) (names-on j' ok' (positions o'))))
 

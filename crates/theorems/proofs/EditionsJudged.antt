@@ -18,7 +18,7 @@ use Rattle.job.specs.Lines.{LinesPass}
 use Rattle.job.proofs.Rows.{LinesFit, pass_fits}
 use Rattle.judging.specs.Judge.{judged, work_after}
 use Rattle.answering.specs.Answer.{judge_stopped}
-use Rattle.facts.specs.Facts.{job_read}
+use Rattle.facts.specs.Facts.{read_of, job_read}
 use Rattle.facts.specs.SheetRows.{filled, sheet_of}
 use Rattle.facts.specs.LinesOf.{AllWide, as_records}
 use Rattle.facts.specs.declared.Sheet.{Sheet}
@@ -61,17 +61,21 @@ own-records j old new =
       done = j.done;
     }
 
+-- bytes that read as a job's records are answered as the job
+pub read-judged : (j : Job) → LinesPass j → (s : List ℕ) → read_of s ≡ sheet_of j → sheet_answer s ≡ judged j 8192
+unfolding sheet_answer
+read-judged j passes s reads =
+    ap (λ (x : Sheet). cond (eqb x.number 0) (judged (job_read x) 8192) (judge_stopped x.number x.second)) reads
+    ∙ ap (λ (k : Job). judged k 8192) (sheet-job j (pass_fits j passes))
+
 module _ (j : Job) (out : List ℕ) (success : (wrote j (length out)).number ≡ 0) where
   lines-pass : LinesPass j
   unfolding wrote
   lines-pass = (cond-zero-elim (λ (x : Wrote). x.number) _ _ _ refl success).0
 
   written-judged : AllWide j.old → AllWide j.new → sheet_answer (bytes_written j out) ≡ judged j 8192
-  unfolding sheet_answer
   written-judged old new =
-      ap (λ (x : Sheet). cond (eqb x.number 0) (judged (job_read x) 8192) (judge_stopped x.number x.second))
-      (write-reads j out success ∙ ap sheet_of (own-records j old new))
-      ∙ ap (λ (k : Job). judged k 8192) (sheet-job j (pass_fits j lines-pass))
+      read-judged j lines-pass (bytes_written j out) (write-reads j out success ∙ ap sheet_of (own-records j old new))
 
 -- ---- judge between two editions
 

@@ -14,13 +14,14 @@ use Rattle.refusal.proofs.Rows.{row-passes, row-passed, rows_pass, rows-refuse, 
 use Rattle.refusal.proofs.Rows.{rows_end, first-clean}
 use Rattle.version.specs.Limits.{present}
 use Rattle.route.specs.Steps.{steps_of}
+use Rattle.route.specs.declared.Places.{Places}
 use Rattle.route.specs.declared.Step.{Step}
 use Rattle.route.specs.declared.Route.{Route}
 use Rattle.opening.specs.Net.{net_row}
 use Rattle.job.specs.Job.{job_of, after_steps, new_line, job_line}
 use Rattle.name_set.specs.Among.{among}
-use Rattle.job.specs.Lines.{places_fit, step_fits, lists_fit, step_row, step_rows, route_rows, done_rows, line_rows}
-use Rattle.job.specs.Lines.{checked}
+use Rattle.job.specs.Lines.{places_fit, start_fits, step_fits, lists_fit, step_row, step_rows, head_rows, route_rows}
+use Rattle.job.specs.Lines.{done_rows, line_rows, checked}
 use Rattle.job.specs.Alone.{alone_rows}
 use Rattle.mask.proofs.Truth.{either}
 use Rattle.shelf.specs.Shelf.{editions_of, route_of}
@@ -56,26 +57,35 @@ steps-anywhere line at places earlier (s ∷ l) e =
     (head-passes (step_row at places earlier s) _ (step-anywhere line at places earlier s own))
     ∙ steps-anywhere (line + 1) (at + 1) places (earlier ++ (s.name ∷ [])) l rest
 
-route-anywhere : (line at places : ℕ) (l : List Step)
+head-anywhere : (line at : ℕ) (places : Places) → Passes (head_rows line places) → Passes (head_rows at places)
+unfolding head_rows
+head-anywhere line at places e =
+    let (count, rest) = row-passed (places_fit places.count) 2 line _ refl e in
+    let (start, _) = row-passed (start_fits places) 2 (line + 1) [] refl rest in
+    ap (λ (o : Outcome). eqb o.number 0)
+    (row-passes _ 2 at _ count ∙ row-passes _ 2 (at + 1) [] start ∙ rows_end)
+
+route-anywhere : (line at : ℕ) (places : Places) (l : List Step)
     → Passes (route_rows line places l) → Passes (route_rows at places l)
 unfolding route_rows
 route-anywhere line at places l e =
-    let (fits, rest) = row-passed (places_fit places) 2 line _ refl e in
-    let (steps, last) = rows-passed (step_rows (line + 1) places [] l) _ rest in
+    let (head, rest) = rows-passed (head_rows line places) _ e in
+    let (steps, last) = rows-passed (step_rows (line + 2) places.count [] l) _ rest in
     let (some-step, _) = row-passed (not (eqb (length l) 0)) 4 (after_steps line l) [] refl last in
     ap (λ (o : Outcome). eqb o.number 0)
-    (row-passes (places_fit places) 2 at _ fits
-    ∙ rows_pass (step_rows (at + 1) places [] l) _ (steps-anywhere (line + 1) (at + 1) places [] l steps)
+    (rows_pass (head_rows at places) _ (head-anywhere line at places head)
+    ∙ rows_pass (step_rows (at + 2) places.count [] l) _
+    (steps-anywhere (line + 2) (at + 2) places.count [] l steps)
     ∙ row-passes _ 4 (after_steps at l) [] some-step
     ∙ rows_end)
 
-net-anywhere : (line at places : ℕ) (l : List Step)
+net-anywhere : (line at : ℕ) (places : Places) (l : List Step)
     → eqb (net_row line places l).number 0 ≡ true → eqb (net_row at places l).number 0 ≡ true
 unfolding net_row
 net-anywhere line at places l e =
     let (all, rest) = row-passed _ 6 line _ refl e in
-    let (begins, _) = row-passed _ 7 line [] refl rest in
-    ap (λ (o : Outcome). eqb o.number 0) (row-passes _ 6 at _ all ∙ row-passes _ 7 at [] begins ∙ rows_end)
+    let (begins, _) = row-passed _ 7 (line + 1) [] refl rest in
+    ap (λ (o : Outcome). eqb o.number 0) (row-passes _ 6 at _ all ∙ row-passes _ 7 (at + 1) [] begins ∙ rows_end)
 
 -- what the rows of a route by itself say of it in a sheet
 meets-anywhere : (r : Route) → Meets r → (at : ℕ)

@@ -32,5 +32,7 @@ pub mod RoundTrip
 pub mod LookUps
 pub mod Editions
 pub mod EditionsJudged
+pub mod LongestListing
+pub mod StartLines
 pub mod EditionsStored
 pub mod Main

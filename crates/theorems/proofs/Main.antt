@@ -1,19 +1,22 @@
--- The whole promise on one page, in 01's order: the sheet, its bytes both ways, the longer names of 02, its look-up,
--- slice and precedence with 02's cloth, fit orders, what judge gives and its listing shows, the shelf of 02, and demand
--- 3. Each is proved in the file that its name is cited from. Code meets it through the contracts, which are equalities
--- with the definitions that these theorems speak of.
-use mathlib.Core.Path.{◌≡◌}
+-- The whole promise on one page, in 01's order: the sheet, its bytes both ways, the start lines and the longer names of
+-- 02, its look-up, slice and precedence with 02's cloth, fit orders, what judge gives and its listing shows, the shelf
+-- of 02, and demand 3. Each is proved in the file that its name is cited from. Code meets it through the contracts,
+-- which are equalities with the definitions that these theorems speak of.
+use mathlib.Core.Path.{◌≡◌, refl}
 use mathlib.Core.Logic.{◌↔◌, ◌⊎◌}
-use mathlib.Core.Bool.{true, false}
+use mathlib.Core.Bool.{true, false, not, ◌&&◌}
 use mathlib.Core.List.{List, [], ◌∷◌, ◌++◌, map}
 use mathlib.Core.Option.{none, some}
 use Prim.Native.Nat.{ℕ, suc, ◌+◌, ◌*◌, ◌^◌, ◌≤◌, ◌<◌}
+use lib.Dec.{ltb}
 use lib.ListN.{length, get_or, drop}
 use borrow.Author.Tests.{eq-eqb}
 use Rattle.std.specs.Prelude.{Some, None}
 use Rattle.mask.specs.Mask.{has}
 use Rattle.refusal.specs.Rows.{first}
-use Rattle.route.specs.Steps.{blank, steps_of, names, lookup}
+use Rattle.route.specs.Steps.{blank, steps_of, union, names, lookup}
+use Rattle.route.specs.Firing.{implied_start}
+use Rattle.route.proofs.Implied.{implied-iff}
 use Rattle.route.specs.declared.Route.{Route}
 use Rattle.route.specs.declared.Step.{Step}
 use Rattle.job.specs.Job.{Job, job_of, job_line, new_start}
@@ -44,20 +47,23 @@ use Rattle.shelf.specs.declared.Edition.{Edition}
 use Rattle.shelf.specs.declared.Shelf.{Shelf}
 use Rattle.version.specs.Limits.{scope, present, name_fits, Limits, Wider}
 use Rattle.version.specs.declared.Version.{Version}
-use Rattle.version.proofs.Limits.{scope-limits, present-limits, scope-present, fits_iff, word_fits}
-use Rattle.layout.specs.Text.{job_text}
+use Rattle.version.proofs.Limits.{scope-limits, present-limits, widest, fits_iff, word_fits}
+use Rattle.layout.specs.Text.{job_text, text}
 use Rattle.layout.specs.Begins.{IsSheet, FirstBroken}
+use Rattle.layout.proofs.Apart.{apart}
 use Rattle.facts.specs.Facts.{facts_of, read_by, read_of, job_read}
 use Rattle.facts.specs.JobPart.{job_part}
 use Rattle.facts.specs.Names.{NamesTo}
 use Rattle.facts.specs.Marks.{MarksTo}
+use Rattle.facts.specs.Starts.{StartsTo, RisingBelow, started_lines, started_both}
 use Rattle.facts.specs.SheetRows.{sheet_rows, sheet_of}
-use Rattle.facts.specs.LinesOf.{lines_of, AllWide, as_record, as_records}
+use Rattle.facts.specs.LinesOf.{lines_of, AllWide, WideJob, as_record, as_records}
 use Rattle.facts.proofs.RowOne.{row-1-iff, row-1-offset, read-sheet, sheet-facts, sheet-lines}
 use Rattle.facts.proofs.Wider.{wider-reads, narrower-reads}
+use Rattle.facts.proofs.StartsPutIn.{starts-put-in}
 use Rattle.facts.proofs.PartText.{job-part-text}
 use Rattle.facts.proofs.Widths.{records-own}
-use Rattle.writer.specs.Written.{written, longest}
+use Rattle.writer.specs.Written.{written_by, longest}
 use Rattle.writer.specs.Writes.{wrote}
 use Rattle.writer.proofs.Inverses as W
 use Rattle.writer.proofs.RoundTrips.{write-reads}
@@ -69,7 +75,8 @@ use Rattle.ops.specs.SheetTry.{tried_sheet}
 use Rattle.examples.specs.Table.{AllPrint, table}
 use Rattle.examples.specs.LongNames.{long_names}
 use Rattle.examples.specs.Cuts.{cuts}
-use Rattle.examples.proofs.Examples.{examples, long-names, cuts-print}
+use Rattle.examples.specs.Starts.{starts}
+use Rattle.examples.proofs.Examples.{examples, long-names, cuts-print, starts-print}
 use Rattle.theorems.specs.Values.{Work, all_blank, perform_all, cut_all}
 use Rattle.theorems.specs.Demand3.{Runs, steps_done, positions, Accepted, FitFor, ordered, moved, whole_job}
 use Rattle.theorems.specs.Demand3.{Demand3}
@@ -87,6 +94,8 @@ use Rattle.theorems.proofs.Shown.{judge-shows}
 use Rattle.theorems.proofs.Printed.{print-answer, print-leaves, print-moves, print-refuses, print-shows}
 use Rattle.theorems.proofs.Printed.{try-sheet}
 use Rattle.ops.proofs.ListingLength.{listing-length}
+use Rattle.theorems.proofs.LongestListing.{one-listing}
+use Rattle.theorems.proofs.StartLines.{starts-fit}
 use Rattle.theorems.proofs.RoundTrip.{read-then-write, write-then-read-lent, read-lent, read-then-write-lent}
 use Rattle.theorems.proofs.LookUps.{names-unique, run-follows, match-follows}
 use Rattle.theorems.proofs.Editions.{empty-good, put-good, put-eight, put-blank, put-stores, put-adds}
@@ -131,12 +140,12 @@ reading-keeps-the-lines = sheet-lines
 pub job-part-is-its-text : (s : List ℕ) → (read_of s).number ≡ 0 → job_part s ≡ job_text (job_on s).done
 job-part-is-its-text = job-part-text
 
--- ---- "No sheet that reads is longer than 18,136 bytes", and in 02 "a sheet has at most 20,120 bytes"
+-- ---- "No sheet that reads is longer than 18,136 bytes", and in 02 "a sheet has at most 20,500 bytes"
 
-pub no-sheet-is-longer : (s : List ℕ) → (read_of s).number ≡ 0 → length s ≤ 20120
+pub no-sheet-is-longer : (s : List ℕ) → (read_of s).number ≡ 0 → length s ≤ 20500
 no-sheet-is-longer = bounded present-limits
 
-pub one-is-as-long : (s : List ℕ) × (length s ≡ 20120) × ((read_of s).number ≡ 0)
+pub one-is-as-long : (s : List ℕ) × (length s ≡ 20500) × ((read_of s).number ≡ 0)
 one-is-as-long = present-attained
 
 pub no-sheet-of-01-is-longer : (s : List ℕ) → (read_by scope s).number ≡ 0 → length s ≤ 18136
@@ -145,7 +154,8 @@ no-sheet-of-01-is-longer = bounded scope-limits
 pub one-of-01-is-as-long : (s : List ℕ) × (length s ≡ 18136) × ((read_by scope s).number ≡ 0)
 one-of-01-is-as-long = scope-attained
 
--- (in every version 192 times its digits, and 17,176, and 1,024 where it has the mark)
+-- (in every version 192 times its digits, and 17,176, and 1,024 where it has the mark, and 380 where it has start
+-- lines)
 pub no-sheet-of-a-version-is-longer : {v : Version} → Limits v → (s : List ℕ) → (read_by v s).number ≡ 0
     → length s ≤ longest v
 no-sheet-of-a-version-is-longer = bounded
@@ -182,14 +192,50 @@ pub lists-are-written : (s : List ℕ) (old new : List Step) (done : List ℕ) �
 lists-are-written = read-then-write-lent
 
 -- and in every version: what it reads is written byte for byte, and what is written of records whose lines pass its
--- rows, with no mark where it has none, it reads as these records
+-- rows, with no mark and no start where it has none, it reads as these records
 pub each-version-is-written : {v : Version} → Limits v → (s : List ℕ) → (read_by v s).number ≡ 0
-    → written (job_read (read_by v s)) ≡ s
+    → written_by v (job_read (read_by v s)) ≡ s
 each-version-is-written = W.read-then-write
 
-pub each-version-is-read : {v : Version} → Limits v → (j : Job) → AllWide j.old → AllWide j.new
-    → MarksTo v.cloth (lines_of j) → (first (sheet_rows v (lines_of j))).number ≡ 0 → read_by v (written j) ≡ sheet_of j
-each-version-is-read limits j old new marks pass = W.lines-then-read limits j old new marks (eq-eqb _ 0 pass)
+pub each-version-is-read : {v : Version} → Limits v → (j : Job) → WideJob j → MarksTo v.cloth (lines_of j)
+    → StartsTo v.starts (lines_of j) → (first (sheet_rows v (lines_of j))).number ≡ 0
+    → read_by v (written_by v j) ≡ sheet_of j
+each-version-is-read limits j wide marks starts pass = W.lines-then-read limits j wide marks starts (eq-eqb _ 0 pass)
+
+-- ---- 02, "Start places written down": "A line `(start ..)` with 1 to 64 rising places follows each head"
+
+-- it must be there: no bytes are a sheet of a version with start lines and of one without, so a sheet of 01's layout is
+-- refused by 1
+pub no-sheet-is-of-both-kinds : (v w : Version) → v.starts ≡ true → w.starts ≡ false → (s : List ℕ) → IsSheet v s
+    → IsSheet w s → ⊥
+no-sheet-is-of-both-kinds = apart
+
+pub a-sheet-of-01-is-refused-by-1 : (s : List ℕ) → IsSheet scope s → (read_of s).number ≡ 1
+a-sheet-of-01-is-refused-by-1 s x = (row-1-iff present-limits s).1 (λ y. apart present scope refl refl s y x)
+
+-- and its places rise below the place count, in every sheet that reads
+pub the-start-places-rise : {v : Version} → Limits v → v.starts ≡ true → (s : List ℕ) (x : IsSheet v s)
+    → (read_by v s).number ≡ 0
+    → RisingBelow x.lines.old_places x.lines.old_start × RisingBelow x.lines.new_places x.lines.new_start
+the-start-places-rise = starts-fit
+
+-- with any start lines that do so put in, a sheet that any version reads is read as the same facts with these starts
+pub a-sheet-reads-with-start-lines-put-in : {v : Version} → Limits v → (s : List ℕ) (x : IsSheet v s)
+    → (read_by v s).number ≡ 0 → (a b : List ℕ) → RisingBelow x.lines.old_places a → RisingBelow x.lines.new_places b
+    → read_of (text present (started_lines a b x.lines)) ≡ started_both a b (read_by v s)
+a-sheet-reads-with-start-lines-put-in = starts-put-in
+
+-- 01's start "is only implied": a written one is the implied one exactly when each place has a token where it is below
+-- the place count and an out-place of no step
+pub a-start-is-the-implied-one-exactly : (count : ℕ) (l : List Step) (m : ℕ)
+    → (m ≡ implied_start count l)
+    ↔ ((p : ℕ) → has m p ≡ (ltb p count && not (has (union (λ (s : Step). s.outs) l) p)))
+a-start-is-the-implied-one-exactly = implied-iff
+
+-- routes that loop back to their first place, jobs that have gone round, starts that are missing, fall, lie beyond the
+-- places or are empty: such sheets from bytes to bytes
+pub every-start : AllPrint starts
+every-start = starts-print
 
 -- ---- 02, "Longer step names": "A name may be 1 to 4,294,967,295 and every number up to ten digits long."
 
@@ -203,9 +249,10 @@ a-name-of-01-is-in-its-range = fits_iff scope
 pub only-0-is-outside : (n : ℕ) → n < 2 ^ 32 → (name_fits present n ≡ true) ↔ (n ≡ 0 → ⊥)
 only-0-is-outside = word_fits
 
--- what a version reads, a wider one reads as the same facts: every sheet that 01's version reads is read as before
-pub the-present-version-is-wider : Wider scope present
-the-present-version-is-wider = scope-present
+-- what a version reads, a wider one reads as the same facts, and the present one is wider than any other with start
+-- lines
+pub the-present-version-is-wider : (v : Version) → Limits v → v.starts ≡ true → Wider v present
+the-present-version-is-wider = widest
 
 pub a-wider-version-reads-the-same : {v w : Version} → Wider v w → Limits v → Limits w → (s : List ℕ)
     → (read_by v s).number ≡ 0 → read_by w s ≡ read_by v s
@@ -398,6 +445,9 @@ print-leaves-the-listing = print-leaves
 -- (7,053 bytes are room for any)
 pub no-listing-is-longer : (s : List ℕ) → length (listing_of s) ≤ 7053
 no-listing-is-longer = listing-length
+
+pub one-listing-is-as-long : (s : List ℕ) × (length (listing_of s) ≡ 7053)
+one-listing-is-as-long = one-listing
 
 -- demand 2 from bytes to bytes: it begins `(moved` exactly when the sheet reads, its old route runs its job and a fit
 -- order exists, and else `(refused`

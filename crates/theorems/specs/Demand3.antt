@@ -42,7 +42,7 @@ FitFor j o = Fit (new_start j) j.new (steps_done j) o
 abbrev pub ordered : Job → ℕ → List ℕ
 ordered j room = take (judged j room).len (judged j room).order
 
--- "replaying any accepted order on the new route from its start"
+-- "replaying any accepted order on the new route from its start"; 02: "Replay begins from the written places."
 abbrev pub moved : {T : Type 0} → Work T → Job → List ℕ → End T
 moved f j o = replay f (new_start j) j.new (name_at j) (positions o)
 
@@ -92,7 +92,8 @@ pub record Demand3 : Type 1 where
   -- "Whichever function each done step computes from what it reads, even another one each time it is done"
   pub values : (j : Job) (o : List ℕ) → Runs j → Accepted j o → (T : Type 0) (f : Work T) → Carried f j o
   -- "Whichever two accepted orders hold the same done steps, each as often, they end on the same places." "Done steps
-  -- are counted by name, and the two orders may be of two jobs with the same new route."
+  -- are counted by name, and the two orders may be of two jobs with the same new route": the same place count, start and
+  -- steps
   pub places : (j j' : Job) (o o' : List ℕ) → j.new_places ≡ j'.new_places → j.new ≡ j'.new → Runs j → Runs j'
       → Accepted j o → Accepted j' o'
       → ((n : ℕ) → times n (map (name_at j) (positions o)) ≡ times n (map (name_at j') (positions o')))

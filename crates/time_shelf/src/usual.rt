@@ -19,7 +19,7 @@ pub fn old() -> Route {
         step(200, 6144, 8192, 768, 1024),
         step(220, 8192, 16384, 1024, 4096),
     ];
-    route_of(15, steps)
+    route_of(15, 1, steps)
 }
 
 pub fn new() -> Route {
@@ -37,7 +37,7 @@ pub fn new() -> Route {
         step(210, 1024, 2048, 1024, 2048),
         step(220, 2048, 4096, 3072, 4096),
     ];
-    route_of(13, steps)
+    route_of(13, 1, steps)
 }
 
 // The done names. The last two may be done in either order, and the round says in which.

@@ -11,21 +11,21 @@ use borrow.Author.Tests.{eq-eqb, ne_eqb, lt-ltb, le-ltb}
 use Rattle.mask.specs.Mask.{bit}
 use Rattle.version.specs.declared.Version.{Version}
 use Rattle.layout.specs.Text.{Lines}
-use Rattle.layout.specs.Points.{digit, alive, next, expect, in_list, past_word, more, ended}
+use Rattle.layout.specs.Points.{digit, alive, next, expect, list_end, in_list, past_word, more, ended}
 use Rattle.layout.specs.Parse.{Line, Parsed, with_num, grown, stored, took, keep, at_end, run}
 use Rattle.layout.specs.inner.Entries.{with_entries}
 use Rattle.layout.specs.declared.Word.{Word}
-use Rattle.layout.specs.declared.Word.TheVariants.{Old, New, Job, Done, Step, In, Out, Read, Write, Cloth}
+use Rattle.layout.specs.declared.Word.TheVariants.{Old, New, Job, Done, Step, In, Out, Read, Write, Cloth, Start}
 use Rattle.layout.specs.declared.Part.{Part}
 use Rattle.layout.specs.declared.Point.{Point}
-use Rattle.layout.specs.declared.Point.TheVariants.{Digit, Digits, Past, Closed, Stuck}
+use Rattle.layout.specs.declared.Point.TheVariants.{Digit, Digits, Past, Stuck}
 use Rattle.tokens.specs.inner.Tokens.{Reading, NumberTo, NumberBreaks, list_word, no_entries, added, along, ListTo}
 use Rattle.tokens.specs.inner.Tokens.{ListBreaks}
 use Rattle.tokens.specs.declared.Numeral.{Numeral}
 use Rattle.tokens.specs.declared.Entries.{Entries}
 use Rattle.tokens.proofs.Bytes.{byte-on, byte-stuck, bytes-over}
 
--- ---- the four words that head a list
+-- ---- the five words that head a list
 
 past-list : (w : Word) → list_word w ≡ true → (q : Part) (b : ℕ) → past_word w q b ≡ in_list w q b
 unfolding list_word past_word
@@ -39,6 +39,7 @@ past-list Out h q b = refl
 past-list Read h q b = refl
 past-list Write h q b = refl
 past-list Cloth h q b = cc
+past-list Start h q b = refl
 
 ended-list : (w : Word) → list_word w ≡ true → (q : Part) (b : ℕ) → ended w q b ≡ in_list w q b
 unfolding list_word ended
@@ -52,24 +53,39 @@ ended-list Out h q b = refl
 ended-list Read h q b = refl
 ended-list Write h q b = refl
 ended-list Cloth h q b = cc
+ended-list Start h q b = refl
+
+end-alive : (w : Word) (q : Part) → alive (list_end w q) ≡ true
+unfolding list_end alive
+end-alive Old q = refl
+end-alive New q = refl
+end-alive Job q = refl
+end-alive Done q = refl
+end-alive Step q = refl
+end-alive In q = refl
+end-alive Out q = refl
+end-alive Read q = refl
+end-alive Write q = refl
+end-alive Cloth q = refl
+end-alive Start q = refl
 
 -- ---- the byte past an entry
 
 in-space : (w : Word) (q : Part) (b : ℕ) → b ≡ 32 → in_list w q b ≡ Digit w q
 unfolding in_list
-in-space w q b e = ap (λ (x : Bool). cond x (Digit w q) (expect b 41 (Closed w q))) (eq-eqb b 32 e)
+in-space w q b e = ap (λ (x : Bool). cond x (Digit w q) (expect b 41 (list_end w q))) (eq-eqb b 32 e)
 
-in-bracket : (w : Word) (q : Part) (b : ℕ) → b ≡ 41 → in_list w q b ≡ Closed w q
+in-bracket : (w : Word) (q : Part) (b : ℕ) → b ≡ 41 → in_list w q b ≡ list_end w q
 unfolding in_list expect
 in-bracket w q b e =
-    ap (λ (x : Bool). cond x (Digit w q) (expect b 41 (Closed w q))) (ne_eqb b 32 (λ f. omega (arith, e, f)))
-    ∙ ap (λ (x : Bool). cond x (Closed w q) Stuck) (eq-eqb b 41 e)
+    ap (λ (x : Bool). cond x (Digit w q) (expect b 41 (list_end w q))) (ne_eqb b 32 (λ f. omega (arith, e, f)))
+    ∙ ap (λ (x : Bool). cond x (list_end w q) Stuck) (eq-eqb b 41 e)
 
 in-other : (w : Word) (q : Part) (b : ℕ) → (b ≡ 32 → ⊥) → (b ≡ 41 → ⊥) → in_list w q b ≡ Stuck
 unfolding in_list expect
 in-other w q b e f =
-    ap (λ (x : Bool). cond x (Digit w q) (expect b 41 (Closed w q))) (ne_eqb b 32 e)
-    ∙ ap (λ (x : Bool). cond x (Closed w q) Stuck) (ne_eqb b 41 f)
+    ap (λ (x : Bool). cond x (Digit w q) (expect b 41 (list_end w q))) (ne_eqb b 32 e)
+    ∙ ap (λ (x : Bool). cond x (list_end w q) Stuck) (ne_eqb b 41 f)
 
 digit-in : (w : Word) (q : Part) (b : ℕ) → digit b ≡ true → in_list w q b ≡ Stuck
 unfolding digit
@@ -151,15 +167,15 @@ module _ (v : Version) (s : List ℕ) (from : ℕ) (e : Entries) (i : ℕ) (h : 
       }
 
   pub list-closes : get_or s i 0 ≡ 41 → ListTo v s from (record { at = i + 1; entries = e })
-  unfolding next took keep alive
+  unfolding next took keep
   list-closes x =
       record {
         later = omega (arith, h.later);
         within = omega (arith, room);
         entries = h.entries;
         kept = h.kept;
-        goes = λ w q c t l r. byte-on v s i (Past w q) _ t (h.goes w q c t l r) room (Closed w q)
-            (past-list w l q (get_or s i 0) ∙ in-bracket w q (get_or s i 0) x) refl;
+        goes = λ w q c t l r. byte-on v s i (Past w q) _ t (h.goes w q c t l r) room (list_end w q)
+            (past-list w l q (get_or s i 0) ∙ in-bracket w q (get_or s i 0) x) (end-alive w q);
       }
 
   pub list-other : (get_or s i 0 ≡ 41 → ⊥) → (get_or s i 0 ≡ 32 → ⊥) → ListBreaks v s from i

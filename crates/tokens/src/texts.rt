@@ -29,7 +29,11 @@ pub const CLOTH: [u8; 8] = [
     b' ', b'(', TABLE[55], TABLE[56], TABLE[57], TABLE[58], TABLE[59], b')',
 ];
 
+pub const START: [u8; 6] = [b'(', TABLE[61], TABLE[62], TABLE[63], TABLE[64], TABLE[65]];
+
 pub const END: [u8; 2] = [b')', b'\n'];
+
+pub const LF: [u8; 1] = [b'\n'];
 
 // Byte by byte, as long as they agree.
 fn agreeing(s: &[u8], from: usize, w: &[u8]) -> Result<usize, Broken>

@@ -18,8 +18,9 @@ scope-limits = record { two = lit≤ tt; ten = lit≤ tt; written = lit< tt; sto
 pub present-limits : Limits present
 present-limits = record { two = lit≤ tt; ten = lit≤ tt; written = lit< tt; stored = lit< tt }
 
-pub scope-present : Wider scope present
-scope-present = record { names = lit≤ tt; marks = λ e. refl }
+-- no version with start lines that keeps to the limits allows more than the present one
+pub widest : (v : Version) → Limits v → v.starts ≡ true → Wider v present
+widest v limits e = record { names = omega (arith, limits.stored); marks = λ _. refl; starts = e }
 
 -- a name is 1 to the greatest
 pub fits_iff : (v : Version) (n : ℕ) → (name_fits v n ≡ true) ↔ ((1 ≤ n) × (n ≤ v.greatest))

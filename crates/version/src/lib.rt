@@ -6,7 +6,7 @@ ghost use Rattle.version.specs.Limits.{name_fits};
 
 use std::marker::Model;
 
-// Any three numbers.
+// Any values of what differs.
 #[derive(Clone, Copy)]
 pub struct Numbers {
     // the most digits of a number
@@ -15,6 +15,8 @@ pub struct Numbers {
     pub greatest: u64,
     // whether a step may be marked as cloth
     pub cloth: bool,
+    // whether a start line follows each head
+    pub starts: bool,
 }
 
 // Numbers that keep to the limits. Clauses see the numbers alone.
@@ -38,20 +40,22 @@ impl Model for Version {
 }
 
 impl Version {
-    // 01's: five digits, names to 65,535, no marks.
+    // 01's: five digits, names to 65,535, no marks, no start lines.
     pub const SCOPE: Version = Version {
         numbers: Numbers {
             digits: 5,
             greatest: 65535,
             cloth: false,
+            starts: false,
         },
     };
-    // The present one: ten digits, names to 4,294,967,295, and steps that may be marked.
+    // The present one: ten digits, names to 4,294,967,295, steps that may be marked, and start lines.
     pub const PRESENT: Version = Version {
         numbers: Numbers {
             digits: 10,
             greatest: 4294967295,
             cloth: true,
+            starts: true,
         },
     };
 }

@@ -1,10 +1,9 @@
--- What write answers: the refusal of a line, or else what is answered of the text; and the room for any text.
+-- What write answers: the refusal of a line, or else what is answered of the text; and the bound on any text.
 -- Assumes nothing.
 use mathlib.Core.Path.{◌≡◌, refl, sym, ap, ◌∙◌}
 use mathlib.Core.Bool.{false}
 use mathlib.Core.List.{List}
 use Prim.Native.Nat.{ℕ, ◌≤◌}
-use native.Mathlib.Omega.{arith}
 use lib.Dec.{eqb}
 use lib.ListN.{length}
 use borrow.Author.Tests.{eq-eqb}
@@ -45,9 +44,6 @@ module _ (j : Job) (pass : LinesPass j) where
   unfolding out_after
   text_out l p e = e ∙ cond_yes _ l refl (eq-eqb _ 0 pass)
 
--- a slice with room for any text of a job whose lines pass
-pub text-fits : (j : Job) (o : List ℕ) → LinesPass j → 20120 ≤ length o → length (written j) ≤ length o
-text-fits j o pass long = omega (arith, written-length j (eq-eqb _ 0 pass), long)
-
-pub text-short : (j : Job) → LinesPass j → length (written j) ≤ 20120
+-- the text of a job whose lines pass
+pub text-short : (j : Job) → LinesPass j → length (written j) ≤ 20500
 text-short j pass = written-length j (eq-eqb _ 0 pass)

@@ -3,6 +3,7 @@ use mathlib.Core.Path.{◌≡◌, sym, ap, ◌∙◌}
 use mathlib.Core.List.{List, [], ◌∷◌, ◌++◌, append-nil}
 use Prim.Native.Nat.{ℕ}
 use Rattle.emit.proofs.Chains.{parts, First, Second, Third, Three, first-room, second-room, third-room, three-emits}
+use Rattle.route.specs.declared.Places.{Places}
 use Rattle.route.specs.declared.Step.{Step}
 use Rattle.job.specs.Job.{Job}
 use Rattle.layout.specs.Text.{job_text, text}
@@ -10,9 +11,9 @@ use Rattle.layout.specs.declared.Word.TheVariants as W
 use Rattle.facts.specs.LinesOf.{lines_of}
 use Rattle.sheet_lines.specs.inner.Parts.{route_text}
 use Rattle.sheet_lines.proofs.TextsInFront.{route-front}
-use Rattle.writer.specs.Written.{written}
+use Rattle.writer.specs.Written.{written_by, written}
 
-module _ (old_places : ℕ) (old : List Step) (new_places : ℕ) (new : List Step) (done : List ℕ) where
+module _ (old_places : Places) (old : List Step) (new_places : Places) (new : List Step) (done : List ℕ) where
   abbrev job : Job
   job = record { old_places = old_places; old = old; new_places = new_places; new = new; done = done }
 
@@ -23,7 +24,7 @@ module _ (old_places : ℕ) (old : List Step) (new_places : ℕ) (new : List Ste
   new_text = route_text W.New new_places new []
 
   text-parts : written job ≡ parts (old_text ∷ new_text ∷ job_text done ∷ [])
-  unfolding written lines_of text parts
+  unfolding written_by lines_of text parts
   text-parts =
       route-front W.Old old_places old (route_text W.New new_places new (job_text done))
       ∙ ap (λ (t : List ℕ). old_text ++ t) (route-front W.New new_places new (job_text done)

@@ -45,7 +45,28 @@ fn route(names: Names, dice: &mut Dice) -> Route {
         let at = near_the_end(steps.len(), dice);
         put_fault(&mut steps[at], names.of(1), dice);
     }
-    Route { places: 2, steps }
+    Route {
+        places: 2,
+        start: start(dice),
+        steps,
+    }
+}
+
+/// Place 0, at times with a fault by row 2 or 3, empty, or such that the first step
+/// can't fire.
+fn start(dice: &mut Dice) -> Vec<u64> {
+    let others: [&[u64]; 8] = [
+        &[],
+        &[1],
+        &[0, 1],
+        &[2],
+        &[0, 2],
+        &[0, 0],
+        &[1, 0],
+        &[0, 1, 0],
+    ];
+    let other = others[dice.below(others.len())];
+    if dice.chance(6) { other } else { &[0] }.to_vec()
 }
 
 /// An index below the length, most often one of the last six.

@@ -1,4 +1,4 @@
-//! 01's example A, as it is written there.
+//! 01's example A, with its start lines (02, A.5).
 
 use reference::judge::WORK;
 

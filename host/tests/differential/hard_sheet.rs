@@ -21,6 +21,7 @@ pub fn sheet(dice: &mut Dice) -> Sheet {
     };
     let old = Route {
         places: 2 * count,
+        start: (0..count).collect(),
         steps: (0..count).map(step).collect(),
     };
     let mut new = old.clone();
@@ -32,7 +33,8 @@ pub fn sheet(dice: &mut Dice) -> Sheet {
     Sheet { old, new, done }
 }
 
-/// A new place that up to four steps fill, and as many or one fewer empty.
+/// A new place that up to four steps fill, and as many or one fewer empty; at times it
+/// has a token at the start.
 fn share_a_place(route: &mut Route, dice: &mut Dice) {
     let mut steps: Vec<usize> = (0..route.steps.len()).collect();
     dice.shuffle(&mut steps);
@@ -43,6 +45,9 @@ fn share_a_place(route: &mut Route, dice: &mut Dice) {
     }
     for &at in &steps[fills..fills + empties] {
         route.steps[at].ins.push(route.places);
+    }
+    if dice.chance(15) {
+        route.start.push(route.places);
     }
     route.places += 1;
 }

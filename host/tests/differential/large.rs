@@ -3,7 +3,7 @@
 //! long, while most often no more are kept than the second program can search.
 
 use reference::random::dice::Dice;
-use reference::random::{self, names::any_name, run_at_random};
+use reference::random::{self, names::any_name, run_at_random, starts};
 use reference::sheet::{Route, Sheet, Step};
 use std::collections::BTreeSet;
 
@@ -13,6 +13,9 @@ pub fn sheet(dice: &mut Dice) -> Sheet {
     let beside = net_beside(&facts, dice);
     for route in [&mut facts.old, &mut facts.new] {
         put_beside(route, &beside);
+        if dice.chance(4) {
+            starts::change(route, dice);
+        }
         number_anew(route, dice);
     }
     if dice.chance(80) {
@@ -30,6 +33,7 @@ fn net_beside(facts: &Sheet, dice: &mut Dice) -> Route {
     let most = [1, 2, 8][dice.below(3)];
     let mut net = Route {
         places: 0,
+        start: Vec::new(),
         steps: Vec::new(),
     };
     for name in fresh_names(facts, dice) {
@@ -40,7 +44,10 @@ fn net_beside(facts: &Sheet, dice: &mut Dice) -> Route {
             Some(last) => (last.outs.clone(), last.outs.clone()),
             None => break,
         };
-        net.places = if end <= room { end } else { net.places };
+        if end <= room {
+            net.places = end;
+            net.start.extend(&ins);
+        }
         net.steps.push(Step {
             name,
             ins,
@@ -73,7 +80,9 @@ fn some_variables(percent: usize, dice: &mut Dice) -> Vec<u64> {
 
 /// Puts a net beside the route, on places of its own.
 fn put_beside(route: &mut Route, net: &Route) {
-    let shift = |list: &[u64]| list.iter().map(|place| route.places + place).collect();
+    let before = route.places;
+    let shift = |list: &[u64]| -> Vec<u64> { list.iter().map(|place| before + place).collect() };
+    route.start.extend(shift(&net.start));
     let shifted = net.steps.iter().map(|step| Step {
         ins: shift(&step.ins),
         outs: shift(&step.outs),
@@ -87,12 +96,12 @@ fn put_beside(route: &mut Route, net: &Route) {
 fn number_anew(route: &mut Route, dice: &mut Dice) {
     let mut number: Vec<u64> = (0..route.places).collect();
     dice.shuffle(&mut number);
-    for step in &mut route.steps {
-        for list in [&mut step.ins, &mut step.outs] {
-            let renumbered = list.iter().map(|&place| number[place as usize]);
-            *list = renumbered.collect();
-            list.sort();
-        }
+    let lists = route.steps.iter_mut();
+    let lists = lists.flat_map(|step| [&mut step.ins, &mut step.outs]);
+    for list in lists.chain([&mut route.start]) {
+        let renumbered = list.iter().map(|&place| number[place as usize]);
+        *list = renumbered.collect();
+        list.sort();
     }
     dice.shuffle(&mut route.steps);
 }

@@ -13,14 +13,15 @@ use reference::sheet;
 fn long_sheet(dice: &mut Dice) -> Vec<u8> {
     let text = sheet::text(&random::sheet(dice));
     let times = dice.from_to(1_000, 20_000);
-    let (after, more) = match dice.below(8) {
+    let (after, more) = match dice.below(9) {
         0 => ("(job)\n", "(done 4294967295)\n"),
         1 => ("(in", " 0"),
         2 => ("(write", " 31"),
         3 => ("(out", " 4294967296"),
         4 => ("(old ", "7"),
         5 => ("(step ", "4294967296"),
-        6 => (")\n", "(step 1 (in 0) (out 1) (read) (write) (cloth))\n"),
+        6 => ("(start", " 0"),
+        7 => (")\n", "(step 1 (in 0) (out 1) (read) (write) (cloth))\n"),
         _ => (")\n", "(step 1 (in 0) (out 1) (read) (write))\n"),
     };
     let at = text.find(after).expect("no such form") + after.len();

@@ -2,8 +2,21 @@
 
 use crate::drive::compare_script;
 use reference::script::writing::{read, read_by_01};
+use reference::sheet::form;
 
 const SHEET: &str = include_str!("../../../examples/letters/A.sheet");
+
+/// The sheet without its start lines, which 01's version doesn't have.
+fn of_01(sheet: &str) -> String {
+    let lines = sheet.split_inclusive('\n');
+    lines.filter(|line| !line.starts_with("(start")).collect()
+}
+
+/// The sheet read by both versions, by 01's with and without start lines.
+fn by_both(sheet: String) -> String {
+    let by_01 = [&sheet, &of_01(&sheet)].map(|sheet| read_by_01(sheet.as_bytes()));
+    read(sheet.as_bytes()) + &by_01.concat()
+}
 
 /// At the limits of both versions, and with leading zeros.
 const NUMBERS: [&str; 11] = [
@@ -28,10 +41,9 @@ fn numbers_at_their_limits() {
     for begin in begins {
         let (before, rest) = SHEET.split_at(begin);
         let after = rest.trim_start_matches(|c: char| c.is_ascii_digit());
-        let sheets = NUMBERS.map(|number| [before, number, after].concat().into_bytes());
-        let both = |sheet: Vec<u8>| read(&sheet) + &read_by_01(&sheet);
-        let answers = compare_script("versions", &sheets.map(both).concat());
-        assert_eq!(answers.len(), 2 * NUMBERS.len());
+        let sheets = NUMBERS.map(|number| [before, number, after].concat());
+        let answers = compare_script("versions", &sheets.map(by_both).concat());
+        assert_eq!(answers.len(), 3 * NUMBERS.len());
     }
 }
 
@@ -55,10 +67,9 @@ fn marks_in_every_place() {
     let ends = SHEET.match_indices(')').map(|(at, _)| at);
     for end in ends {
         let (before, after) = (&SHEET[..end], &SHEET[end + 1..]);
-        let sheets = ENDS.map(|mark| [before, mark, after].concat().into_bytes());
-        let both = |sheet: Vec<u8>| read(&sheet) + &read_by_01(&sheet);
-        let answers = compare_script("marks", &sheets.map(both).concat());
-        assert_eq!(answers.len(), 2 * ENDS.len());
+        let sheets = ENDS.map(|mark| [before, mark, after].concat());
+        let answers = compare_script("marks", &sheets.map(by_both).concat());
+        assert_eq!(answers.len(), 3 * ENDS.len());
     }
 }
 
@@ -67,12 +78,15 @@ fn marks_in_every_place() {
 fn the_longest_sheets() {
     let lists = "(in 56 57 58 59 60 61 62 63) (out 48 49 50 51 52 53 54 55) \
                  (read 24 25 26 27 28 29 30 31) (write 16 17 18 19 20 21 22 23)";
-    let versions = [(65_535_u32, "", 18_136), (u32::MAX, " (cloth)", 20_120)];
-    for (last, mark, length) in versions {
+    let start = form("start", &(0..64).collect::<Vec<u64>>()) + "\n";
+    let of_01 = (65_535_u32, "", "", 18_136);
+    let present = (u32::MAX, start.as_str(), " (cloth)", 20_500);
+    for (last, start, mark, length) in [of_01, present] {
         let step = |name| format!("(step {name} {lists}{mark})\n");
         let steps: String = (last - 63..=last).map(step).collect();
         let done = format!("(done {last})\n").repeat(64);
-        let sheet = format!("(old 64)\n{steps}(new 64)\n{steps}(job)\n{done}");
+        let route = format!("64)\n{start}{steps}");
+        let sheet = format!("(old {route}(new {route}(job)\n{done}");
         assert_eq!(sheet.len(), length);
         for script in [read(sheet.as_bytes()), read_by_01(sheet.as_bytes())] {
             assert_eq!(compare_script("longest", &script).len(), 1);

@@ -159,6 +159,58 @@ fn place_counts() {
     compare_each("places", &all);
 }
 
+/// Places at and above the place count, all below it, and none.
+#[test]
+fn starts() {
+    for places in [1, 4, 32, 63, 64] {
+        let below = u64::MAX >> (64 - places);
+        let masks = [
+            0,
+            1,
+            2,
+            9,
+            below,
+            1 << (places - 1),
+            1 << (places % 64),
+            1 << 32,
+            1 << 63,
+            u64::MAX,
+        ];
+        let all = masks.map(|start| {
+            let mut facts = facts_a();
+            facts.old.places = places;
+            facts.old.start = start;
+            facts
+        });
+        compare_each("starts", &all);
+    }
+}
+
+/// Example A as two rings, 30 putting the token back on the first place, gone round
+/// from each place.
+#[test]
+fn rings() {
+    for [old, new] in [[1, 1], [2, 1], [4, 2], [1, 4], [3, 5], [7, 7]] {
+        let rings = [
+            &[10, 20, 30][..],
+            &[20, 30, 10, 20],
+            &[30, 10, 20, 30, 10, 20, 30],
+            &[],
+        ];
+        let all = rings.map(|done| {
+            let mut facts = facts_a();
+            (facts.old.start, facts.new.start) = (old, new);
+            for route in [&mut facts.old, &mut facts.new] {
+                route.places = 3;
+                route.list[2].outs = 1;
+            }
+            facts.done = done.to_vec();
+            facts
+        });
+        compare_each("rings", &all);
+    }
+}
+
 /// Each mask of each record empty, full, of 8 and of 9 entries.
 #[test]
 fn masks() {
@@ -211,6 +263,7 @@ fn a_record_with_every_number_at_its_largest() {
     };
     let mut facts = with_records(vec![largest; 64], u64::MAX);
     facts.old.places = u32::MAX;
+    facts.old.start = u64::MAX;
     facts.done = vec![u32::MAX.into(); 100];
     compare_each("largest", &[facts]);
 }
@@ -220,7 +273,8 @@ fn a_record_with_every_number_at_its_largest() {
 fn reading_into_lent_lists() {
     let shorter = SHEET.replace("(done 30)\n", "");
     let marked = SHEET.replace("(write 0))", "(write 0) (cloth))");
-    for sheet in [SHEET, "", "(old 4)\n", &shorter, &marked] {
+    let started = SHEET.replacen("(start 0)", "(start 0 3)", 1);
+    for sheet in [SHEET, "", "(old 4)\n", &shorter, &marked, &started] {
         let mut script = String::new();
         for old in [0, 2, 3, 4, 100] {
             for new in [0, 2, 3, 100] {

@@ -21,13 +21,13 @@ fn record(name: u32, place: u32) -> Record {
     }
 }
 
-/// Steps of these names in a row.
+/// Steps of these names in a row, begun before the first.
 fn chain(names: &[u32]) -> RouteByValue {
     let records: Vec<Record> = (0..)
         .zip(names)
         .map(|(at, &name)| record(name, at))
         .collect();
-    RouteByValue::of(names.len() as u32 + 1, names.len() as u64, &records)
+    RouteByValue::of(names.len() as u32 + 1, 1, names.len() as u64, &records)
 }
 
 /// The chain of 10, 20 and 30 with a record past `len`.
@@ -37,13 +37,16 @@ fn right() -> RouteByValue {
     route
 }
 
-/// Routes that put refuses by each of the rows, and right ones at a limit or with
-/// another mark.
+/// Routes that put refuses by each of the rows, and right ones at a limit, with another
+/// mark or start, or going round.
 fn routes() -> Vec<RouteByValue> {
     let mut all = vec![right(), chain(&[]), chain(&[10, 10]), chain(&[10, 0])];
     all.extend([65_536, 65_546, u32::MAX].map(|name| chain(&[10, name])));
     all.extend([0, 3, 5, 64, 65, u32::MAX].map(|places| RouteByValue { places, ..right() }));
     all.extend([0, 2, 4, 64, 65, 1 << 32, u64::MAX].map(|len| RouteByValue { len, ..right() }));
+    all.extend(
+        [0, 2, 8, 15, 16, 17, 1 << 63, u64::MAX].map(|start| RouteByValue { start, ..right() }),
+    );
     for mask in [0, 0x1ff, 1 << 63, 1, 8 | 1] {
         let mut route = right();
         route.records[2].outs = mask;
@@ -240,7 +243,7 @@ fn a_shelf_with_every_number_at_its_largest() {
     };
     let mut edition = Edition {
         number: u32::MAX,
-        route: RouteByValue::of(u32::MAX, u64::MAX, &[largest; 64]),
+        route: RouteByValue::of(u32::MAX, u64::MAX, u64::MAX, &[largest; 64]),
     };
     let most = u32::MAX;
     for (number, len) in [(most, u64::MAX), (most, 1), (1, 1), (1, 0)] {
@@ -260,9 +263,9 @@ fn a_shelf_with_every_number_at_its_largest() {
 #[test]
 fn counts_of_what_is_given() {
     for count in 0..=MOST_EDITIONS {
-        let blanks = vec!["0 0 0 0"; count].join(" ");
+        let blanks = vec!["0 0 0 0 0"; count].join(" ");
         let more = " 0 0 0 0 0 0".repeat(count);
-        let route = format!("2 1 {} 10 1 2 0 1 1{more}", count + 1);
+        let route = format!("2 1 1 {} 10 1 2 0 1 1{more}", count + 1);
         let script = format!("20 {count} {count} {blanks} 21 1 {route} 20 0 0 21 1 {route}");
         assert_eq!(compare_script("counts", &script).len(), 4);
     }
@@ -292,8 +295,8 @@ fn the_shelf_in_hand() {
 #[test]
 fn scripts_that_are_not_whole() {
     let whole = [
-        "20 3 2 5 2 1 1 10 1 2 0 1 0 6 3 2 2 10 1 2 0 1 0 20 2 4 1 2 1",
-        "21 7 3 2 2 20 1 2 1 2 1 10 2 4 0 1 0",
+        "20 3 2 5 2 1 1 1 10 1 2 0 1 0 6 3 1 2 2 10 1 2 0 1 0 20 2 4 1 2 1",
+        "21 7 3 1 2 2 20 1 2 1 2 1 10 2 4 0 1 0",
         "22 5 6 1 10 8192 9",
     ];
     for operation in whole {

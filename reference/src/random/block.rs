@@ -60,16 +60,6 @@ impl Block {
         Block::of(kind, parts)
     }
 
-    /// Whether a loop leads back to where the block begins.
-    pub fn begins_with_loop(&self) -> bool {
-        match self.kind {
-            Kind::Step(_) => false,
-            Kind::Loop => true,
-            Kind::Sequence | Kind::Again => self.parts[0].begins_with_loop(),
-            Kind::Parallel | Kind::Choice => self.parts.iter().any(Block::begins_with_loop),
-        }
-    }
-
     /// The names of the block's steps.
     pub fn names(&self) -> Vec<u64> {
         match self.kind {
@@ -93,13 +83,14 @@ impl Block {
         }
     }
 
-    /// Lays the whole tree out; gives the number of places and the steps.
-    pub fn lay_out(&self) -> (u64, Vec<Arrow>) {
+    /// Lays the whole tree out; gives the number of places, those where it begins and
+    /// the steps.
+    pub fn lay_out(&self) -> (u64, Vec<u64>, Vec<Arrow>) {
         let mut net = Layout::default();
         let from = net.fresh(self.width(false));
         let to = net.fresh(self.width(true));
         net.lay(self, &from, &to);
-        (net.places, net.arrows)
+        (net.places, from, net.arrows)
     }
 
     /// Visits every block of the tree.

@@ -1,6 +1,7 @@
-//! Damage to a sheet: bytes changed, cut and inserted, numbers and marks changed,
-//! lines moved, doubled and left out.
+//! Damage to a sheet: bytes changed, cut and inserted, numbers, marks and start lines
+//! changed, lines moved, doubled and left out.
 
+use super::damage_start;
 use super::dice::Dice;
 use super::names;
 use super::records::any;
@@ -8,8 +9,8 @@ use crate::sheet::MARK;
 use std::ops::Range;
 
 /// Words that numbers stand after.
-const WORDS: [&[u8]; 8] = [
-    b"old", b"new", b"step", b"in", b"out", b"read", b"write", b"done",
+const WORDS: [&[u8]; 9] = [
+    b"old", b"new", b"start", b"step", b"in", b"out", b"read", b"write", b"done",
 ];
 
 const SHORT: [&str; 13] = [
@@ -62,10 +63,11 @@ const NEAR_A_MARK: [&str; 21] = [
 pub fn damage(sheet: &[u8], dice: &mut Dice) -> Vec<u8> {
     let mut bytes = sheet.to_vec();
     for _ in 0..[1, 1, 1, 2, 2, 3][dice.below(6)] {
-        bytes = match dice.below(9) {
+        bytes = match dice.below(11) {
             0 => damage_bytes(bytes, dice),
             1..=5 => change_number(bytes, dice),
             6 => damage_mark(bytes, dice),
+            7..=8 => damage_start::damage(lines_of(&bytes), dice).concat(),
             _ => damage_lines(bytes, dice),
         };
     }
@@ -74,7 +76,7 @@ pub fn damage(sheet: &[u8], dice: &mut Dice) -> Vec<u8> {
 
 /// A byte that sheets hold, or any byte.
 fn some_byte(dice: &mut Dice) -> u8 {
-    let common = b"()\n 0123456789oldnewstepinoutreadwriteclothjobdone";
+    let common = b"()\n 0123456789oldnewstartstepinoutreadwriteclothjobdone";
     if dice.chance(80) {
         common[dice.below(common.len())]
     } else {

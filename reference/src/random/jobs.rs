@@ -1,10 +1,10 @@
 //! Jobs for scripts: small nets that loop and branch, jobs with kept at and
-//! over 16, done lists up to 64, routes at their limits, marks, other names, and
-//! twists that rows 6 to 12 refuse or that leave nothing to keep.
+//! over 16, done lists up to 64, routes at their limits, marks, other names and
+//! starts, and twists that rows 6 to 12 refuse or that leave nothing to keep.
 
 use super::dice::Dice;
 use super::plan::Plan;
-use super::{cloth, names, redraw, run_at_random, spoil};
+use super::{cloth, names, redraw, run_at_random, spoil, starts};
 use crate::fit;
 use crate::job::Job;
 use crate::net;
@@ -12,11 +12,12 @@ use crate::sheet::{Route, Sheet, Step};
 
 /// A job: right by the rows to 5, nearly always.
 pub fn job(dice: &mut Dice) -> Sheet {
-    let mut job = match dice.below(20) {
+    let mut job = match dice.below(23) {
         0..=2 => super::sheet(dice),
         3..=6 => searched(dice),
         7 => unchanged(super::sheet(dice)),
         8..=9 => cutting(dice),
+        10..=12 => round(dice),
         _ => {
             let job = of_a_kind(dice);
             cloth::marked(job, dice)
@@ -25,7 +26,7 @@ pub fn job(dice: &mut Dice) -> Sheet {
     if dice.chance(40) {
         names::rename(&mut job, dice);
     }
-    if dice.chance(25) {
+    if dice.chance(28) {
         twist(&mut job, dice);
     }
     job
@@ -33,12 +34,13 @@ pub fn job(dice: &mut Dice) -> Sheet {
 
 /// A job with no mark yet.
 fn of_a_kind(dice: &mut Dice) -> Sheet {
-    match dice.below(12) {
+    match dice.below(14) {
         0..=1 => tangled(dice),
         2..=4 => tiny(dice),
         5..=6 => chain(dice),
         7..=8 => building(dice),
-        9..=10 => beside(dice),
+        9..=11 => beside(dice),
+        12 => all_started(dice),
         _ => crowded(dice),
     }
 }
@@ -86,6 +88,25 @@ fn cutting(dice: &mut Dice) -> Sheet {
     Sheet { old, new, done }
 }
 
+/// A route that goes round, gone round some times; the new one goes round too, with
+/// little changed. At times the last round is wrong.
+fn round(dice: &mut Dice) -> Sheet {
+    let mut plan = Plan::round(dice);
+    let old = plan.draw(dice);
+    let length = [2, 5, 8, 13, 24, 40][dice.below(6)];
+    let mut done = run_at_random(&old, length, dice);
+    if done.len() > 4 && dice.chance(15) {
+        done.remove(done.len() - 2);
+    }
+    match dice.below(3) {
+        0 => {}
+        1 => redraw::reorder(&mut plan, dice),
+        _ => redraw::redraw(&mut plan, dice),
+    }
+    let new = plan.draw(dice);
+    Sheet { old, new, done }
+}
+
 /// One to three entries below the bound.
 fn some(bound: usize, dice: &mut Dice) -> Vec<u64> {
     let mut list: Vec<u64> = (0..dice.from_to(1, 3))
@@ -105,14 +126,14 @@ fn perhaps(bound: usize, dice: &mut Dice) -> Vec<u64> {
     }
 }
 
-/// Whether each place is in a step and there is a start place.
+/// Whether each place is in a step and the start isn't empty.
 pub(super) fn opens(route: &Route) -> bool {
     let done = vec![];
     let (old, new) = (route.clone(), route.clone());
     net::run(&Sheet { old, new, done }).is_ok()
 }
 
-/// A route of a few places and steps with any places and data.
+/// A route of a few places and steps with any places, data and start.
 fn any_route(dice: &mut Dice) -> Route {
     let places = dice.from_to(1, 5);
     let count = dice.from_to(1, places + 1);
@@ -124,10 +145,17 @@ fn any_route(dice: &mut Dice) -> Route {
         writes: perhaps(3, dice),
         cloth: false,
     };
-    Route {
-        steps: (1..=count).map(step).collect(),
+    let steps = (1..=count).map(step).collect();
+    let mut route = Route {
         places: places as u64,
+        start: some(places, dice),
+        steps,
+    };
+    let implied = net::implied_start(&route);
+    if !implied.is_empty() && dice.chance(60) {
+        route.start = implied.into_iter().collect();
     }
+    route
 }
 
 /// A few places, and steps with any places and data; most open.
@@ -144,9 +172,10 @@ fn tiny(dice: &mut Dice) -> Sheet {
     for _ in 0..dice.below(3) {
         let at = dice.below(new.steps.len());
         let places = new.places as usize;
-        match dice.below(3) {
+        match dice.below(4) {
             0 => new.steps[at].ins = some(places, dice),
             1 => new.steps[at].outs = some(places, dice),
+            2 => new.start = some(places, dice),
             _ => {
                 let other = dice.below(new.steps.len());
                 swap_places(&mut new.steps, at, other);
@@ -180,6 +209,7 @@ fn chain_of(names: &[u64], reads: bool) -> Route {
     };
     Route {
         places: names.len() as u64 + 1,
+        start: vec![0],
         steps: names.iter().enumerate().map(step).collect(),
     }
 }
@@ -225,22 +255,21 @@ fn building(dice: &mut Dice) -> Sheet {
     };
     let first = step(10, &[0], &[1, 2], 3);
     let (second, third) = (step(20, &[1], &[1], 30), step(30, &[2], &[2], 31));
-    let old = Route {
-        places: 3,
-        steps: vec![first.clone(), second.clone(), third.clone()],
+    let begun = |places, steps| Route {
+        places,
+        start: vec![0],
+        steps,
     };
+    let old = begun(3, vec![first.clone(), second.clone(), third.clone()]);
     let new = match dice.below(4) {
         0..=1 => old.clone(),
         // 30 is left out.
-        2 => Route {
-            places: 2,
-            steps: vec![step(10, &[0], &[1], 3), second],
-        },
+        2 => begun(2, vec![step(10, &[0], &[1], 3), second]),
         // 20 and 30 go in turn.
-        _ => Route {
-            places: 3,
-            steps: vec![step(10, &[0], &[1], 3), second, step(30, &[1], &[2], 31)],
-        },
+        _ => begun(
+            3,
+            vec![step(10, &[0], &[1], 3), second, step(30, &[1], &[2], 31)],
+        ),
     };
     let lengths = [2, 5, 16, 17, 18, 33, 64, 64];
     let length = lengths[dice.below(lengths.len())];
@@ -249,7 +278,7 @@ fn building(dice: &mut Dice) -> Sheet {
 }
 
 /// Steps side by side, done in any order; in the new route some of them wait
-/// for others, and at times for each other.
+/// for others, and at times for each other, or put a token back where one began.
 fn beside(dice: &mut Dice) -> Sheet {
     let count = [2, 3, 4, 5, 6, 7, 16][dice.below(7)];
     let step = |at: u64| Step {
@@ -262,6 +291,7 @@ fn beside(dice: &mut Dice) -> Sheet {
     };
     let old = Route {
         places: 2 * count,
+        start: (0..count).collect(),
         steps: (0..count).map(step).collect(),
     };
     let mut new = old.clone();
@@ -275,6 +305,10 @@ fn beside(dice: &mut Dice) -> Sheet {
         };
         waits(&mut new.steps[at], count + other as u64);
     }
+    if dice.chance(60) {
+        let (at, other) = (dice.below(count as usize), dice.below(count as usize));
+        fills(&mut new.steps[at], other as u64);
+    }
     let done = run_at_random(&old, count as usize, dice);
     Sheet { old, new, done }
 }
@@ -287,6 +321,14 @@ fn waits(step: &mut Step, place: u64) {
     for list in [&mut step.ins, &mut step.outs] {
         list.push(place);
         list.sort();
+    }
+}
+
+/// The step puts a token back on this place, from which another began.
+fn fills(step: &mut Step, place: u64) {
+    if !step.ins.contains(&place) && step.outs.len() < 8 {
+        step.outs.push(place);
+        step.outs.sort();
     }
 }
 
@@ -308,6 +350,7 @@ fn tangled(dice: &mut Dice) -> Sheet {
     };
     let old = Route {
         places: 2 * count,
+        start: (0..count).collect(),
         steps: (0..count).map(step).collect(),
     };
     let mut new = old.clone();
@@ -349,21 +392,27 @@ fn eight(dice: &mut Dice) -> Vec<u64> {
     all
 }
 
+/// The at-th eight of 64 places.
+fn layer(at: u64) -> Vec<u64> {
+    (8 * at..8 * at + 8).collect()
+}
+
 /// 64 places in layers of eight, up to 64 steps from each layer to the next and
-/// from the last back to the second, with 8 entries in each list.
+/// from the last back to the first or the second, with 8 entries in each list.
 fn crowded(dice: &mut Dice) -> Sheet {
-    let layer = |at: u64| -> Vec<u64> { (8 * at..8 * at + 8).collect() };
     let count = [8, 9, 16, 64][dice.below(4)];
+    let back = dice.below(2) as u64;
     let step = |at: u64| Step {
         name: 65_535 - at,
         ins: layer(at % 8),
-        outs: layer(if at % 8 == 7 { 1 } else { at % 8 + 1 }),
+        outs: layer(if at % 8 == 7 { back } else { at % 8 + 1 }),
         reads: eight(dice),
         writes: eight(dice),
         cloth: false,
     };
     let old = Route {
         places: 64,
+        start: layer(0),
         steps: (0..count).map(step).collect(),
     };
     let length = dice.from_to(0, 64);
@@ -376,27 +425,81 @@ fn crowded(dice: &mut Dice) -> Sheet {
     Sheet { old, new, done }
 }
 
+/// 64 places with a token each at the start. Of each eight one step takes all tokens
+/// and puts some back, and another puts back the rest, over and over.
+fn all_started(dice: &mut Dice) -> Sheet {
+    let mut steps = Vec::new();
+    for at in 0..8 {
+        let all = layer(at);
+        let some = all[..dice.from_to(1, 8)].to_vec();
+        for (ins, outs) in [(all.clone(), some.clone()), (some, all)] {
+            steps.push(Step {
+                name: steps.len() as u64 + 1,
+                ins,
+                outs,
+                reads: perhaps(32, dice),
+                writes: perhaps(32, dice),
+                cloth: false,
+            });
+        }
+    }
+    let start = (0..64).collect();
+    let old = Route {
+        places: 64,
+        start,
+        steps,
+    };
+    let length = [0, 1, 4, 9, 16, 64][dice.below(6)];
+    let done = run_at_random(&old, length, dice);
+    let mut new = old.clone();
+    match dice.below(3) {
+        0 => {}
+        1 => {
+            new.start.remove(dice.below(64));
+        }
+        _ => {
+            let (at, other) = (dice.below(16), dice.below(16));
+            swap_places(&mut new.steps, at, other);
+        }
+    }
+    Sheet { old, new, done }
+}
+
 /// A change that most often leads to one of the rows 6 to 12.
 fn twist(job: &mut Sheet, dice: &mut Dice) {
     let at = dice.below(job.new.steps.len());
-    match dice.below(18) {
+    match dice.below(24) {
         0 => job.old.places = 64.min(job.old.places + 1),
         1 => job.new.places = 64.min(job.new.places + 1),
-        2 => close(&mut job.old),
-        3 => close(&mut job.new),
-        4..=8 => spoil(&mut job.done, dice),
-        9..=10 => {
+        2..=5 => twist_start(job, dice),
+        6..=10 => spoil(&mut job.done, dice),
+        11..=12 => {
             let name = &mut job.new.steps[at].name;
             *name = names::other(*name, dice);
         }
-        11 => job.new.steps[at].reads = perhaps(32, dice),
-        12 => without_data(job, at),
-        13..=15 => change_mark(&mut job.new, dice),
-        16 => {
+        13 => job.new.steps[at].reads = perhaps(32, dice),
+        14 => without_data(job, at),
+        15..=20 => change_mark(&mut job.new, dice),
+        21 => {
             without_data(job, at);
             cloth::clear(job);
         }
         _ => job.new.steps[at].writes = perhaps(32, dice),
+    }
+}
+
+/// One of the routes begins nowhere or elsewhere, or goes round.
+fn twist_start(job: &mut Sheet, dice: &mut Dice) {
+    let route = if dice.chance(50) {
+        &mut job.old
+    } else {
+        &mut job.new
+    };
+    match dice.below(7) {
+        0..=1 => route.start.clear(),
+        2 => starts::take_away(route),
+        3..=5 => starts::change(route, dice),
+        _ => close(route),
     }
 }
 
@@ -417,11 +520,12 @@ fn change_mark(route: &mut Route, dice: &mut Dice) {
     cloth::change(marks.collect(), dice);
 }
 
-/// Each start place becomes an out-place of the last step.
+/// Each start place becomes an out-place of the last step: the route goes round.
 pub(super) fn close(route: &mut Route) {
     let places = net::start(route);
     if let Some(step) = route.steps.last_mut() {
         step.outs.extend(places);
         step.outs.sort();
+        step.outs.dedup();
     }
 }

@@ -12,17 +12,18 @@ use super::script::{ended, ENDING, MOST_BYTES};
 pub const OPERATIONS: usize = 32;
 
 /// How such an operation begins that has an argument past its limit, or that is none.
-pub const PAST_A_LIMIT: [&str; 11] = [
+pub const PAST_A_LIMIT: [&str; 12] = [
     "24 101",
     "24 1 4294967296",
     "24 0 18446744073709551616",
     "24 0 0 4294967296",
     "25 4294967296",
     "25 1 18446744073709551616",
-    "25 4 65 65",
-    "25 2 1 1 1 1 2 0 0 2",
-    "25 1 0 0 1 0 0 101",
-    "25 1 0 0 1 0 0 1 4294967296",
+    "25 1 1 18446744073709551616",
+    "25 4 1 65 65",
+    "25 2 1 1 1 1 1 2 0 0 2",
+    "25 1 1 0 0 1 1 0 0 101",
+    "25 1 1 0 0 1 1 0 0 1 4294967296",
     "26",
 ];
 

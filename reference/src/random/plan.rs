@@ -141,11 +141,25 @@ impl Plan {
         }
     }
 
-    /// Sets the tree. A step goes before a loop at the start, which would leave
-    /// no start place, and at times before others; at times one runs beside it.
+    /// A plan that goes round: its last part leads from where the others end back to
+    /// where they begin.
+    pub fn round(dice: &mut Dice) -> Plan {
+        let mut plan = Plan::empty(dice);
+        let count = dice.from_to(1, 4);
+        let names: Vec<u64> = (0..count).map(|_| plan.fresh_step(dice)).collect();
+        let back = Block::step(plan.fresh_step(dice));
+        let on = Block::random(&names, dice);
+        plan.tree = Block::of(Kind::Loop, vec![on, back]);
+        if dice.chance(70) {
+            plan.tidy(dice);
+        }
+        plan
+    }
+
+    /// Sets the tree. At times a step goes before it; at times one runs beside it.
     fn begin(&mut self, tree: Block, dice: &mut Dice) {
         let mut tree = tree;
-        if dice.chance(40) || tree.begins_with_loop() {
+        if dice.chance(40) {
             let first = Block::step(self.fresh_step(dice));
             tree = Block::of(Kind::Sequence, vec![first, tree]);
         }
@@ -185,9 +199,10 @@ impl Plan {
         pool
     }
 
-    /// Draws the route, with the places numbered and the steps listed at random.
+    /// Draws the route, with the places numbered and the steps listed at random. Its
+    /// start is where the tree begins, also where a loop leads back to there.
     pub fn draw(&self, dice: &mut Dice) -> Route {
-        let (places, mut arrows) = self.tree.lay_out();
+        let (places, from, mut arrows) = self.tree.lay_out();
         let mut number: Vec<u64> = (0..places).collect();
         if dice.chance(60) {
             dice.shuffle(&mut number);
@@ -208,7 +223,10 @@ impl Plan {
             writes: self.data[name].writes.clone(),
             cloth: self.data[name].cloth,
         };
-        let steps = arrows.iter().map(step).collect();
-        Route { places, steps }
+        Route {
+            places,
+            start: renumber(&from),
+            steps: arrows.iter().map(step).collect(),
+        }
     }
 }

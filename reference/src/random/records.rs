@@ -2,14 +2,15 @@
 
 use super::dice::Dice;
 use super::names;
-use crate::record::{Record, RouteByValue};
+use crate::record::{mask, Record, RouteByValue};
 use crate::script::writing;
-use crate::sheet::{Route, Sheet};
+use crate::sheet::{entries, Route, Sheet};
 
 /// A route as records: by value it has `len`, as a lent list it has all of them.
 #[derive(Clone, Debug)]
 pub struct Records {
     pub places: u32,
+    pub start: u64,
     pub len: u64,
     pub list: Vec<Record>,
 }
@@ -26,6 +27,7 @@ impl Records {
     pub fn of(route: &Route) -> Records {
         Records {
             places: route.places.try_into().expect("places in range"),
+            start: mask(route.start.iter().copied()),
             len: route.steps.len() as u64,
             list: route.steps.iter().map(Record::of).collect(),
         }
@@ -34,21 +36,23 @@ impl Records {
     /// The route by value, which holds the first 64 of the records.
     pub fn by_value(&self) -> RouteByValue {
         let held = self.list.len().min(64);
-        RouteByValue::of(self.places, self.len, &self.list[..held])
+        RouteByValue::of(self.places, self.start, self.len, &self.list[..held])
     }
 
     /// The route of all the records.
     fn route(&self) -> Route {
         Route {
             places: self.places.into(),
+            start: entries(self.start),
             steps: self.list.iter().map(Record::step).collect(),
         }
     }
 
     /// Makes one thing wrong, or puts it at its limit.
     pub fn spoil(&mut self, dice: &mut Dice) {
-        match dice.below(14) {
+        match dice.below(17) {
             0..=1 => self.places = some_places(self.places, dice),
+            14..=16 => self.start = some_start(self.start, self.places, dice),
             2..=3 => lengthen(self, dice),
             4 => {
                 self.list.clear();
@@ -62,10 +66,10 @@ impl Records {
 
     fn text(&self, lent: bool) -> String {
         if lent {
-            writing::lent(self.places, &self.list)
+            writing::lent(self.places, self.start, &self.list)
         } else {
             let held = self.list.len().min(64);
-            writing::by_value(self.places, self.len, &self.list[..held])
+            writing::by_value(self.places, self.start, self.len, &self.list[..held])
         }
     }
 }
@@ -180,6 +184,29 @@ pub(super) fn spoil_record(route: &mut Records, dice: &mut Dice) {
             record.outs = 0;
         }
     }
+}
+
+/// A start: none, all, other places, or with places not below N.
+fn some_start(start: u64, places: u32, dice: &mut Dice) -> u64 {
+    let at_places = 1_u64.checked_shl(places).unwrap_or(0);
+    let below = at_places.wrapping_sub(1);
+    let masks = [
+        0,
+        0,
+        below,
+        start ^ below,
+        start | at_places,
+        start | at_places,
+        at_places,
+        at_places,
+        1 << 63,
+        start | 1 << 63,
+        start | 1 << 32,
+        start << 1,
+        u64::MAX,
+        u64::MAX,
+    ];
+    any(&masks, dice)
 }
 
 /// A mask of places: empty, of 8 or 9, or with places not below N.

@@ -10,26 +10,12 @@ use crate::sheet::Route;
 /// Reorders steps that have nothing to do with each other.
 pub fn reorder(plan: &mut Plan, dice: &mut Dice) {
     for _ in 0..dice.from_to(1, 4) {
-        tamed(plan, swap_unrelated, dice);
+        swap_unrelated(plan, dice);
     }
 }
 
 /// One small change of any kind.
 pub fn redraw(plan: &mut Plan, dice: &mut Dice) {
-    tamed(plan, change, dice);
-}
-
-/// Changes the plan; a change that puts a loop at the start is most often taken
-/// back, since a route without a start place goes no further than row 7.
-fn tamed(plan: &mut Plan, change: fn(&mut Plan, &mut Dice), dice: &mut Dice) {
-    let before = plan.clone();
-    change(plan, dice);
-    if plan.tree.begins_with_loop() && dice.chance(85) {
-        *plan = before;
-    }
-}
-
-fn change(plan: &mut Plan, dice: &mut Dice) {
     match dice.below(26) {
         0..=1 => swap(plan, &|_, _| true, dice),
         2..=7 => swap_unrelated(plan, dice),

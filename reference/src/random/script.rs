@@ -9,6 +9,7 @@ use crate::record::Record;
 use crate::script::arguments::MOST_SLICE;
 use crate::script::writing::{self, bytes, fill};
 use crate::sheet::{self, Sheet};
+use crate::version::Version;
 
 /// Each script is shorter.
 pub const MOST_BYTES: usize = 60_000;
@@ -41,7 +42,7 @@ const OPERATIONS: [(u64, usize); 17] = [
 ];
 
 /// How an operation begins that is none, or that has an argument past its limit.
-pub const PAST_A_LIMIT: [&str; 43] = [
+pub const PAST_A_LIMIT: [&str; 49] = [
     "0",
     "11",
     "17",
@@ -52,18 +53,22 @@ pub const PAST_A_LIMIT: [&str; 43] = [
     "1 1 1 1 2 0 4294967296",
     "1 1 1 1 2 0 0 2",
     "1 1 1 1 2 0 0 18446744073709551615",
-    "2 4 65 65",
-    "2 2 1 1 1 1 2 0 0 2",
-    "12 4 101",
-    "12 2 1 1 1 2 0 0 2",
-    "12 4 0 4 0 101",
-    "2 1 0 0 1 0 0 101",
-    "2 1 0 0 1 0 0 1 4294967296",
+    "2 1 18446744073709551616",
+    "2 1 1 18446744073709551616",
+    "2 4 1 65 65",
+    "2 2 1 1 1 1 1 2 0 0 2",
+    "2 1 1 0 0 1 18446744073709551616",
+    "12 1 18446744073709551616",
+    "12 4 1 101",
+    "12 2 1 1 1 1 2 0 0 2",
+    "12 4 1 0 4 1 0 101",
+    "2 1 1 0 0 1 1 0 0 101",
+    "2 1 1 0 0 1 1 0 0 1 4294967296",
     "7 21001",
     "7 1 256",
-    "8 1 0 0 1 0 0 0 21001 0",
-    "8 1 0 0 1 0 0 0 1 256",
-    "8 1 0 0 1 0 0 0 0 256",
+    "8 1 1 0 0 1 1 0 0 0 21001 0",
+    "8 1 1 0 0 1 1 0 0 0 1 256",
+    "8 1 1 0 0 1 1 0 0 0 0 256",
     "16 0 101 0 0",
     "16 0 0 0 101",
     "20 18446744073709551616",
@@ -71,11 +76,13 @@ pub const PAST_A_LIMIT: [&str; 43] = [
     "20 1 1 4294967296",
     "20 1 1 1 4294967296",
     "20 1 1 1 1 18446744073709551616",
-    "20 1 1 1 1 65 65",
+    "20 1 1 1 1 1 18446744073709551616",
+    "20 1 1 1 1 1 65 65",
     "21 4294967296",
     "21 1 4294967296",
-    "21 1 1 65 65",
-    "21 1 2 1 1 1 1 2 0 0 2",
+    "21 1 1 18446744073709551616",
+    "21 1 1 1 65 65",
+    "21 1 2 1 1 1 1 1 2 0 0 2",
     "22 4294967296",
     "22 1 4294967296",
     "22 1 2 101",
@@ -197,10 +204,14 @@ fn of_sheet(number: u64, dice: &mut Dice) -> Vec<String> {
     if number == 23 && dice.chance(75) {
         cloth::clear(&mut job);
     }
-    let mut text = sheet::text(&job).into_bytes();
+    let version = version(number, dice);
+    let mut text = sheet::text_by(&job, &version).into_bytes();
     match dice.below(100) {
         0..=19 => text = damage::damage(&text, dice),
-        20..=34 => text = sheet::text(&spoiled(&job, dice).sheet()).into_bytes(),
+        20..=34 => {
+            let spoiled = spoiled(&job, dice).sheet();
+            text = sheet::text_by(&spoiled, &version).into_bytes();
+        }
         _ => {}
     }
     let mut arguments = vec![bytes(&text)];
@@ -214,6 +225,15 @@ fn of_sheet(number: u64, dice: &mut Dice) -> Vec<String> {
         _ => {}
     }
     arguments
+}
+
+/// The version that the operation reads by; few sheets are of the other.
+fn version(number: u64, dice: &mut Dice) -> Version {
+    if (number == 23) != dice.chance(5) {
+        Version::OF_01
+    } else {
+        Version::PRESENT
+    }
 }
 
 /// A work slice, seldom too short.

@@ -135,21 +135,22 @@ pub fn read(bytes: &[u8], version: &Version) -> Vec<u64> {
         let (old, new) = (route_numbers(&facts.old), route_numbers(&facts.new));
         [old, new, done, padded(facts.done, ROWS)].concat()
     };
-    let route = 2 + FIELDS * ROWS;
+    let route = 3 + FIELDS * ROWS;
     let answer = sheet::read_by(bytes, version).map(numbers);
     line(answer, 2 * route + 1 + ROWS)
 }
 
-/// A route by value: places, len and its records, those past the last blank.
+/// A route by value: places, start, len and its records, those past the last blank.
 fn route_numbers(route: &Route) -> Vec<u64> {
     let numbers = |record: &Record| record.numbers();
     let records: Vec<u64> = records(route).iter().flat_map(numbers).collect();
     [head_numbers(route), padded(records, FIELDS * ROWS)].concat()
 }
 
-/// Places and len.
+/// Places, the start as a mask, and len.
 fn head_numbers(route: &Route) -> Vec<u64> {
-    vec![route.places, route.steps.len() as u64]
+    let start = mask(route.start.iter().copied());
+    vec![route.places, start, route.steps.len() as u64]
 }
 
 fn records(route: &Route) -> Vec<Record> {
@@ -178,7 +179,7 @@ pub fn read_into(bytes: &[u8], room: [usize; 3]) -> Vec<u64> {
         [head_numbers(&facts.old), head_numbers(&facts.new), done].concat()
     };
     let lists = [lent_records(&old), lent_records(&new), runs(&done)];
-    [line(answer.map(heads), 5), lists.concat()].concat()
+    [line(answer.map(heads), 7), lists.concat()].concat()
 }
 
 /// A lent list of records afterwards: its length, then each record.
@@ -208,16 +209,17 @@ pub fn shelf(shelf: &Shelf) -> Vec<u64> {
     [vec![shelf.len], entries.collect()].concat()
 }
 
-/// An edition: its number, its route's places and `len`, and the records'
+/// An edition: its number, its route's places, start and `len`, and the records'
 /// numbers as a lent slice of them is shown.
 fn edition(edition: &Edition) -> Vec<u64> {
     let RouteByValue {
         places,
+        start,
         len,
         records,
     } = &edition.route;
     let numbers: Vec<u64> = records.iter().flat_map(Record::numbers).collect();
-    let head = vec![edition.number.into(), (*places).into(), *len];
+    let head = vec![edition.number.into(), (*places).into(), *start, *len];
     [head, runs(&numbers)].concat()
 }
 

@@ -3,7 +3,7 @@
 use super::numbers::Numbers;
 use crate::lines::MOST_STEPS;
 use crate::record::{Record, RouteByValue};
-use crate::sheet::Route;
+use crate::sheet::{entries, Route};
 use crate::shelf::{Edition, Shelf, MOST_EDITIONS};
 
 /// The most records that a route by value holds.
@@ -50,17 +50,21 @@ pub fn route(script: &mut Numbers, lent: bool) -> Option<Route> {
     if !lent {
         return Some(by_value(script)?.route());
     }
-    let places = word(script)?.into();
+    let (places, start) = (word(script)?.into(), entries(script.any()?));
     let records = counted(script, MOST_LENT, record)?;
     let steps = records.iter().map(Record::step).collect();
-    Some(Route { places, steps })
+    Some(Route {
+        places,
+        start,
+        steps,
+    })
 }
 
 /// ROUTE: a route by value.
 pub fn by_value(script: &mut Numbers) -> Option<RouteByValue> {
-    let (places, len) = (word(script)?, script.any()?);
+    let (places, start, len) = (word(script)?, script.any()?, script.any()?);
     let records = counted(script, MOST_BY_VALUE, record)?;
-    Some(RouteByValue::of(places, len, &records))
+    Some(RouteByValue::of(places, start, len, &records))
 }
 
 /// SHELF: its `len` and its editions, those past the ones given blank.

@@ -24,15 +24,15 @@ pub fn record(record: &Record) -> String {
     words(record.numbers())
 }
 
-/// ROUTE: a route by value, with any `len`.
-pub fn by_value(places: u32, len: u64, records: &[Record]) -> String {
-    format!("{places} {len} {}", counted_records(records))
+/// ROUTE: a route by value, with any start mask and `len`.
+pub fn by_value(places: u32, start: u64, len: u64, records: &[Record]) -> String {
+    format!("{places} {start} {len} {}", counted_records(records))
 }
 
 /// ROUTE, without the blank records at its end.
 pub fn route(route: &RouteByValue) -> String {
     let given = without_blank_end(&route.records, &Record::default());
-    by_value(route.places, route.len, given)
+    by_value(route.places, route.start, route.len, given)
 }
 
 /// SHELF, without the blank editions at its end.
@@ -49,9 +49,9 @@ fn without_blank_end<'a, T: PartialEq>(entries: &'a [T], blank: &T) -> &'a [T] {
     &entries[..last.map_or(0, |at| at + 1)]
 }
 
-/// LIST: a lent list.
-pub fn lent(places: u32, records: &[Record]) -> String {
-    format!("{places} {}", counted_records(records))
+/// LIST: a lent list, with any start mask.
+pub fn lent(places: u32, start: u64, records: &[Record]) -> String {
+    format!("{places} {start} {}", counted_records(records))
 }
 
 fn counted_records(records: &[Record]) -> String {

@@ -20,7 +20,7 @@ fn marked(name: u64, reads: &'static str, writes: &'static str) -> Line {
 
 /// Steps in a row, each from its place to the next.
 fn row(word: &str, steps: &[Line]) -> String {
-    let mut text = format!("({word} {})\n", steps.len() + 1);
+    let mut text = format!("({word} {})\n(start 0)\n", steps.len() + 1);
     for (place, &(name, reads, writes, marked)) in steps.iter().enumerate() {
         let line = if marked { cut } else { step };
         let (ins, outs) = (format!(" {place}"), format!(" {}", place + 1));
@@ -50,7 +50,7 @@ fn a_panel_that_would_have_been_cut_twice() {
 ";
     lists(&old, &new, &[10, 20, 30], listing);
     // Before 30 is done the panel is cut, and on the new route it can't be yet.
-    lists(&old, &new, &[10, 20], "(refused 13 9)\n");
+    lists(&old, &new, &[10, 20], "(refused 13 11)\n");
     // Without the mark the job stands where 20 is still to be done.
     let [old, new] = [&old, &new].map(|route| unmarked(route));
     let listing = "\
@@ -71,7 +71,7 @@ fn two_cuts_in_the_other_order() {
     let (ten, twenty) = (marked(10, "", ""), marked(20, "", ""));
     let old = row("old", &[ten, twenty]);
     let new = row("new", &[twenty, ten]);
-    lists(&old, &new, &[10, 20], "(refused 13 7)\n");
+    lists(&old, &new, &[10, 20], "(refused 13 9)\n");
     let facts = facts(&old, &new, &[10, 20]);
     assert_eq!(try_order(&facts, &[2, 1]), Err(refusal(17, 1)));
     assert_eq!(try_order(&facts, &[1, 2]), Err(refusal(18, 1)));
@@ -95,7 +95,7 @@ fn one_mark_orders_nothing() {
         let old = row("old", &[ten, twenty]);
         let new = row("new", &[twenty, ten]);
         let both = first && second;
-        let expected = if both { "(refused 13 7)\n" } else { listing };
+        let expected = if both { "(refused 13 9)\n" } else { listing };
         lists(&old, &new, &[10, 20], expected);
     }
 }
@@ -130,13 +130,13 @@ fn a_kept_one_with_another_mark() {
     for writes in ["", " 0"] {
         let old = row("old", &[plain(10, "", " 1"), marked(20, "", writes)]);
         let new = row("new", &[plain(10, "", " 1"), plain(20, "", writes)]);
-        lists(&old, &new, &[10, 20], "(refused 12 9)\n");
+        lists(&old, &new, &[10, 20], "(refused 12 11)\n");
         let tried = try_order(&facts(&old, &new, &[10, 20]), &[1, 2]);
-        assert_eq!(tried, Err(refusal(12, 9)));
+        assert_eq!(tried, Err(refusal(12, 11)));
     }
     let old = row("old", &[plain(10, "", " 1"), plain(20, "", " 0")]);
     let new = row("new", &[plain(10, "", " 1"), marked(20, "", " 0")]);
-    lists(&old, &new, &[10, 20], "(refused 12 9)\n");
+    lists(&old, &new, &[10, 20], "(refused 12 11)\n");
 }
 
 /// 20 writes nothing and isn't marked in the old route, so it isn't kept; but it is
@@ -184,7 +184,7 @@ fn what_a_cut_needs() {
     // The old route's mark decides.
     assert_eq!(kept(&old, &unmarked(&new)), [1, 2, 4, 5, 6].into());
     assert_eq!(kept(&unmarked(&old), &new), [5, 6].into());
-    lists(&unmarked(&old), &unmarked(&new), &done, "(refused 13 14)\n");
+    lists(&unmarked(&old), &unmarked(&new), &done, "(refused 13 16)\n");
 }
 
 /// 20 cuts by a blank, which it doesn't need anybody for.
@@ -208,11 +208,11 @@ fn a_cut_that_the_new_route_lacks() {
     let (ten, twenty) = (plain(10, "", " 0"), marked(20, "", ""));
     let old = row("old", &[ten, twenty]);
     let new = row("new", &[ten, marked(30, "", "")]);
-    lists(&old, &new, &[10, 20], "(refused 11 9)\n");
+    lists(&old, &new, &[10, 20], "(refused 11 11)\n");
     // Kept in turn: the cut's 11 goes before a later one's 12.
     let old = row("old", &[twenty, ten]);
     let new = row("new", &[marked(10, "", " 0"), marked(30, "", "")]);
-    lists(&old, &new, &[20, 10], "(refused 11 8)\n");
+    lists(&old, &new, &[20, 10], "(refused 11 10)\n");
 }
 
 /// 99, then so many cuts in a row that write nothing; the new route lacks 99.
@@ -235,7 +235,7 @@ fn sixteen_kept_by_their_marks_and_seventeen() {
     );
     lists(&old, &new, &done, &listing);
     let (old, new, done) = cuts(17);
-    lists(&old, &new, &done, "(refused 10 38)\n");
+    lists(&old, &new, &done, "(refused 10 40)\n");
     // Without marks nothing is kept.
     let [old, new] = [&old, &new].map(|route| unmarked(route));
     let listing = "(moved (kept 0) (dropped 18))\n(order)\n(marking 0)\n";
@@ -257,7 +257,7 @@ fn seventeen_cuts_move_straight() {
 #[test]
 fn a_looped_cut() {
     let steps = step(10, " 0", " 1", "", "") + &cut(20, " 1", " 1", "", "");
-    let (old, new) = both(2, &steps);
+    let (old, new) = both(2, " 0", &steps);
     let done = [10, 20, 20];
     let listing = "(moved (kept 3) (dropped 0))\n(after 3 2)\n(order 1 2 3)\n(marking 1)\n";
     lists(&old, &new, &done, listing);

@@ -1,8 +1,10 @@
 //! The examples that 01 asks to be run, at the edges of its limits, with names as
 //! long as 02 has them.
 
-use crate::common::{both, chain, lists, longest, sheet, step, turned_round, NEW, OLD};
+use crate::common::{both, chain, lists, longest, longest_start, sheet, step, turned_round};
+use crate::common::{NEW, OLD};
 use reference::print::listing_of;
+use reference::sheet::{self, form};
 
 #[test]
 fn sixteen_kept_move() {
@@ -18,7 +20,7 @@ fn sixteen_kept_move() {
 #[test]
 fn seventeen_kept_are_refused() {
     let (old, new, done) = turned_round(17);
-    lists(&old, &new, &done, "(refused 10 37)\n");
+    lists(&old, &new, &done, "(refused 10 39)\n");
 }
 
 /// Sixteen steps side by side: the new route wants the last before the first,
@@ -34,9 +36,11 @@ fn sixteen_kept_without_a_fit_order() {
     let rest: String = (2..=16)
         .map(|name| line(name, &format!(" {}", name - 1)))
         .collect();
-    let old = format!("(old 32)\n{}{rest}", line(1, " 0"));
-    let new = format!("(new 32)\n{}{rest}", line(1, " 0 31"));
-    lists(&old, &new, &names, "(refused 13 35)\n");
+    let start: Vec<u64> = (0..16).collect();
+    let head = |word: &str| format!("({word} 32)\n{}\n", form("start", &start));
+    let old = format!("{}{}{rest}", head("old"), line(1, " 0"));
+    let new = format!("{}{}{rest}", head("new"), line(1, " 0 31"));
+    lists(&old, &new, &names, "(refused 13 37)\n");
 }
 
 #[test]
@@ -45,7 +49,7 @@ fn a_straight_job_may_keep_all_64() {
 (step 10 (in 0) (out 1) (read) (write))
 (step 20 (in 1) (out 1) (read 5) (write 5))
 ";
-    let (old, new) = both(2, steps);
+    let (old, new) = both(2, " 0", steps);
     let mut done = vec![10];
     done.extend([20; 63]);
     let listing = listing_of(sheet(&old, &new, &done).as_bytes());
@@ -63,9 +67,9 @@ fn places_64_and_65() {
     let old65 = old.replace("(old 64)", "(old 65)");
     let new65 = new.replace("(new 64)", "(new 65)");
     lists(&old65, &new, &names, "(refused 2 1)\n");
-    lists(&old, &new65, &names, "(refused 2 65)\n");
+    lists(&old, &new65, &names, "(refused 2 66)\n");
     let high = new.replace("(out 63)", "(out 64)");
-    lists(&old, &high, &names, "(refused 2 128)\n");
+    lists(&old, &high, &names, "(refused 2 130)\n");
 }
 
 #[test]
@@ -75,10 +79,10 @@ fn names_at_the_edge() {
         let old = OLD.replace("(step 10 ", &format!("(step {name} "));
         let new = old.replace("(old", "(new");
         lists(&old, &new, &[name], listing);
-        lists(OLD, NEW, &[name], "(refused 8 10)\n");
+        lists(OLD, NEW, &[name], "(refused 8 12)\n");
     }
-    lists(OLD, NEW, &[4_294_967_296], "(refused 2 10)\n");
-    lists(OLD, NEW, &[0], "(refused 2 10)\n");
+    lists(OLD, NEW, &[4_294_967_296], "(refused 2 12)\n");
+    lists(OLD, NEW, &[0], "(refused 2 12)\n");
 }
 
 #[test]
@@ -89,7 +93,7 @@ fn a_leading_zero_breaks_the_layout_at_the_next_digit() {
         listing_of(text.as_bytes()),
         format!("(refused 1 {offset})\n")
     );
-    assert_eq!(offset, 289);
+    assert_eq!(offset, 309);
 }
 
 #[test]
@@ -99,8 +103,8 @@ fn the_empty_sheet() {
 
 #[test]
 fn the_longest_sheet_without_a_mark() {
-    let text = longest(4_294_967_295, 1_000_000_063, "");
-    assert_eq!(text.len(), 19_096);
-    let facts = reference::sheet::read(text.as_bytes()).unwrap();
-    assert_eq!(reference::sheet::text(&facts), text);
+    let text = longest([4_294_967_295, 1_000_000_063], &longest_start(), "");
+    assert_eq!(text.len(), 19_096 + 2 * 190);
+    let facts = sheet::read(text.as_bytes()).unwrap();
+    assert_eq!(sheet::text(&facts), text);
 }

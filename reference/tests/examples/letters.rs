@@ -1,4 +1,4 @@
-//! 01's examples A to L, with their whole listings.
+//! 01's examples A to L, with start lines and their whole listings.
 
 use crate::common::{both, lists, NEW, OLD};
 
@@ -24,26 +24,26 @@ fn b_has_nothing_done() {
 
 #[test]
 fn c_would_skip_a_step() {
-    lists(OLD, NEW, &[10], "(refused 13 9)\n");
+    lists(OLD, NEW, &[10], "(refused 13 11)\n");
 }
 
 #[test]
 fn d_would_read_too_early() {
     let reads = |route: &str| route.replace("(read) (write 1)", "(read 0) (write 1)");
-    lists(&reads(OLD), &reads(NEW), &[10, 20], "(refused 13 9)\n");
+    lists(&reads(OLD), &reads(NEW), &[10, 20], "(refused 13 11)\n");
 }
 
 /// The new route of E and F: without 10.
 fn without_10(reads: &str) -> String {
     format!(
-        "(new 3)\n(step 20 (in 0) (out 1) (read) (write 1))\n\
+        "(new 3)\n(start 0)\n(step 20 (in 0) (out 1) (read) (write 1))\n\
          (step 30 (in 1) (out 2) (read{reads}) (write 2))\n"
     )
 }
 
 #[test]
 fn e_lacks_a_kept_step() {
-    lists(OLD, &without_10(" 0 1"), &[10, 20], "(refused 11 9)\n");
+    lists(OLD, &without_10(" 0 1"), &[10, 20], "(refused 11 11)\n");
 }
 
 #[test]
@@ -55,17 +55,17 @@ fn f_drops_a_step() {
 #[test]
 fn g_writes_more() {
     let new = NEW.replace("(write 0)", "(write 0 3)");
-    lists(OLD, &new, &[10], "(refused 12 10)\n");
+    lists(OLD, &new, &[10], "(refused 12 12)\n");
 }
 
 #[test]
 fn h_has_a_strange_name() {
-    lists(OLD, NEW, &[40, 20, 30], "(refused 8 10)\n");
+    lists(OLD, NEW, &[40, 20, 30], "(refused 8 12)\n");
 }
 
 #[test]
 fn i_cannot_fire() {
-    lists(OLD, NEW, &[30, 20, 30], "(refused 9 10)\n");
+    lists(OLD, NEW, &[30, 20, 30], "(refused 9 12)\n");
 }
 
 #[test]
@@ -74,8 +74,8 @@ fn j_would_put_a_token_where_one_lies() {
 (step 10 (in 0) (out 2) (read) (write))
 (step 20 (in 1) (out 2) (read) (write))
 ";
-    let (old, new) = both(3, steps);
-    lists(&old, &new, &[10, 20], "(refused 9 9)\n");
+    let (old, new) = both(3, " 0 1", steps);
+    lists(&old, &new, &[10, 20], "(refused 9 11)\n");
 }
 
 #[test]
@@ -91,12 +91,14 @@ fn k_does_a_looped_step_twice() {
 (marking 1)
 (value 0 3)
 ";
-    let (old, new) = both(2, steps);
+    let (old, new) = both(2, " 0", steps);
     lists(&old, &new, &[10, 20, 20], listing);
 }
 
+/// 01's start, which was implied, is empty here.
 #[test]
-fn l_has_no_start_place() {
-    let (old, new) = both(2, "(step 10 (in 0) (out 0 1) (read) (write))\n");
-    lists(&old, &new, &[], "(refused 7 1)\n");
+fn l_begins_where_it_is_written() {
+    let (old, new) = both(2, " 0", "(step 10 (in 0) (out 0 1) (read) (write))\n");
+    let listing = "(moved (kept 0) (dropped 0))\n(order)\n(marking 0)\n";
+    lists(&old, &new, &[], listing);
 }

@@ -166,10 +166,11 @@ fn the_other_letters() {
         ('G', 1, 2),
         // Both have 10 and 20; 20 again costs both.
         ('K', 1 + 1 + 2, 1 + 1 + 2),
+        ('L', 0, 0),
     ] {
         compares(&letter(name).0, run, matched);
     }
-    for (name, number, second) in [('H', 8, 10), ('I', 9, 10), ('J', 9, 9), ('L', 7, 1)] {
+    for (name, number, second) in [('H', 8, 12), ('I', 9, 12), ('J', 9, 11)] {
         let refused = Err(refusal(number, second));
         assert_eq!(comparisons(&letter(name).0), refused, "{name}");
     }
@@ -183,12 +184,12 @@ fn a_loop() {
         step(20, " 1", " 2", "", ""),
         step(30, " 2", " 1", "", ""),
     ];
-    let old = format!("(old 3)\n{}", lines.concat());
+    let old = format!("(old 3)\n(start 0)\n{}", lines.concat());
     let [first, second, third] = lines;
     let done = [10, 20, 30, 20, 30, 20];
     // Old: 30 is the last, so 20 is looked for from the top and costs 10 20. New,
     // with 20 30 10: 10 is the third; then 20, 30; then 20 costs 10 20.
-    let new = format!("(new 3)\n{second}{third}{first}");
+    let new = format!("(new 3)\n(start 0)\n{second}{third}{first}");
     compares(
         &facts(&old, &new, &done),
         1 + 1 + 1 + 2 + 1 + 2,
@@ -196,7 +197,7 @@ fn a_loop() {
     );
     // 30 20 10: 10 is the third; 20 the second, then the one above costs 10 30,
     // and the one just below one.
-    let new = format!("(new 3)\n{third}{second}{first}");
+    let new = format!("(new 3)\n(start 0)\n{third}{second}{first}");
     compares(
         &facts(&old, &new, &done),
         1 + 1 + 1 + 2 + 1 + 2,
@@ -253,7 +254,7 @@ fn the_most_comparisons() {
     let route = |word: &str, from: u64| {
         let lines: String = others(from).collect();
         let last = step(from + 63, " 0", " 1", "", "");
-        format!("({word} 2)\n{lines}{last}")
+        format!("({word} 2)\n(start 0)\n{lines}{last}")
     };
     let done = [vec![64], vec![63; 63]].concat();
     let facts = facts(&route("old", 1), &route("new", 101), &done);
@@ -270,15 +271,18 @@ fn refused_jobs() {
         assert_eq!(comparisons(&facts), Err(refusal(number, second)));
         assert_eq!(run(&facts), Err(refusal(number, second)));
     };
-    refused(&|f| f.old.steps.clear(), 4, 2);
-    refused(&|f| f.done = vec![10; 65], 4, 9 + 65);
-    refused(&|f| f.done[2] = 0, 2, 12);
-    refused(&|f| f.new.steps[0].name = 0, 2, 6);
-    refused(&|f| f.new.steps[2].ins.clear(), 3, 8);
-    refused(&|f| f.new.steps[2].name = 20, 5, 8);
+    refused(&|f| f.old.steps.clear(), 4, 3);
+    refused(&|f| f.done = vec![10; 65], 4, 11 + 65);
+    refused(&|f| f.done[2] = 0, 2, 14);
+    refused(&|f| f.new.steps[0].name = 0, 2, 8);
+    refused(&|f| f.new.steps[2].ins.clear(), 3, 10);
+    refused(&|f| f.new.steps[2].name = 20, 5, 10);
+    refused(&|f| f.old.start = vec![4], 2, 2);
+    refused(&|f| f.new.start = vec![0, 0], 3, 7);
     refused(&|f| f.old.places = 5, 6, 1);
-    refused(&|f| f.new.places = 5, 6, 5);
-    refused(&|f| f.old.steps[2].outs = vec![0, 3], 7, 1);
-    refused(&|f| f.done[1] = 40, 8, 11);
-    refused(&|f| f.done[1] = 30, 9, 11);
+    refused(&|f| f.new.places = 5, 6, 6);
+    refused(&|f| f.old.start.clear(), 7, 2);
+    refused(&|f| f.new.start.clear(), 7, 7);
+    refused(&|f| f.done[1] = 40, 8, 13);
+    refused(&|f| f.done[1] = 30, 9, 13);
 }

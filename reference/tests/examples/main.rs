@@ -1,5 +1,5 @@
 //! 01's examples, the rows of its table, orders handed in, slips, 02's names,
-//! shelf, look-up and cloth, and 01's version of the layout.
+//! shelf, look-up, cloth and starts, and 01's version of the layout.
 
 mod cloth;
 mod cloth_text;
@@ -14,5 +14,7 @@ mod rows_job;
 mod rows_sheet;
 mod shelf;
 mod slips;
+mod start;
+mod start_text;
 mod values;
 mod version;

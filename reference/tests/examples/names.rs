@@ -7,19 +7,21 @@ const MOVED: &str = include_str!("../../../examples/letters/A.listing");
 
 /// Each place of a line of example A where a number may stand, as `#`. Names
 /// come first.
-pub const NUMBERS: [(usize, &str); 12] = [
-    (2, "(step # (in 0) (out 1) (read) (write 0))\n"),
-    (8, "(step # (in 2) (out 3) (read 0 1) (write 2))\n"),
-    (10, "(done #)\n"),
+pub const NUMBERS: [(usize, &str); 14] = [
+    (3, "(step # (in 0) (out 1) (read) (write 0))\n"),
+    (10, "(step # (in 2) (out 3) (read 0 1) (write 2))\n"),
     (12, "(done #)\n"),
+    (14, "(done #)\n"),
     (1, "(old #)\n"),
-    (5, "(new #)\n"),
-    (2, "(step 10 (in #) (out 1) (read) (write 0))\n"),
-    (4, "(step 30 (in 2 #) (out 3) (read 0 1) (write 2))\n"),
-    (6, "(step 20 (in 0) (out #) (read) (write 1))\n"),
-    (7, "(step 10 (in 1) (out 2) (read #) (write 0))\n"),
-    (8, "(step 30 (in 2) (out 3) (read 0 #) (write 2))\n"),
-    (3, "(step 20 (in 1) (out 2) (read) (write 1 #))\n"),
+    (6, "(new #)\n"),
+    (3, "(step 10 (in #) (out 1) (read) (write 0))\n"),
+    (5, "(step 30 (in 2 #) (out 3) (read 0 1) (write 2))\n"),
+    (8, "(step 20 (in 0) (out #) (read) (write 1))\n"),
+    (9, "(step 10 (in 1) (out 2) (read #) (write 0))\n"),
+    (10, "(step 30 (in 2) (out 3) (read 0 #) (write 2))\n"),
+    (4, "(step 20 (in 1) (out 2) (read) (write 1 #))\n"),
+    (2, "(start #)\n"),
+    (7, "(start 0 #)\n"),
 ];
 pub const NAMES: usize = 4;
 
@@ -53,9 +55,9 @@ fn long_names_are_plain() {
         let [old, new] = with_name(name);
         lists(&old, &new, &[name, 20, 30], MOVED);
         // The name is its own in each of the three lists.
-        lists(OLD, NEW, &[name, 20, 30], "(refused 8 10)\n");
-        lists(&old, &new, &[10, 20, 30], "(refused 8 10)\n");
-        lists(&old, NEW, &[name, 20, 30], "(refused 11 10)\n");
+        lists(OLD, NEW, &[name, 20, 30], "(refused 8 12)\n");
+        lists(&old, &new, &[10, 20, 30], "(refused 8 12)\n");
+        lists(&old, NEW, &[name, 20, 30], "(refused 11 12)\n");
     }
 }
 
@@ -66,7 +68,7 @@ fn names_that_end_alike() {
         assert_eq!(name % 256, 20);
         let [old, new] = with_name(name);
         lists(&old, &new, &[name, 20, 30], MOVED);
-        lists(&old, &new, &[20, name, 30], "(refused 9 10)\n");
+        lists(&old, &new, &[20, name, 30], "(refused 9 12)\n");
     }
 }
 
@@ -85,12 +87,21 @@ fn numbers_that_end_as_others() {
     for name in [1, 10] {
         let [old, new] = with_name(name);
         let past = name + (1 << 32);
-        lists(&old, &new, &[past, 20, 30], "(refused 2 10)\n");
+        lists(&old, &new, &[past, 20, 30], "(refused 2 12)\n");
         let [past_old, past_new] = with_name(past);
-        lists(&past_old, &new, &[name, 20, 30], "(refused 2 2)\n");
-        lists(OLD, &past_new, &[name, 20, 30], "(refused 2 7)\n");
+        lists(&past_old, &new, &[name, 20, 30], "(refused 2 3)\n");
+        lists(OLD, &past_new, &[name, 20, 30], "(refused 2 9)\n");
     }
-    for (form, small) in [(4, 4), (5, 4), (6, 0), (8, 1), (9, 0), (11, 2)] {
+    for (form, small) in [
+        (4, 4),
+        (5, 4),
+        (6, 0),
+        (8, 1),
+        (9, 0),
+        (11, 2),
+        (12, 0),
+        (13, 1),
+    ] {
         let number = ((1_u64 << 32) + small).to_string();
         refused(&with_number(NUMBERS[form], &number).0, 2, NUMBERS[form].0);
     }

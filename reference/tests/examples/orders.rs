@@ -1,6 +1,6 @@
 //! Try on orders handed in: fit, repeated, missing, 0, 255, empty, too long.
 
-use crate::common::{refusal, step, with_line, SHEET};
+use crate::common::{both, refusal, sheet, step, with_line, SHEET};
 use reference::fit::try_sheet;
 use reference::net::Marking;
 use reference::refusal::Refusal;
@@ -39,21 +39,20 @@ fn rows_17_and_18() {
     // Entry by entry: 1 can't fire before it is seen that 3 stands too early.
     assert_eq!(try_a(&[1, 3, 2]), Err(refusal(18, 1)));
     assert_eq!(try_a(&[1, 2, 3]), Err(refusal(18, 1)));
-    let stuck = with_line(8, &step(30, " 1", " 3", " 0 1", " 2"));
+    let stuck = with_line(10, &step(30, " 1", " 3", " 0 1", " 2"));
     assert_eq!(try_sheet(stuck.as_bytes(), &[2, 1, 3]), Err(refusal(18, 3)));
 }
 
 /// A sheet whose two routes are the same.
-fn unchanged(places: u64, steps: &[String], done: &[u64]) -> String {
-    let steps = steps.concat();
-    let done: String = done.iter().map(|name| format!("(done {name})\n")).collect();
-    format!("(old {places})\n{steps}(new {places})\n{steps}(job)\n{done}")
+fn unchanged(places: u64, start: &str, steps: &[String], done: &[u64]) -> String {
+    let (old, new) = both(places, start, &steps.concat());
+    sheet(&old, &new, done)
 }
 
 /// 10 and 20 side by side; 10 has no data.
 fn side_by_side(done: &[u64]) -> String {
     let steps = [step(10, " 0", " 1", "", ""), step(20, " 2", " 3", "", " 0")];
-    unchanged(4, &steps, done)
+    unchanged(4, " 0 2", &steps, done)
 }
 
 #[test]
@@ -72,7 +71,7 @@ fn a_straight_job_takes_the_straight_list_and_the_kept() {
 #[test]
 fn a_looped_step_is_kept_once() {
     let steps = [step(10, " 0", " 1", "", ""), step(20, " 1", " 1", "", " 0")];
-    let text = unchanged(2, &steps, &[10, 20, 20]);
+    let text = unchanged(2, " 0", &steps, &[10, 20, 20]);
     let tried = |order: &[u8]| try_sheet(text.as_bytes(), order);
     assert_eq!(tried(&[1, 2, 3]), Ok(Marking::from([1])));
     assert_eq!(tried(&[3]), Err(refusal(18, 1)));
@@ -96,7 +95,7 @@ fn many_kept() -> String {
         step(30, " 2", " 2", " 5", " 5"),
     ];
     let done = [vec![10], [20, 30].repeat(9)].concat();
-    unchanged(3, &steps, &done)
+    unchanged(3, " 0", &steps, &done)
 }
 
 #[test]
@@ -125,7 +124,7 @@ fn over_16_kept_in_another_job() {
     let straight: Vec<u8> = (1..=19).collect();
     for order in [&straight[..], &[]] {
         let tried = try_sheet((old.to_string() + &new).as_bytes(), order);
-        assert_eq!(tried, Err(refusal(10, 9)));
+        assert_eq!(tried, Err(refusal(10, 11)));
     }
 }
 
@@ -134,12 +133,15 @@ fn try_meets_the_rows_before() {
     let order = [2, 1, 3];
     let tried = |text: String| try_sheet(text.as_bytes(), &order);
     assert_eq!(tried(String::new()), Err(refusal(1, 0)));
-    assert_eq!(tried(with_line(5, "(new 65)\n")), Err(refusal(2, 5)));
+    assert_eq!(tried(with_line(6, "(new 65)\n")), Err(refusal(2, 6)));
+    assert_eq!(tried(with_line(7, "(start 4)\n")), Err(refusal(2, 7)));
+    assert_eq!(tried(with_line(7, "(start 1 0)\n")), Err(refusal(3, 7)));
     assert_eq!(tried(with_line(1, "(old 5)\n")), Err(refusal(6, 1)));
-    assert_eq!(tried(with_line(10, "(done 40)\n")), Err(refusal(8, 10)));
-    assert_eq!(tried(with_line(10, "(done 20)\n")), Err(refusal(9, 10)));
+    assert_eq!(tried(with_line(7, "(start)\n")), Err(refusal(7, 7)));
+    assert_eq!(tried(with_line(12, "(done 40)\n")), Err(refusal(8, 12)));
+    assert_eq!(tried(with_line(12, "(done 20)\n")), Err(refusal(9, 12)));
     let lacks = step(11, " 1", " 2", "", " 0");
-    assert_eq!(tried(with_line(7, &lacks)), Err(refusal(11, 10)));
+    assert_eq!(tried(with_line(9, &lacks)), Err(refusal(11, 12)));
     let reads = step(10, " 1", " 2", " 7", " 0");
-    assert_eq!(tried(with_line(7, &reads)), Err(refusal(12, 10)));
+    assert_eq!(tried(with_line(9, &reads)), Err(refusal(12, 12)));
 }

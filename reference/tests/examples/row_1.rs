@@ -43,23 +43,31 @@ fn row_1_at_bytes_that_belong_elsewhere() {
         ("(old 4)", "\r"),
         ("(old 4)\n", "n"),
         ("(old 4)\n(", "o"),
-        ("(old 4)\n(", "j"),
-        ("(old 4)\n(step 10", ")"),
-        ("(old 4)\n(step 10 (in", "0"),
-        ("(old 4)\n(step 10 (in ", " "),
-        ("(old 4)\n(step 10 (in ", ")"),
-        ("(old 4)\n(step 10 (in 0", "1"),
-        ("(old 4)\n(step 10 (in 0", "\n"),
-        ("(old 4)\n(step 10 (in 0)", ")"),
-        ("(old 4)\n(step 10 (in 0 4294967295", "5"),
-        ("(old 4)\n(step 10 (in 0) (out) (read) (write)", "0"),
-        ("(old 4)\n(new 4)\n(", "n"),
-        ("(old 4)\n(new 4)\n(", "d"),
+        ("(old 4)\n(", "n"),
+        ("(old 4)\n(start 0)\n", "n"),
+        ("(old 4)\n(start 0)\n(", "o"),
+        ("(old 4)\n(start 0)\n(", "j"),
+        ("(old 4)\n(start 0)\n(step 10", ")"),
+        ("(old 4)\n(start 0)\n(step 10 (in", "0"),
+        ("(old 4)\n(start 0)\n(step 10 (in ", " "),
+        ("(old 4)\n(start 0)\n(step 10 (in ", ")"),
+        ("(old 4)\n(start 0)\n(step 10 (in 0", "1"),
+        ("(old 4)\n(start 0)\n(step 10 (in 0", "\n"),
+        ("(old 4)\n(start 0)\n(step 10 (in 0)", ")"),
+        ("(old 4)\n(start 0)\n(step 10 (in 0 4294967295", "5"),
+        (
+            "(old 4)\n(start 0)\n(step 10 (in 0) (out) (read) (write)",
+            "0",
+        ),
+        ("(old 4)\n(start 0)\n(new 4)\n(", "n"),
+        ("(old 4)\n(start 0)\n(new 4)\n(", "j"),
+        ("(old 4)\n(start 0)\n(new 4)\n(start 0)\n(", "n"),
+        ("(old 4)\n(start 0)\n(new 4)\n(start 0)\n(", "d"),
     ] {
         refused(&format!("{begin}{wrong} and more"), 1, begin.len());
         refused(begin, 1, begin.len());
     }
-    let job = "(old 4)\n(new 4)\n(job)\n";
+    let job = "(old 4)\n(start 0)\n(new 4)\n(start 0)\n(job)\n";
     refused(&format!("{job}(step"), 1, job.len() + 1);
     refused(&format!("{job}\n"), 1, job.len());
 }

@@ -6,7 +6,7 @@ use reference::sheet::{job_part, read, read_into, write};
 /// A route's lines with so many steps, each from 0 to 1.
 fn many(word: &str, count: u64) -> String {
     let steps = (1..=count).map(|name| step(name, " 0", " 1", "", ""));
-    format!("({word} 2)\n{}", steps.collect::<String>())
+    format!("({word} 2)\n(start 0)\n{}", steps.collect::<String>())
 }
 
 #[test]
@@ -21,31 +21,32 @@ fn row_4() {
         )
     };
     assert!(read(sheet(64, 64, 64).as_bytes()).is_ok());
-    refused(&sheet(65, 1, 0), 4, 66);
-    refused(&sheet(70, 70, 70), 4, 66);
-    refused(&sheet(1, 65, 0), 4, 68);
-    refused(&sheet(1, 1, 65), 4, 70);
-    refused(&sheet(0, 1, 0), 4, 2);
-    refused(&sheet(1, 0, 0), 4, 4);
-    refused(&sheet(0, 0, 0), 4, 2);
+    refused(&sheet(65, 1, 0), 4, 67);
+    refused(&sheet(70, 70, 70), 4, 67);
+    refused(&sheet(1, 65, 0), 4, 70);
+    refused(&sheet(1, 1, 65), 4, 72);
+    refused(&sheet(0, 1, 0), 4, 3);
+    refused(&sheet(1, 0, 0), 4, 6);
+    refused(&sheet(0, 0, 0), 4, 3);
     // Row 4 goes before row 2 of the same line, an earlier line before both.
-    refused("(old 2)\n(new 0)\n(job)\n", 4, 2);
-    refused("(old 0)\n(new 0)\n(job)\n", 2, 1);
+    refused("(old 2)\n(start 0)\n(new 0)\n(start)\n(job)\n", 4, 3);
+    refused("(old 2)\n(start 2)\n(new 0)\n(start)\n(job)\n", 2, 2);
+    refused("(old 0)\n(start 0)\n(new 0)\n(start)\n(job)\n", 2, 1);
     refused(
         &sheet(64, 1, 0).replace("(new 2)", "(step 0 (in) (out) (read) (write))\n(new 2)"),
         4,
-        66,
+        67,
     );
-    refused(&(sheet(1, 1, 64) + "(done 0)\n"), 4, 70);
+    refused(&(sheet(1, 1, 64) + "(done 0)\n"), 4, 72);
 }
 
 #[test]
 fn row_2() {
-    for (head, line) in [("(old", 1), ("(new", 5)] {
+    for (head, line) in [("(old", 1), ("(new", 6)] {
         for number in [0, 65, 99_999] {
             line_refused(line, &format!("{head} {number})\n"), 2);
         }
-        for line in [line + 1, line + 3] {
+        for line in [line + 2, line + 4] {
             for wrong in [
                 step(0, " 0", " 1", "", " 0"),
                 step(4_294_967_296, " 0", " 1", "", " 0"),
@@ -58,18 +59,18 @@ fn row_2() {
             }
         }
     }
-    for line in [10, 12] {
+    for line in [12, 14] {
         line_refused(line, "(done 0)\n", 2);
         line_refused(line, "(done 4294967296)\n", 2);
     }
     let most = step(4_294_967_295, " 3", " 0", " 31", " 0");
-    assert!(read(with_line(2, &most).as_bytes()).is_ok());
+    assert!(read(with_line(3, &most).as_bytes()).is_ok());
 }
 
 #[test]
 fn row_3() {
     let nine = " 0 1 2 3 4 5 6 7 8";
-    for line in [2, 3, 4, 6, 7, 8] {
+    for line in [3, 4, 5, 8, 9, 10] {
         for wrong in [
             step(99, "", " 1", "", " 0"),
             step(99, " 0", "", "", " 0"),
@@ -83,12 +84,12 @@ fn row_3() {
             line_refused(line, &wrong, 3);
         }
     }
-    for (line, head) in [(1, "(old 9)\n"), (5, "(new 9)\n")] {
+    for (line, head) in [(1, "(old 9)\n"), (6, "(new 9)\n")] {
         for wrong in [step(99, nine, " 1", "", ""), step(99, " 1", nine, "", "")] {
             refused(
-                &with_lines(&[(line, head), (line + 2, &wrong)]),
+                &with_lines(&[(line, head), (line + 3, &wrong)]),
                 3,
-                line + 2,
+                line + 3,
             );
         }
     }
@@ -96,23 +97,23 @@ fn row_3() {
 
 #[test]
 fn row_5() {
-    line_refused(3, &step(10, " 1", " 2", "", ""), 5);
     line_refused(4, &step(10, " 1", " 2", "", ""), 5);
-    line_refused(7, &step(20, " 1", " 2", "", ""), 5);
-    line_refused(8, &step(10, " 1", " 2", "", ""), 5);
+    line_refused(5, &step(10, " 1", " 2", "", ""), 5);
+    line_refused(9, &step(20, " 1", " 2", "", ""), 5);
+    line_refused(10, &step(10, " 1", " 2", "", ""), 5);
     // Rows 2 and 3 of the same line go first, and so does an earlier line.
-    line_refused(3, &step(10, " 1", " 4", "", ""), 2);
-    line_refused(3, &step(10, " 1", "", "", ""), 3);
+    line_refused(4, &step(10, " 1", " 4", "", ""), 2);
+    line_refused(4, &step(10, " 1", "", "", ""), 3);
     let twice = step(10, " 1", " 2", "", "");
     refused(
-        &with_lines(&[(3, &twice), (4, "(step 0 (in) (out) (read) (write))\n")]),
+        &with_lines(&[(4, &twice), (5, "(step 0 (in) (out) (read) (write))\n")]),
         5,
-        3,
+        4,
     );
     refused(
-        &with_lines(&[(2, &step(10, "", "", "", " 32")), (3, &twice)]),
+        &with_lines(&[(3, &step(10, "", "", "", " 32")), (4, &twice)]),
         2,
-        2,
+        3,
     );
 }
 
@@ -126,10 +127,13 @@ fn row_15_of_read() {
     assert_eq!(lent([3, 3, 1]), Err(refusal(15, 2)));
     assert_eq!(lent([3, 2, 0]), Err(refusal(15, 3)));
     // Rows 1 to 5 go first; row 6 and on are not read's.
-    let wrong = with_line(5, "(new 65)\n");
-    assert_eq!(read_into(wrong.as_bytes(), [0; 3]), Err(refusal(2, 5)));
-    let unused = with_line(1, "(old 5)\n");
-    assert_eq!(read_into(unused.as_bytes(), [0; 3]), Err(refusal(15, 3)));
+    let wrong = with_line(6, "(new 65)\n");
+    assert_eq!(read_into(wrong.as_bytes(), [0; 3]), Err(refusal(2, 6)));
+    for unread in [(1, "(old 5)\n"), (2, "(start)\n")] {
+        let unread = with_lines(&[unread]);
+        assert_eq!(read_into(unread.as_bytes(), [0; 3]), Err(refusal(15, 3)));
+        assert!(read_into(unread.as_bytes(), [3; 3]).is_ok());
+    }
 }
 
 #[test]
@@ -144,11 +148,13 @@ fn write_meets_its_rows() {
     assert!(short.iter().all(|&byte| byte == 7));
     let mut wrong = facts.clone();
     wrong.new.steps[1].outs = vec![4];
-    assert_eq!(write(&wrong, &mut short), Err(refusal(2, 7)));
-    // Row 6 is not write's.
+    assert_eq!(write(&wrong, &mut short), Err(refusal(2, 9)));
+    // Rows 6 and 7 are not write's.
     let mut unused = facts;
     unused.old.places = 5;
     assert_eq!(write(&unused, &mut out), Ok(SHEET.len()));
+    unused.new.start.clear();
+    assert_eq!(write(&unused, &mut out), Ok(SHEET.len() - 2));
 }
 
 #[test]
@@ -156,8 +162,9 @@ fn the_job_part() {
     let (answer, part) = job_part(SHEET.as_bytes());
     assert_eq!(answer, Ok(()));
     assert_eq!(part, b"(job)\n(done 10)\n(done 20)\n(done 30)\n");
-    let wrong = with_line(12, "(done 0)\n");
-    assert_eq!(job_part(wrong.as_bytes()), (Err(refusal(2, 12)), &b""[..]));
-    // Row 8 comes later.
-    assert_eq!(job_part(with_line(10, "(done 40)\n").as_bytes()).0, Ok(()));
+    let wrong = with_line(14, "(done 0)\n");
+    assert_eq!(job_part(wrong.as_bytes()), (Err(refusal(2, 14)), &b""[..]));
+    // Rows 7 and 8 come later.
+    assert_eq!(job_part(with_line(7, "(start)\n").as_bytes()).0, Ok(()));
+    assert_eq!(job_part(with_line(12, "(done 40)\n").as_bytes()).0, Ok(()));
 }

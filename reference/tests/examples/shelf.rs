@@ -31,8 +31,8 @@ fn shelf_of(facts: &Sheet) -> Result<Shelf, Refusal> {
 }
 
 #[test]
-fn a_to_k_are_answered_as_their_sheets() {
-    for name in 'A'..='K' {
+fn a_to_l_are_answered_as_their_sheets() {
+    for name in 'A'..='L' {
         let (facts, expected) = letter(name);
         let shelf = shelf_of(&facts).unwrap();
         let answer = shelf.judge(7, 900, &facts.done, &mut [1; WORK]);
@@ -40,9 +40,17 @@ fn a_to_k_are_answered_as_their_sheets() {
     }
 }
 
+/// As an old route: the head is line 1, the start line 2, and 6 goes before 7.
 #[test]
-fn l_has_no_start_and_is_not_stored() {
-    let (facts, expected) = letter('L');
-    assert_eq!(shelf_of(&facts), Err(refusal(7, 1)));
-    assert_eq!(expected, "(refused 7 1)\n");
+fn a_route_with_an_empty_start_is_not_stored() {
+    let mut facts = letter('L').0;
+    facts.new.start.clear();
+    assert_eq!(shelf_of(&facts), Err(refusal(7, 2)));
+    facts.new.places = 3;
+    assert_eq!(shelf_of(&facts), Err(refusal(6, 1)));
+    facts.new.start = vec![3];
+    assert_eq!(shelf_of(&facts), Err(refusal(2, 2)));
+    facts.new.steps.clear();
+    facts.new.start = vec![0];
+    assert_eq!(shelf_of(&facts), Err(refusal(4, 3)));
 }

@@ -12,8 +12,11 @@ fn a_looped_step_reads_what_it_wrote_the_time_before() {
         step(30, " 1", " 2", " 0", " 1"),
     ]
     .concat();
-    let old = format!("(old 5)\n{steps}{}", step(40, " 3", " 4", "", ""));
-    let new = format!("(new 3)\n{steps}");
+    let old = format!(
+        "(old 5)\n(start 0 3)\n{steps}{}",
+        step(40, " 3", " 4", "", "")
+    );
+    let new = format!("(new 3)\n(start 0)\n{steps}");
     let listing = "\
 (moved (kept 4) (dropped 1))
 (after 2 1)
@@ -36,13 +39,16 @@ fn last_two_swapped(data: [(&str, &str); 3]) -> (String, String) {
     };
     let old = [line(0, 0), line(1, 1), line(2, 2)].concat();
     let new = [line(0, 0), line(2, 1), line(1, 2)].concat();
-    (format!("(old 4)\n{old}"), format!("(new 4)\n{new}"))
+    (
+        format!("(old 4)\n(start 0)\n{old}"),
+        format!("(new 4)\n(start 0)\n{new}"),
+    )
 }
 
 #[test]
 fn a_later_write_does_not_slide_before_an_earlier_read() {
     let (old, new) = last_two_swapped([("", " 0"), (" 0", " 1"), ("", " 0")]);
-    lists(&old, &new, &[10, 20, 30], "(refused 13 9)\n");
+    lists(&old, &new, &[10, 20, 30], "(refused 13 11)\n");
 }
 
 #[test]
@@ -65,5 +71,5 @@ fn two_reads_may_change_places() {
 #[test]
 fn a_step_of_the_new_route_is_not_skipped() {
     let (old, new) = last_two_swapped([("", " 0"), ("", " 1"), ("", "")]);
-    lists(&old, &new, &[10, 20, 30], "(refused 13 9)\n");
+    lists(&old, &new, &[10, 20, 30], "(refused 13 11)\n");
 }

@@ -16,14 +16,14 @@ fn function(occurrence: usize, variable: u64, read: &[Held]) -> u64 {
 /// 20 stands after 30.
 fn job() -> Sheet {
     let old = [
-        "(old 5)\n",
+        "(old 5)\n(start 0)\n",
         &step(10, " 0", " 1", "", " 0"),
         &cut(20, " 1", " 2", "", ""),
         &step(30, " 2", " 3", " 0 2", " 1"),
         &cut(40, " 3", " 4", " 1", " 3"),
     ];
     let new = [
-        "(new 5)\n",
+        "(new 5)\n(start 0)\n",
         &step(10, " 0", " 1", "", " 0"),
         &step(30, " 1", " 2", " 0 2", " 1"),
         &cut(20, " 2", " 3", "", ""),

@@ -89,7 +89,7 @@ fn number(most: usize) -> Texts {
 
 fn list(word: &str, most: usize) -> Texts {
     let entries = many(then(exactly(" "), number(most)));
-    chain(vec![exactly(&format!(" ({word}")), entries, exactly(")")])
+    chain(vec![exactly(&format!("({word}")), entries, exactly(")")])
 }
 
 fn line(word: &str, most: usize) -> Texts {
@@ -98,19 +98,19 @@ fn line(word: &str, most: usize) -> Texts {
 }
 
 /// All sheets whose numbers have at most so many digits; steps may have this at
-/// their end.
-fn sheets(most: usize, mark: &Texts) -> Texts {
+/// their end, and heads are followed by such a line.
+fn sheets(most: usize, mark: &Texts, start: &Texts) -> Texts {
     let step = || {
-        let lists = ["in", "out", "read", "write"].map(|word| list(word, most));
+        let lists = ["in", "out", "read", "write"];
+        let lists = lists.map(|word| then(exactly(" "), list(word, most)));
         let [ins, outs, reads, writes] = lists;
         let head = then(exactly("(step "), number(most));
         let end = then(or(Empty, mark.clone()), exactly(")\n"));
         chain(vec![head, ins, outs, reads, writes, end])
     };
-    let old = then(line("old", most), many(step()));
-    let new = then(line("new", most), many(step()));
+    let route = |word: &str| chain(vec![line(word, most), start.clone(), many(step())]);
     let job = then(exactly("(job)\n"), many(line("done", most)));
-    chain(vec![old, new, job])
+    chain(vec![route("old"), route("new"), job])
 }
 
 /// Row 1's second number for these bytes, if they are none of the sheets.
@@ -137,22 +137,32 @@ fn compare(bytes: &[u8], version: &Version, sheets: &Texts) -> usize {
     }
 }
 
+/// The version with start lines where this one has none, and without where it has.
+fn swapped(version: &Version) -> Version {
+    let start = !version.start;
+    Version { start, ..*version }
+}
+
 #[test]
 fn row_1_is_where_no_sheet_begins_so() {
     let seed = crate::seed();
-    println!("layout: seed {seed}, 600 sheets");
-    let present = (Version::PRESENT, 10, exactly(" (cloth)"));
-    let of_01 = (Version::OF_01, 5, None);
-    for (version, most, mark) in [present, of_01] {
-        let sheets = sheets(most, &mark);
+    println!("layout: seed {seed}, 1,000 sheets");
+    let start = then(list("start", 10), exactly("\n"));
+    let present = (Version::PRESENT, 10, exactly(" (cloth)"), start);
+    let of_01 = (Version::OF_01, 5, None, Empty);
+    for (version, most, mark, start) in [present, of_01] {
+        let sheets = sheets(most, &mark, &start);
         let mut dice = Dice::new(seed);
         let mut counts = [0; 3];
-        for _ in 0..600 {
+        for _ in 0..1_000 {
             let mut facts = random::sheet(&mut dice);
             if dice.chance(50) {
                 shorten(&mut facts, &mut dice);
             }
-            let bytes = damage(sheet::text(&facts).as_bytes(), &mut dice);
+            let other = dice.chance(5);
+            let written = if other { swapped(&version) } else { version };
+            let text = sheet::text_by(&facts, &written);
+            let bytes = damage(text.as_bytes(), &mut dice);
             counts[compare(&bytes, &version, &sheets)] += 1;
         }
         println!("{most} digits: whole, broken, ended early: {counts:?}");

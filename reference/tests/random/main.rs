@@ -3,12 +3,14 @@
 mod cloth;
 mod kinds;
 mod kinds_of_cloth;
+mod kinds_of_starts;
 mod layout;
 mod lookup;
 mod names;
 mod orders;
 mod sheets;
 mod shelf;
+mod starts;
 mod values;
 mod version;
 
@@ -17,7 +19,7 @@ use reference::random::{self, dice::mix, dice::Dice};
 use reference::refusal::Refusal;
 use reference::sheet::{self, Sheet};
 
-const SHEETS: u64 = 4_000;
+const SHEETS: u64 = 5_000;
 
 /// The seed of the random sheets; the variable REFERENCE_SEED gives another.
 fn seed() -> u64 {

@@ -94,7 +94,9 @@ fn kind(digits: &str) -> Option<&'static str> {
     }
 }
 
-const WORDS: [&str; 8] = ["old", "new", "step", "in", "out", "read", "write", "done"];
+const WORDS: [&str; 9] = [
+    "old", "new", "start", "step", "in", "out", "read", "write", "done",
+];
 
 #[test]
 fn damage_makes_long_numbers_everywhere() {

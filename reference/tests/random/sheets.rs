@@ -37,6 +37,8 @@ fn every_outcome_is_met() {
         ("search, nothing kept", 12),
         ("search, own order", 120),
         ("search, reordered", 300),
+        ("refused  6", 12),
+        ("refused  7", 30),
         ("refused  8", 30),
         ("refused  9", 60),
         ("refused 10", 100),

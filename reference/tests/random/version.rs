@@ -1,5 +1,6 @@
-//! 01's version of the layout beside the present one: on any sheet its answer
-//! follows from the present one's and from where 01's limits are first passed.
+//! 01's version of the layout beside the present one: on any sheet its answer follows
+//! from the present one's to the sheet with start lines, and from where 01's limits are
+//! first passed.
 
 use crate::for_each_sheet;
 use reference::random::{cloth::clear, damage::damage, names::shorten};
@@ -7,6 +8,9 @@ use reference::refusal::{refuse, Refusal};
 use reference::sheet::{self, read, read_by, Sheet};
 use reference::version::Version;
 use std::collections::BTreeMap;
+
+/// The line that is put behind each head: the first place, which every route has.
+const START: &str = "(start 0)\n";
 
 /// The offset of the first digit with five digits before it.
 fn sixth_digit(bytes: &[u8]) -> Option<usize> {
@@ -34,9 +38,58 @@ fn space_of_a_mark(bytes: &[u8]) -> Option<usize> {
     ends.find(|&end| bytes.get(end) == Some(&b' '))
 }
 
+/// The sheet with a start line behind each of its heads, or what stands there for one.
+fn with_starts(bytes: &[u8]) -> Vec<u8> {
+    let mut sheet = Vec::new();
+    let (mut old, mut new) = (false, false);
+    for (at, line) in bytes.split_inclusive(|&byte| byte == b'\n').enumerate() {
+        sheet.extend(line);
+        let is_old = at == 0 && line.starts_with(b"(old ");
+        let is_new = old && !new && line.starts_with(b"(new ");
+        if (is_old || is_new) && line.ends_with(b"\n") {
+            sheet.extend(START.bytes());
+        }
+        (old, new) = (old || is_old, new || is_new);
+    }
+    sheet
+}
+
+/// What the present version answers to the sheet with start lines; a refusal is that
+/// of the same byte or line without them.
+fn present(bytes: &[u8]) -> Result<Sheet, Refusal> {
+    let sheet = with_starts(bytes);
+    let is_start = |line: &&[u8]| line.starts_with(START.as_bytes());
+    let starts_in = |part: &[u8]| {
+        let lines = part.split_inclusive(|&byte| byte == b'\n');
+        lines
+            .filter(is_start)
+            .count()
+            .min((sheet.len() - bytes.len()) / START.len())
+    };
+    let lines_before = |line: usize| -> usize {
+        let lines = sheet.split_inclusive(|&byte| byte == b'\n');
+        lines.take(line - 1).map(<[u8]>::len).sum()
+    };
+    match read(&sheet) {
+        Ok(mut facts) => {
+            facts.old.start.clear();
+            facts.new.start.clear();
+            Ok(facts)
+        }
+        Err(Refusal { number: 1, second }) => {
+            let starts = starts_in(&sheet[..second]);
+            refuse(1, second - starts * START.len())
+        }
+        Err(Refusal { number, second }) => {
+            let starts = starts_in(&sheet[..lines_before(second)]);
+            refuse(number, second - starts)
+        }
+    }
+}
+
 /// What 01's version answers. An earlier fault goes first; of two on a line row 4.
 fn expected(bytes: &[u8]) -> Result<Sheet, Refusal> {
-    let present = read(bytes);
+    let present = present(bytes);
     let (number, second) = match &present {
         Ok(_) => (0, usize::MAX),
         Err(refusal) => (refusal.number, refusal.second),
@@ -59,7 +112,7 @@ fn number(answer: &Result<Sheet, Refusal>) -> u32 {
 }
 
 #[test]
-fn what_01s_version_reads_the_present_one_reads_alike() {
+fn what_01s_version_reads_the_present_one_reads_with_start_lines() {
     let mut counts: BTreeMap<[u32; 2], usize> = BTreeMap::new();
     for_each_sheet("01's version", &mut |facts, dice| {
         let mut facts = facts.clone();
@@ -69,12 +122,12 @@ fn what_01s_version_reads_the_present_one_reads_alike() {
         if dice.chance(70) {
             clear(&mut facts);
         }
-        let whole = sheet::text(&facts).into_bytes();
+        let whole = sheet::text_by(&facts, &Version::OF_01).into_bytes();
         for bytes in [damage(&whole, dice), whole] {
             let answer = read_by(&bytes, &Version::OF_01);
             let text = String::from_utf8_lossy(&bytes);
             assert_eq!(answer, expected(&bytes), "of sheet\n{text}");
-            let present = read(&bytes);
+            let present = present(&bytes);
             if answer.is_ok() {
                 assert_eq!(answer, present, "of sheet\n{text}");
             }
@@ -87,4 +140,26 @@ fn what_01s_version_reads_the_present_one_reads_alike() {
     for pair in alike.chain([[1, 0], [1, 2], [2, 0]]) {
         assert!(counts.get(&pair) >= Some(&5), "{pair:?}");
     }
+}
+
+/// No sheet reads by both versions: each breaks the other's at its first start line, or
+/// where that is missing.
+#[test]
+fn no_sheet_reads_by_both_versions() {
+    for_each_sheet("both versions", &mut |facts, dice| {
+        let mut facts = facts.clone();
+        shorten(&mut facts, dice);
+        clear(&mut facts);
+        for version in [Version::OF_01, Version::PRESENT] {
+            let text = sheet::text_by(&facts, &version);
+            let head = text.find('\n').unwrap() + 1;
+            let other = [&Version::OF_01, &Version::PRESENT][usize::from(!version.start)];
+            let broken = read_by(text.as_bytes(), other).err();
+            let at = Refusal {
+                number: 1,
+                second: head + 3,
+            };
+            assert_eq!(broken, Some(at), "of sheet\n{text}");
+        }
+    });
 }

@@ -8,10 +8,12 @@ use reference::script::answer;
 /// 20 cuts and writes nothing; on the new route it stands after 30.
 const SHEET: &str = "\
 (old 4)
+(start 0)
 (step 10 (in 0) (out 1) (read) (write 0))
 (step 20 (in 1) (out 2) (read) (write) (cloth))
 (step 30 (in 2) (out 3) (read 0) (write 1))
 (new 4)
+(start 0)
 (step 10 (in 0) (out 1) (read) (write 0))
 (step 30 (in 1) (out 2) (read 0) (write 1))
 (step 20 (in 2) (out 3) (read) (write) (cloth))
@@ -77,16 +79,18 @@ fn a_panel_that_would_have_been_cut_twice() {
 fn two_cuts_in_the_other_order() {
     let sheet = "\
 (old 3)
+(start 0)
 (step 10 (in 0) (out 1) (read) (write) (cloth))
 (step 20 (in 1) (out 2) (read) (write) (cloth))
 (new 3)
+(start 0)
 (step 20 (in 0) (out 1) (read) (write) (cloth))
 (step 10 (in 1) (out 2) (read) (write) (cloth))
 (job)
 (done 10)
 (done 20)
 ";
-    let listing = "(refused 13 7)\n";
+    let listing = "(refused 13 9)\n";
     Letter {
         files: [sheet, listing].map(String::from),
         facts: Facts {
@@ -96,7 +100,7 @@ fn two_cuts_in_the_other_order() {
         },
         run: Ok(4),
         slice: Ok((3, vec![0, 1])),
-        judge: Err([13, 7]),
+        judge: Err([13, 9]),
         searched: true,
         tries: vec![(vec![2, 1], [17, 1, 0]), (vec![1, 2], [18, 1, 0])],
     }
@@ -113,11 +117,11 @@ fn another_mark() {
     let mut facts = facts;
     facts.new.list[2][5] = 0;
     Letter {
-        files: [sheet, "(refused 12 11)\n".into()],
+        files: [sheet, "(refused 12 13)\n".into()],
         facts,
-        judge: Err([12, 11]),
+        judge: Err([12, 13]),
         searched: false,
-        tries: vec![(vec![1, 3, 2], [12, 11, 0])],
+        tries: vec![(vec![1, 3, 2], [12, 13, 0])],
         ..panel()
     }
     .check();
@@ -132,10 +136,10 @@ fn marks_on_a_shelf() {
     let lines = answer(&format!("{puts}22 3 4 3 10 20 30 8192 9\n"));
     let lines: Vec<&str> = lines.lines().collect();
     let shown = |list: &[[u64; 6]]| slice(&padded(&list.concat(), BY_VALUE));
-    let first = [vec![0, 0, 1, 3, 4, 3], shown(&old.list)].concat();
+    let first = [vec![0, 0, 1, 3, 4, 1, 3], shown(&old.list)].concat();
     assert!(lines[0].starts_with(&crate::common::text(&first)));
-    let second = [vec![0, 0, 2, 3, 4, 3], shown(&old.list)].concat();
-    let second = [second, vec![4, 4, 3], shown(&new.list)].concat();
+    let second = [vec![0, 0, 2, 3, 4, 1, 3], shown(&old.list)].concat();
+    let second = [second, vec![4, 4, 1, 3], shown(&new.list)].concat();
     assert!(lines[1].starts_with(&crate::common::text(&second)));
     let judged = answer(&format!("5 {} 8192 9", facts.by_value()));
     assert_eq!(lines[2], judged.trim_end());
@@ -162,8 +166,8 @@ fn a_mark_is_0_or_1() {
         "4294967297",
         "18446744073709551615",
     ] {
-        let list = format!("2 1 10 1 2 0 0 {wrong}");
-        let by_value = format!("2 1 1 10 1 2 0 0 {wrong}");
+        let list = format!("2 1 1 10 1 2 0 0 {wrong}");
+        let by_value = format!("2 1 1 1 10 1 2 0 0 {wrong}");
         for operation in [
             format!("1 1 10 1 2 0 0 {wrong}"),
             format!("2 {by_value} {by_value} 0"),
@@ -184,10 +188,11 @@ fn a_mark_is_0_or_1() {
 #[test]
 fn by_01s_version() {
     let Letter { files, .. } = panel();
-    let sheet = counted(&numbers_of(&files[0]));
+    let sheet = files[0].replace("(start 0)\n", "");
     let space = 8 + 42 + 38;
-    assert_eq!(&files[0][space..space + 2], " (");
-    refused(23, &sheet, [1, space as u64], 2 * (2 + BY_VALUE) + 65);
+    assert_eq!(&sheet[space..space + 2], " (");
+    let sheet = counted(&numbers_of(&sheet));
+    refused(23, &sheet, [1, space as u64], 2 * (3 + BY_VALUE) + 65);
 }
 
 /// A lent slice has at most 21,000 bytes.

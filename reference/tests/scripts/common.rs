@@ -5,10 +5,11 @@ use reference::script::answer;
 
 pub type Numbers = Vec<u64>;
 
-/// A route: its place count, and its records' numbers.
+/// A route: its place count, its start mask, and its records' numbers.
 #[derive(Clone)]
 pub struct Records {
     pub places: u64,
+    pub start: u64,
     pub list: Vec<Step>,
 }
 
@@ -20,9 +21,19 @@ pub struct Facts {
     pub done: Numbers,
 }
 
+/// A route that begins on its first place.
 pub fn records(places: u64, list: &[Step]) -> Records {
+    begun(places, 1, list)
+}
+
+/// A route that begins on the places of this mask.
+pub fn begun(places: u64, start: u64, list: &[Step]) -> Records {
     let list = list.to_vec();
-    Records { places, list }
+    Records {
+        places,
+        start,
+        list,
+    }
 }
 
 /// The facts of example A.
@@ -62,8 +73,8 @@ pub fn counted(numbers: &[u64]) -> String {
 impl Records {
     /// A lent list.
     pub fn lent(&self) -> String {
-        let count = self.list.len();
-        format!("{} {count} {}", self.places, text(&self.list.concat()))
+        let (count, list) = (self.list.len(), text(&self.list.concat()));
+        format!("{} {} {count} {list}", self.places, self.start)
     }
 
     /// A route by value, with as many records.
@@ -74,7 +85,7 @@ impl Records {
     /// A route by value with this `len`.
     pub fn with_len(&self, len: u64) -> String {
         let (count, list) = (self.list.len(), text(&self.list.concat()));
-        format!("{} {len} {count} {list}", self.places)
+        format!("{} {} {len} {count} {list}", self.places, self.start)
     }
 }
 

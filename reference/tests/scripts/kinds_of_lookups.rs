@@ -105,7 +105,7 @@ fn past_len(line: &str) -> bool {
     let mut words = arguments(line);
     let mut past = false;
     for _ in 0..2 {
-        let [_, len, count] = [words.next(), words.next(), words.next()];
+        let [_, _, len, count] = [words.next(), words.next(), words.next(), words.next()];
         past |= count > len;
         for _ in 0..6 * count {
             words.next();

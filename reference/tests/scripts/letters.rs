@@ -1,7 +1,7 @@
-//! 01's examples A to L through scripts, A with long names too: every operation
-//! on the records, by value and lent, and on the sheet.
+//! 01's examples A to L, with start lines, through scripts, A with long names too: every
+//! operation on the records, by value and lent, and on the sheet.
 
-use crate::common::{answers, counted, facts_a, numbers_of, padded, records, slice};
+use crate::common::{answers, begun, counted, facts_a, numbers_of, padded, records, slice};
 use crate::common::{Facts, Numbers, BY_VALUE};
 
 /// A letter's sheet and listing.
@@ -131,9 +131,9 @@ impl Letter {
         let Facts { old, new, done } = &self.facts;
         let lengths = [old.list.len(), new.list.len(), done.len()].map(|n| n as u64);
         let read = [
-            vec![0, 0, old.places, lengths[0]],
+            vec![0, 0, old.places, old.start, lengths[0]],
             padded(&old.list.concat(), BY_VALUE),
-            vec![new.places, lengths[1]],
+            vec![new.places, new.start, lengths[1]],
             padded(&new.list.concat(), BY_VALUE),
             vec![lengths[2]],
             padded(done, 64),
@@ -142,7 +142,8 @@ impl Letter {
         let at = self.files[0].find("(job)\n").unwrap();
         answers(7, &sheet, &slice(&numbers_of(&self.files[0][at..])));
         let into = [
-            vec![0, 0, old.places, lengths[0], new.places, lengths[1]],
+            vec![0, 0, old.places, old.start, lengths[0]],
+            vec![new.places, new.start, lengths[1]],
             vec![lengths[2], lengths[0] + 1],
             old.list.concat(),
             vec![7, 7, 7, 7, 7, 1],
@@ -224,10 +225,8 @@ fn a_with_long_names() {
     }
 }
 
-#[test]
-fn b() {
-    let mut facts = facts_a();
-    facts.done = vec![];
+/// A letter with nothing done, whose new route begins on its first place.
+fn nothing_done(files: [String; 2], facts: Facts) -> Letter {
     let moved = Moved {
         kept: 0,
         dropped: 0,
@@ -237,7 +236,7 @@ fn b() {
         writers: vec![],
     };
     Letter {
-        files: files!("B"),
+        files,
         facts,
         run: Ok(1),
         slice: Ok((0, vec![])),
@@ -245,7 +244,13 @@ fn b() {
         searched: false,
         tries: vec![(vec![], [0, 0, 1]), (vec![1], [16, 1, 0])],
     }
-    .check();
+}
+
+#[test]
+fn b() {
+    let mut facts = facts_a();
+    facts.done = vec![];
+    nothing_done(files!("B"), facts).check();
 }
 
 #[test]
@@ -257,7 +262,7 @@ fn c() {
         facts,
         run: Ok(2),
         slice: Ok((1, vec![])),
-        judge: Err([13, 9]),
+        judge: Err([13, 11]),
         searched: true,
         tries: vec![(vec![1], [18, 1, 0]), (vec![], [16, 1, 0])],
     }
@@ -275,7 +280,7 @@ fn d() {
         facts,
         run: Ok(4),
         slice: Ok((3, vec![0, 1])),
-        judge: Err([13, 9]),
+        judge: Err([13, 11]),
         searched: true,
         tries: vec![(vec![1, 2], [18, 1, 0]), (vec![2, 1], [17, 1, 0])],
     }
@@ -298,9 +303,9 @@ fn e() {
         facts: facts_without_10(3),
         run: Ok(4),
         slice: Ok((3, vec![])),
-        judge: Err([11, 9]),
+        judge: Err([11, 11]),
         searched: false,
-        tries: vec![(vec![1, 2], [11, 9, 0]), (vec![], [11, 9, 0])],
+        tries: vec![(vec![1, 2], [11, 11, 0]), (vec![], [11, 11, 0])],
     }
     .check();
 }
@@ -337,9 +342,9 @@ fn g() {
         facts,
         run: Ok(2),
         slice: Ok((1, vec![])),
-        judge: Err([12, 10]),
+        judge: Err([12, 12]),
         searched: false,
-        tries: vec![(vec![1], [12, 10, 0])],
+        tries: vec![(vec![1], [12, 12, 0])],
     }
     .check();
 }
@@ -348,25 +353,25 @@ fn g() {
 fn h() {
     let mut facts = facts_a();
     facts.done[0] = 40;
-    refused_early(files!("H"), facts, [8, 10]).check();
+    refused_early(files!("H"), facts, [8, 12]).check();
 }
 
 #[test]
 fn i() {
     let mut facts = facts_a();
     facts.done[0] = 30;
-    refused_early(files!("I"), facts, [9, 10]).check();
+    refused_early(files!("I"), facts, [9, 12]).check();
 }
 
 #[test]
 fn j() {
-    let route = records(3, &[[10, 1, 4, 0, 0, 0], [20, 2, 4, 0, 0, 0]]);
+    let route = begun(3, 3, &[[10, 1, 4, 0, 0, 0], [20, 2, 4, 0, 0, 0]]);
     let facts = Facts {
         old: route.clone(),
         new: route,
         done: vec![10, 20],
     };
-    refused_early(files!("J"), facts, [9, 9]).check();
+    refused_early(files!("J"), facts, [9, 11]).check();
 }
 
 #[test]
@@ -408,5 +413,5 @@ fn l() {
         new: route,
         done: vec![],
     };
-    refused_early(files!("L"), facts, [7, 1]).check();
+    nothing_done(files!("L"), facts).check();
 }

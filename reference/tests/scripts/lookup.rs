@@ -149,23 +149,25 @@ fn records_past_len() {
 fn refusals_have_no_totals() {
     let mut facts = facts_a();
     for (done, refusal) in [
-        (&[40][..], [8, 10]),
-        (&[10, 20, 40], [8, 12]),
-        (&[10, 20, 65_566], [8, 12]),
-        (&[30], [9, 10]),
-        (&[10, 20, 20], [9, 12]),
-        (&[10, 0], [2, 11]),
+        (&[40][..], [8, 12]),
+        (&[10, 20, 40], [8, 14]),
+        (&[10, 20, 65_566], [8, 14]),
+        (&[30], [9, 12]),
+        (&[10, 20, 20], [9, 14]),
+        (&[10, 0], [2, 13]),
     ] {
         facts.done = done.to_vec();
         refused(COMPARE, &facts.by_value(), refusal, 2);
     }
     facts.new.list[2][0] = 20;
-    refused(COMPARE, &facts.by_value(), [5, 8], 2);
+    refused(COMPARE, &facts.by_value(), [5, 10], 2);
     facts.old.list[0][2] = 0;
-    refused(COMPARE, &facts.by_value(), [3, 2], 2);
+    refused(COMPARE, &facts.by_value(), [3, 3], 2);
+    facts.old.start = 16;
+    refused(COMPARE, &facts.by_value(), [2, 2], 2);
     // No step, which the new head's line tells.
     let none = records(1, &[]).by_value();
-    refused(COMPARE, &format!("{none} {none} 0"), [4, 2], 2);
+    refused(COMPARE, &format!("{none} {none} 0"), [4, 3], 2);
 }
 
 /// Each takes its own numbers and no more.

@@ -1,5 +1,6 @@
 //! Scripts: worked answers for 01's examples, for wrong records, for shelves, for
-//! look-ups and for cloth, and random scripts held to a direct reading of 01's and 02's definitions.
+//! look-ups, for cloth and for starts, and random scripts held to a direct reading of
+//! 01's and 02's definitions.
 
 mod cloth;
 mod common;
@@ -9,6 +10,8 @@ mod kinds;
 #[path = "../random/kinds_of_cloth.rs"]
 mod kinds_of_cloth;
 mod kinds_of_lookups;
+#[path = "../random/kinds_of_starts.rs"]
+mod kinds_of_starts;
 mod letters;
 mod lookup;
 mod names;
@@ -16,8 +19,10 @@ mod random;
 mod random_cloth;
 mod random_lookups;
 mod random_shelves;
+mod random_starts;
 mod rows;
 mod shelf;
+mod starts;
 mod version;
 mod words;
 mod wrong_lookups;

@@ -9,7 +9,7 @@ use reference::script::{answer, answers};
 use std::collections::BTreeMap;
 use std::sync::OnceLock;
 
-const SCRIPTS: u64 = 1_000;
+const SCRIPTS: u64 = 2_000;
 
 /// The seed of the random scripts; the variable REFERENCE_SEED gives another.
 fn seed() -> u64 {
@@ -181,14 +181,18 @@ impl Words<'_> {
     }
 
     fn route(&mut self, lent: bool) -> Route {
-        let places = self.next();
+        let (places, start) = (self.next(), self.next());
         let len = (!lent).then(|| self.next());
         let count = self.next();
         let mut steps: Vec<Step> = (0..count).map(|_| self.step()).collect();
         if let Some(len) = len {
             steps.resize(len.min(70) as usize, [0; 6]);
         }
-        Route { places, steps }
+        Route {
+            places,
+            start,
+            steps,
+        }
     }
 
     pub fn job(&mut self, operation: u64) -> Job {
@@ -377,9 +381,9 @@ fn what_is_written_is_read_back() {
 
 /// The script that writes what read answered.
 fn rewrite(facts: &[u64], length: usize) -> String {
-    let route = |numbers: &[u64]| format!("{} 64 {}", text(&numbers[..2]), text(&numbers[2..]));
-    let (routes, done) = facts[2..].split_at(2 * (2 + BY_VALUE));
-    let (old, new) = routes.split_at(2 + BY_VALUE);
+    let route = |numbers: &[u64]| format!("{} 64 {}", text(&numbers[..3]), text(&numbers[3..]));
+    let (routes, done) = facts[2..].split_at(2 * (3 + BY_VALUE));
+    let (old, new) = routes.split_at(3 + BY_VALUE);
     let (old, new) = (route(old), route(new));
     let done = counted(&done[1..=done[0] as usize]);
     format!("8 {old} {new} {done} {length} 0")

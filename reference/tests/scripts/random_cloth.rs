@@ -6,7 +6,7 @@ use crate::kinds::Kinds;
 use crate::kinds_of_cloth::{add, only_marks_forbid};
 use crate::random::{arguments, operations};
 use reference::record::Record;
-use reference::sheet::{read, Route, Sheet, MARK};
+use reference::sheet::{entries, read, Route, Sheet, MARK};
 
 fn route(route: &direct::Route) -> Route {
     let step = |&[name, ins, outs, reads, writes, cloth]: &direct::Step| {
@@ -22,11 +22,13 @@ fn route(route: &direct::Route) -> Route {
     };
     Route {
         places: route.places,
+        start: entries(route.start),
         steps: route.steps.iter().map(step).collect(),
     }
 }
 
-fn facts(job: &Job) -> Sheet {
+/// The facts of a job.
+pub fn facts(job: &Job) -> Sheet {
     Sheet {
         old: route(&job.old),
         new: route(&job.new),
@@ -34,7 +36,7 @@ fn facts(job: &Job) -> Sheet {
     }
 }
 
-fn bytes(numbers: Vec<u64>) -> Vec<u8> {
+pub fn bytes(numbers: Vec<u64>) -> Vec<u8> {
     numbers.into_iter().map(|number| number as u8).collect()
 }
 

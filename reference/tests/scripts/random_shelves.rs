@@ -34,6 +34,7 @@ fn scripts() -> &'static [Answered] {
 struct Entry {
     number: u64,
     places: u64,
+    start: u64,
     len: u64,
     records: Vec<u64>,
 }
@@ -49,6 +50,7 @@ impl Entry {
         Entry {
             number: 0,
             places: 0,
+            start: 0,
             len: 0,
             records: vec![0; BY_VALUE],
         }
@@ -57,7 +59,7 @@ impl Entry {
     /// The next entry that an answer shows.
     fn shown(numbers: &mut impl Iterator<Item = u64>) -> Entry {
         let mut next = || numbers.next().unwrap();
-        let [number, places, len, length] = [next(), next(), next(), next()];
+        let [number, places, start, len, length] = [(); 5].map(|()| next());
         assert_eq!(length, BY_VALUE as u64);
         let mut records = Vec::new();
         while records.len() < BY_VALUE {
@@ -69,6 +71,7 @@ impl Entry {
         Entry {
             number,
             places,
+            start,
             len,
             records,
         }
@@ -76,19 +79,32 @@ impl Entry {
 
     /// The next number and route by value that a script gives.
     fn given(words: &mut Words) -> Entry {
-        let [number, places, len] = [words.next(), words.next(), words.next()];
+        let [number, places, start, len] = [(); 4].map(|()| words.next());
         let count = 6 * words.next();
         let records: Vec<u64> = (0..count).map(|_| words.next()).collect();
         Entry {
             number,
             places,
+            start,
             len,
             records: padded(&records, BY_VALUE),
         }
     }
 
     fn by_value(&self) -> String {
-        format!("{} {} 64 {}", self.places, self.len, text(&self.records))
+        let head = text(&[self.places, self.start, self.len]);
+        format!("{head} 64 {}", text(&self.records))
+    }
+
+    fn route(&self) -> direct::Route {
+        let records = self.records.chunks(6);
+        let mut steps: Vec<Step> = records.map(|six| six.try_into().unwrap()).collect();
+        steps.resize(self.len.min(70) as usize, [0; 6]);
+        direct::Route {
+            places: self.places,
+            start: self.start,
+            steps,
+        }
     }
 
     /// The first of the rows 4, 2, 3, 5, 6 and 7 that an old route meets: none
@@ -96,14 +112,10 @@ impl Entry {
     fn refused_as_old(&self) -> Option<Refusal> {
         let new = direct::Route {
             places: 2,
+            start: 1,
             steps: vec![[1, 1, 2, 0, 0, 0]],
         };
-        let records = self.records.chunks(6);
-        let mut steps: Vec<Step> = records.map(|six| six.try_into().unwrap()).collect();
-        steps.resize(self.len.min(70) as usize, [0; 6]);
-        let places = self.places;
-        let old = direct::Route { places, steps };
-        let done = vec![];
+        let (old, done) = (self.route(), vec![]);
         Job { old, new, done }.refused_to_9()
     }
 }
@@ -202,6 +214,12 @@ impl Shelf {
         let routes = [old.by_value(), new.by_value()].join(" ");
         answer(&format!("5 {routes} {} {length} {byte}", counted(&done)))
     }
+}
+
+/// The routes that are put, with the answers.
+pub fn puts() -> impl Iterator<Item = (direct::Route, &'static [u64])> {
+    let those = operations_of(scripts()).filter(|(_, operation, _)| *operation == PUT);
+    those.map(|(line, _, numbers)| (Entry::given(&mut arguments(line)).route(), numbers))
 }
 
 /// What an operation's answer says: its number, and its second one after a 21.

@@ -1,7 +1,7 @@
 //! Records that are wrong at each limit, the lines that writing would give, and
 //! the rows of reading into lent lists, each worked by hand.
 
-use crate::common::{answers, counted, facts_a, numbers_of, padded, records, refused};
+use crate::common::{answers, begun, counted, facts_a, numbers_of, padded, records, refused};
 use crate::common::{Facts, Numbers, BY_VALUE};
 use crate::direct::Step;
 
@@ -39,7 +39,7 @@ fn with(route: usize, record: usize, field: usize, number: u64) -> Facts {
 
 /// The line of a record of example A.
 fn line(route: usize, record: usize) -> u64 {
-    (4 * route + record + 2) as u64
+    (5 * route + record + 3) as u64
 }
 
 #[test]
@@ -47,16 +47,16 @@ fn place_counts() {
     for places in [0, 65, 66, (1 << 32) - 1] {
         let mut facts = facts_a();
         facts.new.places = places;
-        both_refused(&facts, [2, 5]);
+        both_refused(&facts, [2, 6]);
         facts.old.places = places;
         both_refused(&facts, [2, 1]);
     }
     // 64 places are a count in range: some are in no step. 3 are too few.
     let mut facts = facts_a();
     facts.new.places = 64;
-    both_refused(&facts, [6, 5]);
+    both_refused(&facts, [6, 6]);
     facts.new.places = 3;
-    both_refused(&facts, [2, 8]);
+    both_refused(&facts, [2, 10]);
 }
 
 #[test]
@@ -79,20 +79,22 @@ fn names_and_masks_of_each_record() {
             both_refused(&with(route, record, field, number), [row, line]);
         }
     }
-    both_refused(&with(0, 1, 0, 10), [5, 3]);
-    both_refused(&with(0, 2, 0, 10), [5, 4]);
-    both_refused(&with(1, 2, 0, 20), [5, 8]);
+    both_refused(&with(0, 1, 0, 10), [5, 4]);
+    both_refused(&with(0, 2, 0, 10), [5, 5]);
+    both_refused(&with(1, 2, 0, 20), [5, 10]);
 }
 
 #[test]
 fn for_each_line_the_rows_in_turn() {
     let mut facts = with(0, 1, 0, 10);
     facts.old.list[1][2] = 0;
-    both_refused(&facts, [3, 3]);
+    both_refused(&facts, [3, 4]);
     facts.old.list[1][1] = 16;
-    both_refused(&facts, [2, 3]);
+    both_refused(&facts, [2, 4]);
     facts.old.list[0][1] = 0;
-    both_refused(&facts, [3, 2]);
+    both_refused(&facts, [3, 3]);
+    facts.old.start = 17;
+    both_refused(&facts, [2, 2]);
     facts.old.places = 0;
     both_refused(&facts, [2, 1]);
 }
@@ -106,7 +108,7 @@ fn eight_entries_and_nine() {
     answers(2, &facts.by_value(), &[0, 0, 0x1fe]);
     answers(12, &facts.lent(), &[0, 0, 0x1fe]);
     facts.new.list[0][2] = 0x1ff;
-    both_refused(&facts, [3, 4]);
+    both_refused(&facts, [3, 6]);
 }
 
 /// A route with so many right records, each from place 0 to place 1.
@@ -119,24 +121,106 @@ fn many(count: u64) -> Facts {
     }
 }
 
+/// A bit at or above N is row 2 at the start's line; none is 7, after the lines.
+#[test]
+fn start_masks() {
+    let started = |route: usize, start: u64| {
+        let mut facts = facts_a();
+        [&mut facts.old, &mut facts.new][route].start = start;
+        facts
+    };
+    for (route, line) in [(0, 2), (1, 7)] {
+        for start in [16, 1 | 16, 32, 1 << 32, 1 << 63, 15 | 1 << 63, u64::MAX] {
+            both_refused(&started(route, start), [2, line]);
+        }
+        both_refused(&started(route, 0), [7, line]);
+    }
+    // Both: the old one's line comes first.
+    let mut facts = started(0, 16);
+    facts.new.start = 16;
+    both_refused(&facts, [2, 2]);
+    // Of 64 places the last may have a token.
+    let wide = |places: u64| begun(places, 1 << 63, &[[10, 1, 2, 0, 0, 0]]);
+    for (places, refusal) in [(64, [6, 1]), (63, [2, 2])] {
+        let mut facts = facts_a();
+        facts.old = wide(places);
+        both_refused(&facts, refusal);
+    }
+}
+
+/// Masks that the rows let through: the run ends where they say, the new route's
+/// marking is its own, and what is written has them as lists.
+#[test]
+fn other_starts() {
+    let steps = [[10, 1, 2, 0, 0, 0], [20, 2, 4, 0, 0, 0]];
+    let facts = |old: u64, new: u64, done: &[u64]| Facts {
+        old: begun(3, old, &steps),
+        new: begun(3, new, &steps),
+        done: done.to_vec(),
+    };
+    for (old, new) in [(1, 2), (2, 1), (7, 4), (4, 5), (3, 3)] {
+        let facts = facts(old, new, &[]);
+        for (more, text) in [(0, facts.by_value()), (10, facts.lent())] {
+            answers(2 + more, &text, &[0, 0, old]);
+            answers(4 + more, &format!("{text} 0"), &[0, 0, new]);
+        }
+    }
+    for (old, done, answer) in [
+        (1, 10, [0, 0, 2]),
+        (1, 20, [9, 10, 0]),
+        (2, 20, [0, 0, 4]),
+        (2, 10, [9, 10, 0]),
+        (3, 10, [9, 10, 0]),
+        (3, 20, [0, 0, 5]),
+        (5, 10, [0, 0, 6]),
+        (6, 20, [9, 10, 0]),
+    ] {
+        let facts = facts(old, 1, &[done]);
+        answers(2, &facts.by_value(), &answer);
+        answers(12, &facts.lent(), &answer);
+    }
+    let step_lines = "(step 10 (in 0) (out 1) (read) (write))\n\
+                      (step 20 (in 1) (out 2) (read) (write))\n";
+    let written = format!(
+        "(old 3)\n(start 0 2)\n{step_lines}(new 3)\n(start)\n{step_lines}(job)\n(done 10)\n"
+    );
+    let facts = facts(5, 0, &[10]);
+    let length = written.len() as u64;
+    let bytes = crate::common::slice(&numbers_of(&written));
+    for (write, text) in [(8, facts.by_value()), (18, facts.lent())] {
+        let expected = [vec![0, 0, length], bytes.clone()].concat();
+        answers(write, &format!("{text} {length} 0"), &expected);
+    }
+    // And reading gives the masks again, also with no room for the lists.
+    let sheet = counted(&numbers_of(&written));
+    let head = |start, len| vec![3, start, len];
+    let list = padded(&steps.concat(), BY_VALUE);
+    let done = [vec![1], padded(&[10], 64)].concat();
+    let routes = [head(5, 2), list.clone(), head(0, 2), list].concat();
+    answers(6, &sheet, &[vec![0, 0], routes, done].concat());
+    let into = [vec![0, 0, 3, 5, 2, 3, 0, 2, 1, 2], steps.concat()].concat();
+    let into = [into, vec![2], steps.concat(), vec![1, 1, 10]].concat();
+    answers(16, &format!("{sheet} 2 2 1"), &into);
+}
+
 #[test]
 fn a_65th_record() {
     answers(2, &many(64).by_value(), &[0, 0, 2]);
     answers(12, &many(64).lent(), &[0, 0, 2]);
     for count in [65, 66, 100] {
-        all_refused(10, &many(count).lent(), [4, 66]);
+        all_refused(10, &many(count).lent(), [4, 67]);
     }
     // An earlier line's fault goes first, a later one doesn't count.
     let mut facts = many(65);
     facts.old.list[64] = [0; 6];
     facts.new.places = 0;
-    all_refused(10, &facts.lent(), [4, 66]);
+    all_refused(10, &facts.lent(), [4, 67]);
     facts.old.list[63][1] = 0;
-    all_refused(10, &facts.lent(), [3, 65]);
-    // In the new route: its head is line 3.
+    all_refused(10, &facts.lent(), [3, 66]);
+    // In the new route: its head is line 4.
     let mut facts = many(65);
     std::mem::swap(&mut facts.old, &mut facts.new);
-    all_refused(10, &facts.lent(), [4, 68]);
+    all_refused(10, &facts.lent(), [4, 70]);
 }
 
 /// A route by value with this `len` and so many right records.
@@ -148,21 +232,21 @@ fn with_len(len: u64, count: u64) -> String {
 #[test]
 fn a_route_by_value_with_any_len() {
     for len in [65, 66, 256, 1 << 32, u64::MAX] {
-        all_refused(0, &with_len(len, 64), [4, 66]);
+        all_refused(0, &with_len(len, 64), [4, 67]);
         // The fourth record is blank, and its line goes first.
-        all_refused(0, &with_len(len, 3), [2, 5]);
+        all_refused(0, &with_len(len, 3), [2, 6]);
     }
     for len in [4, 64] {
-        all_refused(0, &with_len(len, 3), [2, 5]);
+        all_refused(0, &with_len(len, 3), [2, 6]);
     }
     // Records past `len` don't count.
     let mut facts = many(5);
     facts.old.list[3] = [0; 6];
     let text = |len| format!("{} {} 1 1", facts.old.with_len(len), facts.new.by_value());
     answers(2, &text(3), &[0, 0, 2]);
-    all_refused(0, &text(4), [2, 5]);
-    let written = "(old 2)\n(step 1 (in 0) (out 1) (read) (write))\n\
-                   (new 2)\n(step 1 (in 0) (out 1) (read) (write))\n(job)\n(done 1)\n";
+    all_refused(0, &text(4), [2, 6]);
+    let written = "(old 2)\n(start 0)\n(step 1 (in 0) (out 1) (read) (write))\n\
+                   (new 2)\n(start 0)\n(step 1 (in 0) (out 1) (read) (write))\n(job)\n(done 1)\n";
     let bytes = crate::common::slice(&numbers_of(written));
     let length = written.len() as u64;
     let script = format!("{} {length} 0", text(1));
@@ -174,35 +258,35 @@ fn a_route_with_no_step() {
     let mut facts = many(1);
     facts.new.list.clear();
     facts.done = vec![0; 3];
-    both_refused(&facts, [4, 4]);
+    both_refused(&facts, [4, 6]);
     facts.old.list.clear();
     facts.new.places = 0;
-    both_refused(&facts, [4, 2]);
+    both_refused(&facts, [4, 3]);
     facts.old.places = 0;
     both_refused(&facts, [2, 1]);
-    all_refused(0, &with_len(0, 3), [4, 2]);
+    all_refused(0, &with_len(0, 3), [4, 3]);
 }
 
 #[test]
 fn done_lists_at_their_limits() {
     let mut facts = facts_a();
     facts.done = vec![10, 20, 0];
-    both_refused(&facts, [2, 12]);
+    both_refused(&facts, [2, 14]);
     // Other names are in range; 65,546 is 10 in its last 16 bits.
     for name in [65_535, 65_536, 65_546, (1 << 32) - 1] {
         facts.done = vec![name];
-        both_refused(&facts, [8, 10]);
+        both_refused(&facts, [8, 12]);
     }
     for count in [65, 66, 100] {
         facts.done = vec![10; count];
-        both_refused(&facts, [4, 74]);
+        both_refused(&facts, [4, 76]);
     }
     facts.done[64] = 0;
-    both_refused(&facts, [4, 74]);
+    both_refused(&facts, [4, 76]);
     facts.done[63] = 0;
-    both_refused(&facts, [2, 73]);
+    both_refused(&facts, [2, 75]);
     facts.done = vec![10; 64];
-    both_refused(&facts, [9, 11]);
+    both_refused(&facts, [9, 13]);
 }
 
 #[test]
@@ -210,13 +294,17 @@ fn rows_6_and_7() {
     let mut facts = facts_a();
     facts.new.places = 5;
     facts.done[0] = 40;
-    both_refused(&facts, [6, 5]);
-    facts.old.list[2][2] = 9;
-    both_refused(&facts, [7, 1]);
+    both_refused(&facts, [6, 6]);
+    facts.new.start = 0;
+    both_refused(&facts, [6, 6]);
+    facts.new.places = 4;
+    both_refused(&facts, [7, 7]);
+    facts.old.start = 0;
+    both_refused(&facts, [7, 2]);
     facts.old.places = 5;
     both_refused(&facts, [6, 1]);
-    // They are not write's: the sheet is two bytes longer than A's 312.
-    let written = [15, 314, 0, 0];
+    // They are not write's: both starts are two bytes shorter than in A's 332.
+    let written = [15, 328, 0, 0];
     answers(8, &format!("{} 0 0", facts.by_value()), &written);
     answers(18, &format!("{} 0 0", facts.lent()), &written);
 }
@@ -227,7 +315,7 @@ fn run_and_slice_end_after_row_9() {
     for (more, text) in [(0, facts.by_value()), (10, facts.lent())] {
         answers(2 + more, &text, &[0, 0, 8]);
         answers(3 + more, &text, &padded(&[0, 0, 7, 0, 0, 3], 67));
-        answers(4 + more, &format!("{text} 3 2 1 3"), &[11, 10, 0]);
+        answers(4 + more, &format!("{text} 3 2 1 3"), &[11, 12, 0]);
     }
 }
 
@@ -274,7 +362,7 @@ fn a_straight_job_may_keep_over_16() {
 #[test]
 fn row_10_where_straight_replay_fails() {
     // 10 fills another place, so 20 can't fire.
-    for (count, refusal) in [(17, [10, 7]), (16, [13, 7])] {
+    for (count, refusal) in [(17, [10, 9]), (16, [13, 9])] {
         let mut facts = again(count);
         facts.new = records(3, &[[10, 1, 4, 0, 0, 0], [20, 2, 2, 32, 32, 0]]);
         facts.new.list[1][1] = 4;
@@ -305,16 +393,15 @@ fn reading_into_lists_that_are_too_short() {
             _ => vec![count, count, 7],
         };
         let unchanged = [records(room[0]), records(room[1]), runs(room[2])].concat();
-        let refused = [vec![15, needed, 0, 0, 0, 0, 0], unchanged].concat();
+        let refused = [padded(&[15, needed], 9), unchanged].concat();
         let [old, new, done] = room;
         answers(16, &format!("{bytes} {old} {new} {done}"), &refused);
     }
     // The rows to 5 go first.
     let wrong = sheet.replace("(done 20)", "(done 0)");
     let bytes = counted(&numbers_of(&wrong));
-    let refused = [2, 11, 0, 0, 0, 0, 0, 0, 0, 0];
-    answers(16, &format!("{bytes} 0 0 0"), &refused);
-    answers(6, &bytes, &padded(&[2, 11], 2 + 2 * (2 + BY_VALUE) + 65));
+    refused(16, &format!("{bytes} 0 0 0"), [2, 13], 7 + 3);
+    refused(6, &bytes, [2, 13], 2 * (3 + BY_VALUE) + 65);
     answers(7, &bytes, &[0]);
 }
 
@@ -326,8 +413,10 @@ fn the_longest_sheet_in_a_script() {
         .map(|name| format!("(step {name} {lists} (cloth))\n"))
         .collect();
     let done = "(done 4294967295)\n".repeat(64);
-    let sheet = format!("(old 64)\n{steps}(new 64)\n{steps}(job)\n{done}");
-    assert_eq!(sheet.len(), 20_120);
+    let all: String = (0..64).map(|place| format!(" {place}")).collect();
+    let start = format!("(start{all})\n");
+    let sheet = format!("(old 64)\n{start}{steps}(new 64)\n{start}{steps}(job)\n{done}");
+    assert_eq!(sheet.len(), 20_500);
     let script = counted(&numbers_of(&sheet));
     assert!(script.len() < 65_000);
     let part = format!("(job)\n{done}");

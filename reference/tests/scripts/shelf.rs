@@ -37,7 +37,7 @@ impl Edition {
 
     fn shown(&self) -> Numbers {
         let records = padded(&self.route.list.concat(), BY_VALUE);
-        let head = vec![self.number, self.route.places, self.len];
+        let head = vec![self.number, self.route.places, self.route.start, self.len];
         [head, slice(&records)].concat()
     }
 }
@@ -65,7 +65,7 @@ impl Shelf {
     }
 
     fn shown(&self) -> Numbers {
-        let blank = [0, 0, 0, 384, 384, 0].repeat(8 - self.editions.len());
+        let blank = [0, 0, 0, 0, 384, 384, 0].repeat(8 - self.editions.len());
         let entries: Vec<Numbers> = self.editions.iter().map(Edition::shown).collect();
         [vec![self.len], entries.concat(), blank].concat()
     }
@@ -109,7 +109,7 @@ fn right(number: u64) -> Edition {
     Edition::of(number, facts_a().old)
 }
 
-/// An edition with no step: 4 at line 2.
+/// An edition with no step: 4 at line 3.
 fn without_step(number: u64) -> Edition {
     Edition::of(number, records(1, &[]))
 }
@@ -152,7 +152,7 @@ fn bad_shelves() -> Vec<Shelf> {
 
 #[test]
 fn a_script_begins_with_the_empty_shelf() {
-    let blank = "0 0 0 384 384 0";
+    let blank = "0 0 0 0 384 384 0";
     let shown = format!("0 {}", [blank; 8].join(" "));
     assert_eq!(answer("20 0 0"), format!("{shown}\n"));
     let put = answer(&format!("21 {}", right(5).given()));
@@ -166,7 +166,7 @@ fn a_script_begins_with_the_empty_shelf() {
 fn an_entry_is_shown_in_runs() {
     let route = records(2, &[[10, 1, 2, 0, 0, 0]]);
     let line = answer(&format!("21 {}", Edition::of(7, route).given()));
-    assert!(line.starts_with("0 0 1 7 2 1 384 1 10 1 1 1 2 381 0 0 0 0 384 384 0 "));
+    assert!(line.starts_with("0 0 1 7 2 1 1 384 1 10 1 1 1 2 381 0 0 0 0 0 384 384 0 "));
 }
 
 #[test]
@@ -236,24 +236,38 @@ fn the_routes_own_rows() {
         edition
     };
     let shelf = Shelf::numbered(&[8]);
-    shelf.refuses(&with(0, 0, 0), [2, 2]);
+    shelf.refuses(&with(0, 0, 0), [2, 3]);
     shelf.takes(&with(0, 0, 65_536));
     shelf.takes(&with(0, 0, (1 << 32) - 1));
-    shelf.refuses(&with(2, 1, 16), [2, 4]);
-    shelf.refuses(&with(1, 2, 0), [3, 3]);
-    shelf.refuses(&with(1, 3, 0x1ff), [3, 3]);
-    shelf.refuses(&with(2, 0, 10), [5, 4]);
-    shelf.refuses(&without_step(9), [4, 2]);
-    for (places, refusal) in [(0, [2, 1]), (3, [2, 4]), (5, [6, 1]), (65, [2, 1])] {
+    shelf.refuses(&with(2, 1, 16), [2, 5]);
+    shelf.refuses(&with(1, 2, 0), [3, 4]);
+    shelf.refuses(&with(1, 3, 0x1ff), [3, 4]);
+    shelf.refuses(&with(2, 0, 10), [5, 5]);
+    shelf.refuses(&without_step(9), [4, 3]);
+    for (places, refusal) in [(0, [2, 1]), (3, [2, 5]), (5, [6, 1]), (65, [2, 1])] {
         let mut edition = right(9);
         edition.route.places = places;
         shelf.refuses(&edition, refusal);
     }
-    let closed = with(2, 2, 9);
-    shelf.refuses(&closed, [7, 1]);
-    let mut lone = closed;
+    // A ring is taken: 30 puts the token back on the first place.
+    shelf.takes(&with(2, 2, 9));
+    let started = |start: u64| {
+        let mut edition = right(9);
+        edition.route.start = start;
+        edition
+    };
+    for start in [16, 1 | 16, 1 << 63, u64::MAX] {
+        shelf.refuses(&started(start), [2, 2]);
+    }
+    for start in [1, 2, 8, 15] {
+        shelf.takes(&started(start));
+    }
+    shelf.refuses(&started(0), [7, 2]);
+    let mut lone = started(0);
     lone.route.places = 5;
     shelf.refuses(&lone, [6, 1]);
+    lone.route.list[1][0] = 0;
+    shelf.refuses(&lone, [2, 4]);
 }
 
 #[test]
@@ -263,10 +277,10 @@ fn a_65th_step() {
     empty().takes(&edition);
     for len in [65, 66, 1 << 32, u64::MAX] {
         edition.len = len;
-        empty().refuses(&edition, [4, 66]);
+        empty().refuses(&edition, [4, 67]);
     }
     edition.route.list[63][1] = 0;
-    empty().refuses(&edition, [3, 65]);
+    empty().refuses(&edition, [3, 66]);
     edition.len = 63;
     empty().takes(&edition);
 }
@@ -283,7 +297,7 @@ fn the_order_of_puts_rows() {
     full().refuses(&without_step(65_536), [20, 0]);
     full().refuses(&without_step(9), FULL);
     empty().refuses(&without_step(0), [20, 0]);
-    empty().refuses(&without_step(1), [4, 2]);
+    empty().refuses(&without_step(1), [4, 3]);
 }
 
 /// 14, then 21 with 1, then 19, then judge's own rows.
@@ -298,7 +312,7 @@ fn the_order_of_judges_rows() {
     shelf.refuses_job([3, 5], 0, [14, 0]);
     shelf.refuses_job([5, 3], 8_191, [14, 0]);
     shelf.refuses_job([5, 3], 8_192, [19, 0]);
-    shelf.refuses_job([3, 5], 8_192, [4, 2]);
+    shelf.refuses_job([3, 5], 8_192, [4, 3]);
 }
 
 #[test]
@@ -389,30 +403,30 @@ fn a_job_is_judged_as_its_two_routes_say() {
 fn bad_routes_that_are_stored() {
     let mut lone = right(3);
     lone.route.places = 5;
-    let mut closed = right(6);
-    closed.route.list[2][2] = 9;
+    let mut nowhere = right(6);
+    nowhere.route.start = 0;
     let mut nameless = right(7);
     nameless.route.list[1][0] = 0;
-    let editions = vec![right(1), lone, right(4), without_step(5), closed, nameless];
+    let editions = vec![right(1), lone, right(4), without_step(5), nowhere, nameless];
     let shelf = Shelf::of(editions);
     judges_each_pair(&shelf, &[10, 20]);
-    shelf.refuses_job([1, 3], 8_192, [6, 5]);
+    shelf.refuses_job([1, 3], 8_192, [6, 6]);
     shelf.refuses_job([3, 4], 8_192, [6, 1]);
-    shelf.refuses_job([1, 5], 8_192, [4, 6]);
-    shelf.refuses_job([5, 6], 8_192, [4, 2]);
-    shelf.refuses_job([1, 6], 8_192, [7, 5]);
-    shelf.refuses_job([6, 7], 8_192, [2, 7]);
+    shelf.refuses_job([1, 5], 8_192, [4, 8]);
+    shelf.refuses_job([5, 6], 8_192, [4, 3]);
+    shelf.refuses_job([1, 6], 8_192, [7, 7]);
+    shelf.refuses_job([6, 7], 8_192, [2, 9]);
     // They don't keep put from its work.
     shelf.takes(&right(8));
     let mut long = shelf;
     long.editions[0].len = u64::MAX;
-    long.refuses_job([1, 4], 8_192, [2, 5]);
+    long.refuses_job([1, 4], 8_192, [2, 6]);
 }
 
 #[test]
 fn the_shelf_stays_in_hand() {
     let shelf = Shelf::numbered(&[3, 5]);
-    let between = "22 3 5 1 10 8192 9 22 5 3 0 8192 9 1 1 10 1 2 0 1 0 7 0 21 4 1 0 0";
+    let between = "22 3 5 1 10 8192 9 22 5 3 0 8192 9 1 1 10 1 2 0 1 0 7 0 21 4 1 1 0 0";
     let lines = shelf.answers(&format!("{between} 21 {}", right(6).given()));
     let lines: Vec<&str> = lines.lines().collect();
     let refused = [vec![20, 0], shelf.shown()].concat();

@@ -4,6 +4,7 @@ mod letters;
 mod marks;
 mod orders;
 mod random;
+mod starts;
 
 use reference::judge::WORK;
 use reference::lookup::comparisons;

@@ -72,7 +72,8 @@ fn at_the_ends_of_step_lines() {
         for new in ENDS {
             let (old, new) = (line(old), line(new));
             let done = "(job)\n(done 10)\n(done 20)\n";
-            let sheet = format!("(old 3)\n{old}{other}(new 3)\n{other}{new}{done}");
+            let [first, second] = ["(old 3)\n(start 0)\n", "(new 3)\n(start 0)\n"];
+            let sheet = format!("{first}{old}{other}{second}{other}{new}{done}");
             for len in 0..=sheet.len() {
                 same(&sheet.as_bytes()[..len], WORK, 1_024);
             }

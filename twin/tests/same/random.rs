@@ -41,6 +41,8 @@ fn wide(steps: u32, done: u32) -> String {
             step + 1
         );
     }
+    let even: String = (0..32).map(|place| format!(" {}", 2 * place)).collect();
+    let route = format!("(start{even})\n{route}");
     let mut sheet = format!("(old 64)\n{route}(new 64)\n{route}(job)\n");
     for name in 1..=done {
         sheet += &format!("(done {name})\n");
@@ -71,7 +73,7 @@ fn at_the_limits() {
 /// One step that loops on its place, done 64 times: the longest rows.
 #[test]
 fn on_a_job_with_long_rows() {
-    let route = "(step 4294967295 (in 0) (out 1) (read) (write))\n(step 7 (in 1) (out 1) (read 0) (write 0 31))\n";
+    let route = "(start 0)\n(step 4294967295 (in 0) (out 1) (read) (write))\n(step 7 (in 1) (out 1) (read 0) (write 0 31))\n";
     for done in [1, 15, 16, 17, 63] {
         let sheet = format!(
             "(old 2)\n{route}(new 2)\n{route}(job)\n(done 4294967295)\n{}",

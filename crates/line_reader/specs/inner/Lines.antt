@@ -3,13 +3,14 @@ use Rattle.std.specs.Prelude.{◌≡◌, Bool, true, false, not, ◌&&◌, List,
 use Rattle.version.specs.Limits.{name_fits}
 use Rattle.version.specs.declared.Version.{Version}
 use Rattle.layout.specs.Text.{Form, Lines}
-use Rattle.layout.specs.Parse.{Line, no_line, with_num, stored, form_of, put_step, put_line}
+use Rattle.layout.specs.Points.{list_end, past_line}
+use Rattle.layout.specs.Parse.{Line, no_line, with_num, stored, form_of, put_step, put_start, put_line}
 use Rattle.layout.specs.declared.Word.{Word}
-use Rattle.layout.specs.declared.Word.TheVariants.{Old, New, Job, Done, Step, In, Out, Read, Write, Cloth}
+use Rattle.layout.specs.declared.Word.TheVariants.{Old, New, Job, Done, Step, In, Out, Read, Write, Cloth, Start}
 use Rattle.layout.specs.declared.Part.{Part}
 use Rattle.layout.specs.declared.Part.TheVariants.{OldRoute, NewRoute, JobPart}
 use Rattle.layout.specs.declared.Point.{Point}
-use Rattle.layout.specs.declared.Point.TheVariants.{Open, Digit, Past, Closed}
+use Rattle.layout.specs.declared.Point.TheVariants.{Open, Digit, Past, Gap, Closed}
 use Rattle.layout.specs.inner.Entries.{with_entries}
 use Rattle.tokens.specs.inner.Tokens.{Reading, Breaks, Spells, list_word, no_entries, along}
 use Rattle.tokens.specs.declared.Broken.{Broken}
@@ -31,13 +32,14 @@ head_word Out = false
 head_word Read = false
 head_word Write = false
 head_word Cloth = false
+head_word Start = false
 
 pub record NumberedTo (v : Version) (s : List ℕ) (from : ℕ) (w : List ℕ) (n : Numeral) : Type 0 where
   pub past : from < n.at
   pub within : n.at ≤ length s
   pub goes : (p : Point) (c : Line) (t : Lines) (x : Word) (q : Part) → head_word x ≡ true
       → Spells v s from p c t w (Digit x q) c t → Reading v s from p c t
-      → Reading v s n.at (Open q) no_line (put_line x q (stored x (with_num n.value c)) t)
+      → Reading v s n.at (past_line v x q) no_line (put_line x q (stored x (with_num n.value c)) t)
 
 pub record NumberedBreaks (v : Version) (s : List ℕ) (from : ℕ) (w : List ℕ) (at : ℕ) : Type 0 where
   pub within : at ≤ length s
@@ -56,7 +58,7 @@ pub record ListedTo (v : Version) (s : List ℕ) (from : ℕ) (w : List ℕ) (r 
   pub kept : r.entries ≡ along no_entries entries
   pub goes : (p : Point) (c d : Line) (t : Lines) (x : Word) (q : Part) → list_word x ≡ true
       → Spells v s from p c t w (Past x q) d t → Reading v s from p c t
-      → Reading v s r.at (Closed x q) (with_entries x entries d) t
+      → Reading v s r.at (list_end x q) (with_entries x entries d) t
 
 pub record ListedBreaks (v : Version) (s : List ℕ) (from : ℕ) (w : List ℕ) (at : ℕ) : Type 0 where
   pub within : at ≤ length s
@@ -66,6 +68,23 @@ pub record ListedBreaks (v : Version) (s : List ℕ) (from : ℕ) (w : List ℕ)
 abbrev pub ListedOn : Version → List ℕ → ℕ → List ℕ → Result Listed Broken → Type 0
 ListedOn v s from w (Ok r) = ListedTo v s from w r
 ListedOn v s from w (Err e) = ListedBreaks v s from w e.at
+
+-- what is kept of a start line is that of its places
+pub record StartTo (v : Version) (s : List ℕ) (from : ℕ) (r : Listed) : Type 0 where
+  pub past : from < r.at
+  pub within : r.at ≤ length s
+  pub places : List ℕ
+  pub kept : r.entries ≡ along no_entries places
+  pub goes : (q : Part) (t : Lines) → Reading v s from (Gap Start q) no_line t
+      → Reading v s r.at (Open q) no_line (put_start q places t)
+
+pub record StartBreaks (v : Version) (s : List ℕ) (from at : ℕ) : Type 0 where
+  pub within : at ≤ length s
+  pub goes : (q : Part) (t : Lines) → Reading v s from (Gap Start q) no_line t → Breaks v s at
+
+abbrev pub StartOn : Version → List ℕ → ℕ → Result Listed Broken → Type 0
+StartOn v s from (Ok r) = StartTo v s from r
+StartOn v s from (Err e) = StartBreaks v s from e.at
 
 -- from past the last list of a step's line to the next line: the form is marked where the mark stood
 pub record EndingTo (v : Version) (s : List ℕ) (from : ℕ) (r : Ending) : Type 0 where
@@ -117,8 +136,8 @@ StepOn v s from (Err e) = StepBreaks v s from e.at
 -- ---- rows 2 and 3
 
 unfoldable pub line_fits : Version → ℕ → StepLine → Bool
-line_fits v places l = name_fits v l.name && (leb l.ins.top places
-    && (leb l.outs.top places && (leb l.reads.top 32 && leb l.writes.top 32)))
+line_fits v n l = name_fits v l.name && (leb l.ins.top n
+    && (leb l.outs.top n && (leb l.reads.top 32 && leb l.writes.top 32)))
 
 unfoldable pub entries_fit : Entries → Bool
 entries_fit e = leb e.count 8 && not e.falls

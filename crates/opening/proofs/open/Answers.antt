@@ -1,16 +1,13 @@
 -- `opening::open`: the two tests in turn, on what the pass over the steps found.
 use borrow.Author.Rules.{rules}
-use Rattle.opening.proofs.NetRows.{net-six, net-seven, net-neither, start_is}
+use Rattle.opening.proofs.NetRows.{net-six, net-seven, net-neither}
 use Rattle.opening.proofs.open.Goals as goal
 
 pub returns-then-not-within-clause-outcome : goal.returns-then-not-within-clause-outcome
 returns-then-not-within-clause-outcome c = search (rules, net-six)
 
-pub returns-then-tokens-eq0-clause-outcome : goal.returns-then-tokens-eq0-clause-outcome
-returns-then-tokens-eq0-clause-outcome c = search (rules, net-seven)
+pub returns-then-places-eq0-clause-outcome : goal.returns-then-places-eq0-clause-outcome
+returns-then-places-eq0-clause-outcome c = search (rules, net-seven)
 
 pub returns-clause-outcome : goal.returns-clause-outcome
 returns-clause-outcome c = search (rules, net-neither)
-
-pub returns-clause-start : goal.returns-clause-start
-returns-clause-start c = search (rules, start_is)

@@ -3,17 +3,19 @@ use Rattle.std.specs.Prelude.{◌≡◌, true, List, [], ◌∷◌, ℕ, ◌+◌
 use Rattle.refusal.specs.Refusal.{outcome_of}
 use Rattle.refusal.specs.declared.Outcome.{Outcome}
 use Rattle.refusal.specs.declared.Refusal.{Refusal}
-use Rattle.route.specs.Steps.{blank}
+use Rattle.route.specs.Steps.{blank, no_places}
 use Rattle.route.specs.declared.Step.{Step}
+use Rattle.route.specs.declared.Places.{Places}
 use Rattle.route.specs.declared.Route.{Route}
 use Rattle.version.specs.declared.Version.{Version}
 use Rattle.layout.specs.Text.{Form, Lines}
-use Rattle.layout.specs.Parse.{no_line}
+use Rattle.layout.specs.Points.{past_head}
+use Rattle.layout.specs.Parse.{no_line, put_start}
 use Rattle.layout.specs.declared.Part.{Part}
 use Rattle.layout.specs.declared.Part.TheVariants.{OldRoute, NewRoute, JobPart}
 use Rattle.layout.specs.declared.Point.TheVariants.{Open}
-use Rattle.facts.specs.Facts.{State, failed, settled, headed, with_old, with_new, old_head, new_head, job_head, done_in}
-use Rattle.facts.specs.Facts.{step_in, more, nothing}
+use Rattle.facts.specs.Facts.{State, failed, settled, with_old, with_new, old_head, new_head, job_head, done_in, step_in}
+use Rattle.facts.specs.Facts.{more, more_start, nothing}
 use Rattle.facts.specs.declared.Sheet.{Sheet}
 use Rattle.tokens.specs.inner.Tokens.{Reading, Breaks}
 use Rattle.tokens.specs.declared.Broken.{Broken}
@@ -34,10 +36,12 @@ back_dones v (n ∷ l) k = more (λ i s. done_in v i n s) (back_dones v l k)
 
 -- after the lines of a part
 unfoldable pub old_state : Version → Lines → State
-old_state v t = back_steps v OldRoute t.old (more (λ i s. old_head i t.old_places s) nothing)
+old_state v t = back_steps v OldRoute t.old (more_start v OldRoute t.old_start
+    (more (λ i s. old_head i t.old_places s) nothing))
 
 unfoldable pub new_state : Version → Lines → State
-new_state v t = back_steps v NewRoute t.new (more (λ i s. new_head i t.new_places s) (old_state v t))
+new_state v t = back_steps v NewRoute t.new (more_start v NewRoute t.new_start
+    (more (λ i s. new_head i t.new_places s) (old_state v t)))
 
 unfoldable pub job_state : Version → Lines → State
 job_state v t = back_dones v t.done (more job_head (new_state v t))
@@ -59,6 +63,13 @@ pub record Prefix (v : Version) (s : List ℕ) (i : ℕ) (q : Part) (k : State) 
   pub reading : Reading v s i (Open q) no_line lines
   pub state : state_of v q lines ≡ k
 
+-- past a head's line, after lines that gave k: its start line follows, or none where the version has none
+pub record Headed (v : Version) (s : List ℕ) (i : ℕ) (q : Part) (k : State) : Type 0 where
+  pub lines : Lines
+  pub reading : Reading v s i (past_head v q) no_line lines
+  pub starts : (l : List ℕ) → state_of v q (put_start q l lines) ≡ more_start v q l k
+  pub none : state_of v q lines ≡ more_start v q [] k
+
 -- that many lines, their outcome, and their facts where none is refused
 abbrev pub passed : ℕ → Outcome → Sheet → State
 passed n o z = record { lines = n; sheet = settled o z }
@@ -74,12 +85,39 @@ pub record Placed (s : List ℕ) (p : Pass) : Type 0 where
 abbrev pub NoStep : List ℕ → ℕ → Type 0
 NoStep s i = get_or s (i + 1) 0 ≡ 115 → ⊥
 
-abbrev pub bare : ℕ → Route
+unfoldable pub with_route : Part → Route → Sheet → Sheet
+with_route OldRoute r z = with_old r z
+with_route NewRoute r z = with_new r z
+with_route JobPart r z = z
+
+-- a route of which only the places are known
+abbrev pub bare : Places → Route
 bare n = record { places = n; len = 0; steps = replicate 64 blank }
+
+-- what a head's line tells of the places
+abbrev pub unstarted : ℕ → Places
+unstarted n = record { count = n; start = 0 }
+
+-- the start line, where the version has one: the mask is that of its places where no row refuses
+pub record StartLineTo (v : Version) (s : List ℕ) (p : Pass) (count : ℕ) (r : Head) : Type 0 where
+  pub placed : Placed s r.pass
+  pub fits : (outcome_of r.pass.rows).number ≡ 0 → r.places.count ≤ 64
+  pub goes : (q : Part) (z : Sheet) → has_steps q ≡ true → z.number ≡ 0
+      → Headed v s p.at q (passed p.lines (outcome_of p.rows) (with_route q (bare (unstarted count)) z))
+      → Prefix v s r.pass.at q (passed r.pass.lines (outcome_of r.pass.rows) (with_route q (bare r.places) z))
+
+-- it breaks, whatever the lines gave
+pub record StartLineBreaks (v : Version) (s : List ℕ) (p : Pass) (at : ℕ) : Type 0 where
+  pub within : at ≤ length s
+  pub goes : (q : Part) (k : State) → Headed v s p.at q k → Breaks v s at
+
+abbrev pub StartLineOn : Version → List ℕ → Pass → ℕ → Result Head Broken → Type 0
+StartLineOn v s p count (Ok r) = StartLineTo v s p count r
+StartLineOn v s p count (Err e) = StartLineBreaks v s p e.at
 
 pub record OldTo (v : Version) (s : List ℕ) (r : Head) : Type 0 where
   pub placed : Placed s r.pass
-  pub fits : (outcome_of r.pass.rows).number ≡ 0 → r.places ≤ 64
+  pub fits : (outcome_of r.pass.rows).number ≡ 0 → r.places.count ≤ 64
   pub goes : Prefix v s r.pass.at OldRoute
       (passed r.pass.lines (outcome_of r.pass.rows) (with_old (bare r.places) (failed 0 0)))
 
@@ -87,22 +125,41 @@ abbrev pub OldOn : Version → List ℕ → Result Head Broken → Type 0
 OldOn v s (Ok r) = OldTo v s r
 OldOn v s (Err e) = Breaks v s e.at
 
+-- the new route's head without its start line
+pub record NewLineTo (v : Version) (s : List ℕ) (p : Pass) (above : ℕ) (r : Head) : Type 0 where
+  pub placed : Placed s r.pass
+  pub fits : (outcome_of r.pass.rows).number ≡ 0 → r.places.count ≤ 64
+  pub goes : (z : Sheet) → z.number ≡ 0 → z.old.len ≡ above → NoStep s p.at
+      → Prefix v s p.at OldRoute (passed p.lines (outcome_of p.rows) (with_new (bare no_places) z))
+      → Headed v s r.pass.at NewRoute
+      (passed r.pass.lines (outcome_of r.pass.rows) (with_new (bare (unstarted r.places.count)) z))
+
+-- and with it
 pub record NewTo (v : Version) (s : List ℕ) (p : Pass) (above : ℕ) (r : Head) : Type 0 where
   pub placed : Placed s r.pass
-  pub fits : (outcome_of r.pass.rows).number ≡ 0 → r.places ≤ 64
+  pub fits : (outcome_of r.pass.rows).number ≡ 0 → r.places.count ≤ 64
   pub goes : (z : Sheet) → z.number ≡ 0 → z.old.len ≡ above → NoStep s p.at
-      → Prefix v s p.at OldRoute (passed p.lines (outcome_of p.rows) z)
+      → Prefix v s p.at OldRoute (passed p.lines (outcome_of p.rows) (with_new (bare no_places) z))
       → Prefix v s r.pass.at NewRoute
-      (passed r.pass.lines (outcome_of r.pass.rows) (with_new (headed r.places z.new) z))
+      (passed r.pass.lines (outcome_of r.pass.rows) (with_new (bare r.places) z))
+
+pub record NewBreaks (v : Version) (s : List ℕ) (p : Pass) (above at : ℕ) : Type 0 where
+  pub within : at ≤ length s
+  pub goes : (z : Sheet) → z.number ≡ 0 → z.old.len ≡ above → NoStep s p.at
+      → Prefix v s p.at OldRoute (passed p.lines (outcome_of p.rows) (with_new (bare no_places) z)) → Breaks v s at
 
 -- below the steps of the part q a head's line breaks, whatever the lines gave
 pub record HeadBreaks (v : Version) (s : List ℕ) (p : Pass) (q : Part) (at : ℕ) : Type 0 where
   pub within : at ≤ length s
   pub goes : (k : State) → NoStep s p.at → Prefix v s p.at q k → Breaks v s at
 
+abbrev pub NewLineOn : Version → List ℕ → Pass → ℕ → Result Head Broken → Type 0
+NewLineOn v s p above (Ok r) = NewLineTo v s p above r
+NewLineOn v s p above (Err e) = HeadBreaks v s p OldRoute e.at
+
 abbrev pub NewOn : Version → List ℕ → Pass → ℕ → Result Head Broken → Type 0
 NewOn v s p above (Ok r) = NewTo v s p above r
-NewOn v s p above (Err e) = HeadBreaks v s p OldRoute e.at
+NewOn v s p above (Err e) = NewBreaks v s p above e.at
 
 pub record JobTo (s : List ℕ) (p : Pass) (above : ℕ) (r : Pass) : Type 0 where
   pub placed : Placed s r
@@ -116,26 +173,22 @@ JobOn s p above (Err e) = (v : Version) → HeadBreaks v s p NewRoute e.at
 
 -- ---- steps and done names
 
-unfoldable pub with_route : Part → Route → Sheet → Sheet
-with_route OldRoute r z = with_old r z
-with_route NewRoute r z = with_new r z
-with_route JobPart r z = z
+pub record StepsTo (v : Version) (s : List ℕ) (p : Pass) (places : Places) (r : Filled) (list : List Step) : Type 0
+  where
+    pub placed : Placed s r.pass
+    pub few : r.len ≤ 64
+    pub over : NoStep s r.pass.at
+    pub goes : (q : Part) (z : Sheet) → has_steps q ≡ true → z.number ≡ 0
+        → Prefix v s p.at q (passed p.lines (outcome_of p.rows) (with_route q (bare places) z))
+        → Prefix v s r.pass.at q (passed r.pass.lines (outcome_of r.pass.rows)
+        (with_route q (record { places = places; len = r.len; steps = list }) z))
 
-pub record StepsTo (v : Version) (s : List ℕ) (p : Pass) (places : ℕ) (r : Filled) (list : List Step) : Type 0 where
-  pub placed : Placed s r.pass
-  pub few : r.len ≤ 64
-  pub over : NoStep s r.pass.at
-  pub goes : (q : Part) (z : Sheet) → has_steps q ≡ true → z.number ≡ 0
-      → Prefix v s p.at q (passed p.lines (outcome_of p.rows) (with_route q (bare places) z))
-      → Prefix v s r.pass.at q (passed r.pass.lines (outcome_of r.pass.rows)
-      (with_route q (record { places = places; len = r.len; steps = list }) z))
-
-pub record StepsBreak (v : Version) (s : List ℕ) (p : Pass) (places at : ℕ) : Type 0 where
+pub record StepsBreak (v : Version) (s : List ℕ) (p : Pass) (places : Places) (at : ℕ) : Type 0 where
   pub within : at ≤ length s
   pub goes : (q : Part) (z : Sheet) → has_steps q ≡ true → z.number ≡ 0
       → Prefix v s p.at q (passed p.lines (outcome_of p.rows) (with_route q (bare places) z)) → Breaks v s at
 
-abbrev pub StepsOn : Version → List ℕ → Pass → ℕ → Result Filled Broken → List Step → Type 0
+abbrev pub StepsOn : Version → List ℕ → Pass → Places → Result Filled Broken → List Step → Type 0
 StepsOn v s p places (Ok r) list = StepsTo v s p places r list
 StepsOn v s p places (Err e) list = StepsBreak v s p places e.at
 

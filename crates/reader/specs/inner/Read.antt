@@ -2,6 +2,7 @@
 use Rattle.std.specs.Prelude.{◌≡◌, List, ℕ, ◌≤◌, Result, Ok, Err}
 use Rattle.flat.specs.Flat.{steps_in}
 use Rattle.route.specs.declared.Step.{Step}
+use Rattle.route.specs.declared.Places.{Places}
 use Rattle.route.specs.declared.Route.{Route}
 use Rattle.version.specs.Limits.{present}
 use Rattle.version.specs.declared.Version.{Version}
@@ -40,5 +41,5 @@ abbrev pub ReadTo : List ℕ → Counts → List ℕ → List ℕ → List ℕ �
 ReadTo s r old new done = ReadInto present s r old new done
 
 -- a route by value of these steps
-abbrev pub route_in : ℕ → ℕ → List Step → Route
+abbrev pub route_in : Places → ℕ → List Step → Route
 route_in n k l = record { places = n; len = k; steps = l }

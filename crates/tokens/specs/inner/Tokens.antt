@@ -4,14 +4,14 @@ use Rattle.std.specs.Int.Bits.{bit_or}
 use Rattle.mask.specs.Mask.{bit}
 use Rattle.version.specs.declared.Version.{Version}
 use Rattle.layout.specs.Text.{Lines}
-use Rattle.layout.specs.Points.{alive, next}
+use Rattle.layout.specs.Points.{alive, list_end, next}
 use Rattle.layout.specs.Parse.{Line, Parsed, with_num, took, keep, at_end, run, parse}
 use Rattle.layout.specs.inner.Entries.{with_entries}
 use Rattle.layout.specs.declared.Word.{Word}
-use Rattle.layout.specs.declared.Word.TheVariants.{Old, New, Job, Done, Step, In, Out, Read, Write, Cloth}
+use Rattle.layout.specs.declared.Word.TheVariants.{Old, New, Job, Done, Step, In, Out, Read, Write, Cloth, Start}
 use Rattle.layout.specs.declared.Part.{Part}
 use Rattle.layout.specs.declared.Point.{Point}
-use Rattle.layout.specs.declared.Point.TheVariants.{Past, Digit, Digits, Closed, Stuck}
+use Rattle.layout.specs.declared.Point.TheVariants.{Past, Digit, Digits, Stuck}
 use Rattle.tokens.specs.declared.Broken.{Broken}
 use Rattle.tokens.specs.declared.Numeral.{Numeral}
 use Rattle.tokens.specs.declared.Entries.{Entries}
@@ -89,7 +89,7 @@ NumberOn v s from (Err e) = NumberBreaks v s from e.at
 
 -- ---- a list
 
--- the four words that head a list
+-- the five words that head a list
 unfoldable pub list_word : Word → Bool
 list_word Old = false
 list_word New = false
@@ -101,6 +101,7 @@ list_word Out = true
 list_word Read = true
 list_word Write = true
 list_word Cloth = false
+list_word Start = true
 
 abbrev pub no_entries : Entries
 no_entries = record { mask = 0; top = 0; count = 0; falls = false }
@@ -126,7 +127,7 @@ pub record ListTo (v : Version) (s : List ℕ) (from : ℕ) (r : Listed) : Type 
   pub entries : List ℕ
   pub kept : r.entries ≡ along no_entries entries
   pub goes : (w : Word) (q : Part) (c : Line) (t : Lines) → list_word w ≡ true → Reading v s from (Past w q) c t
-      → Reading v s r.at (Closed w q) (with_entries w entries c) t
+      → Reading v s r.at (list_end w q) (with_entries w entries c) t
 
 pub record ListBreaks (v : Version) (s : List ℕ) (from at : ℕ) : Type 0 where
   pub later : from ≤ at

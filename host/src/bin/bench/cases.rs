@@ -13,6 +13,7 @@ pub struct Case {
 /// and panels and patches are cut side by side.
 const OLD: &str = "\
 (old 15)
+(start 0)
 (step 110 (in 0) (out 1 2) (read) (write 0 1))
 (step 120 (in 1) (out 3) (read 0) (write 2))
 (step 130 (in 2) (out 4) (read 1) (write 3))
@@ -31,6 +32,7 @@ const OLD: &str = "\
 /// patches before panels, and corner rings (210) before the last check.
 const NEW: &str = "\
 (new 13)
+(start 0)
 (step 110 (in 0) (out 1) (read) (write 0 1))
 (step 130 (in 1) (out 2) (read 1) (write 3))
 (step 140 (in 2) (out 3) (read 3) (write 4))
@@ -107,9 +109,9 @@ fn entry(number: u32) -> String {
     format!(" {number}")
 }
 
-/// Both routes of these places and steps.
-fn both(places: u32, steps: &str, done: &[u32]) -> String {
-    let route = |word: &str| format!("({word} {places})\n{steps}");
+/// Both routes of these places, start and steps.
+fn both(places: u32, start: &str, steps: &str, done: &[u32]) -> String {
+    let route = |word: &str| format!("({word} {places})\n(start{start})\n{steps}");
     sheet(&route("old"), &route("new"), done)
 }
 
@@ -131,21 +133,23 @@ fn full(order: fn(Vec<String>) -> String) -> String {
         step(1_000 + i, &from, &to, &entry((i + 31) % 32), &entry(i % 32))
     };
     let done: Vec<u32> = (1_000..1_064).collect();
-    both(64, &order((0..64).map(line).collect()), &done)
+    both(64, " 0", &order((0..64).map(line).collect()), &done)
 }
 
 /// A step that loops on its place, done 63 times, each after all before.
 fn looped() -> String {
     let steps = step(10, " 0", " 1", "", " 0") + &step(20, " 1", " 1", " 0", " 0 1 2 3 4 5 6 7");
     let done: Vec<u32> = [10].into_iter().chain([20; 63]).collect();
-    both(2, &steps, &done)
+    both(2, " 0", &steps, &done)
 }
 
 /// 16 kept. In the new route they stand side by side, save that the last two
 /// take the same token: every set without one of these is looked at, and none
 /// of the 49,152 leads to an order.
 fn worst() -> String {
-    let (mut old, mut new) = ("(old 17)\n".to_string(), "(new 31)\n".to_string());
+    let start: String = (0..15).map(entry).collect();
+    let mut old = "(old 17)\n(start 0)\n".to_string();
+    let mut new = format!("(new 31)\n(start{start})\n");
     for i in 0..16 {
         let (name, writes) = (100 + i, entry(i));
         old += &step(name, &entry(i), &entry(i + 1), "", &writes);
@@ -155,13 +159,14 @@ fn worst() -> String {
     sheet(&old, &new, &done)
 }
 
-/// The longest sheet that reads, 20,120 bytes, with a mark on every step. Its places
-/// below 10 are in no step, so row 6 refuses it.
+/// The longest sheet that reads, 20,500 bytes, with a token on every place and a mark
+/// on every step. Its places below 20 are in no step, so row 6 refuses it.
 fn longest() -> String {
     let list: String = (0..8).map(|i| entry(20 + i)).collect();
     let steps: String = (0..64)
         .map(|i| step(4_000_000_000 + i, &list, &list, &list, &list))
         .collect();
     let steps = steps.replace("))\n", ") (cloth))\n");
-    both(64, &steps, &[u32::MAX; 64])
+    let start: String = (0..64).map(entry).collect();
+    both(64, &start, &steps, &[u32::MAX; 64])
 }

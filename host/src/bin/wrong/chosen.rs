@@ -3,7 +3,7 @@
 
 use reference::judge::WORK;
 use reference::random::records::Facts;
-use reference::script::writing::{self, bytes, fill, operation};
+use reference::script::writing::{self, bytes, fill, operation, read_by_01};
 use reference::sheet::{self, Route, Sheet, Step};
 
 pub const SLICE: u64 = 3;
@@ -36,9 +36,16 @@ pub fn cloth(step: Step) -> Step {
     }
 }
 
+/// A route that begins on its first place.
 pub fn route(places: u64, steps: &[Step]) -> Route {
+    begun(places, &[0], steps)
+}
+
+/// A route that begins on these places.
+pub fn begun(places: u64, start: &[u64], steps: &[Step]) -> Route {
     Route {
         places,
+        start: start.to_vec(),
         steps: steps.to_vec(),
     }
 }
@@ -58,6 +65,13 @@ pub fn on_records(number: u64, job: &Sheet, last: &[String]) -> String {
 
 pub fn read(text: &str) -> String {
     writing::read(text.as_bytes())
+}
+
+/// The sheet read by the present version, and without its start lines by 01's.
+pub fn read_by_both(text: &str) -> String {
+    let lines = text.split_inclusive('\n');
+    let of_01: String = lines.filter(|line| !line.starts_with("(start")).collect();
+    read(text) + &read_by_01(of_01.as_bytes())
 }
 
 pub fn print(job: &Sheet, out: usize) -> String {
@@ -148,9 +162,17 @@ fn searches() -> String {
     let round = step(30, [&[1], &[1]], [&[1], &[2]]);
     let taken = [one([&[1], &[2]]), two([&[0], &[1]]), round];
     [
-        judge(&job(&route(4, &old), &route(4, &new), &[10, 20, 30])),
+        judge(&job(
+            &route(4, &old),
+            &begun(4, &[0, 1], &new),
+            &[10, 20, 30],
+        )),
         judge(&job(&route(4, &old), &route(3, &taken), &[10, 20, 30])),
-        judge(&job(&route(3, &old[..2]), &route(3, &new[..2]), &[10, 20])),
+        judge(&job(
+            &route(3, &old[..2]),
+            &begun(3, &[0, 1], &new[..2]),
+            &[10, 20],
+        )),
     ]
     .concat()
 }

@@ -68,7 +68,7 @@ fn ordered() -> String {
     let turned = chain(&[CUT_10, CUT_40, CUT_20]);
     let two = chain(&[CUT_10, CUT_20]);
     let mut beside = two.clone();
-    beside.places = 4;
+    (beside.places, beside.start) = (4, vec![0, 2]);
     (beside.steps[1].ins, beside.steps[1].outs) = (vec![2], vec![3]);
     let mut round = two.clone();
     round.places = 2;

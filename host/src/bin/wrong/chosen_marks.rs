@@ -1,12 +1,11 @@
 //! The mark in sheets, in records and on a shelf: one of these operations tells each
 //! edit that drops it, or reads or writes it elsewhere, from the right program.
 
-use crate::chosen::{cloth, job, on_records, read, route, step, LENT, READ_INTO, SLICE, WRITE};
+use crate::chosen::{cloth, job, on_records, read_by_both, route, step};
+use crate::chosen::{LENT, READ_INTO, SLICE, WRITE};
 use reference::judge::WORK;
 use reference::random::records::Records;
-use reference::script::writing::{
-    bytes, fill, hand_in, judge_editions, operation, put, read_by_01,
-};
+use reference::script::writing::{bytes, fill, hand_in, judge_editions, operation, put};
 use reference::sheet::{self, Route, Sheet, Step};
 use reference::shelf::{Edition, Shelf};
 
@@ -49,8 +48,7 @@ fn written() -> String {
             on_records(WRITE, job, &[fill(text.len(), 9)]),
             on_records(WRITE + LENT, job, &[fill(text.len(), 9)]),
             on_records(WRITE, job, &[fill(text.len() - 1, 9)]),
-            read(&text),
-            read_by_01(text.as_bytes()),
+            read_by_both(&text),
             operation(READ_INTO, &into),
         ]
         .concat()
@@ -80,10 +78,7 @@ fn places() -> String {
         ("(write))", "(write) (write))"),
         ("(done 10)", "(done 10 (cloth))"),
     ];
-    let each = |(from, to): &(&str, &str)| {
-        let text = plain.replacen(from, to, 1);
-        read(&text) + &read_by_01(text.as_bytes())
-    };
+    let each = |(from, to): &(&str, &str)| read_by_both(&plain.replacen(from, to, 1));
     ends.iter().map(each).collect()
 }
 

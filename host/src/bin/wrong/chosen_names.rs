@@ -1,9 +1,10 @@
 //! Long names and long numbers: one of these operations tells each edit of their
 //! limits, or one that cuts a name down, from the right program.
 
-use crate::chosen::{cloth, job, judge, on_records, print, read, route, step, JUDGE, LENT, WRITE};
+use crate::chosen::{begun, cloth, job, judge, on_records, print, read, read_by_both};
+use crate::chosen::{route, step, JUDGE, LENT, WRITE};
 use reference::judge::WORK;
-use reference::script::writing::{bytes, fill, operation, read_by_01};
+use reference::script::writing::{bytes, fill, operation};
 use reference::sheet::{self, Route, Sheet, Step};
 
 const RUN: u64 = 2;
@@ -26,6 +27,7 @@ pub fn script() -> String {
         numbers("step 1", &names),
         numbers("done 1", &names),
         numbers("old 2", &[100_000, 4_294_967_298, 10_000_000_002]),
+        numbers("start 0", &[100_000, 4_294_967_296, 10_000_000_000]),
         numbers("in 0", &[100_000, 4_294_967_296, 10_000_000_000]),
         numbers("read 0", &[100_000, 4_294_967_296, 10_000_000_000]),
         long_names(),
@@ -47,7 +49,7 @@ fn numbers(word_and_number: &str, longer: &[u64]) -> String {
 
 /// A sheet that moves straight, with another number behind a word.
 fn with_number(word_and_number: &str, number: u64) -> String {
-    let route = "2)\n(step 1 (in 0) (out 1) (read 0) (write))\n";
+    let route = "2)\n(start 0)\n(step 1 (in 0) (out 1) (read 0) (write))\n";
     let text = format!("(old {route}(new {route}(job)\n(done 1)\n");
     let word = word_and_number.trim_end_matches(|c: char| c.is_ascii_digit());
     text.replacen(word_and_number, &format!("{word}{number}"), 1)
@@ -60,9 +62,7 @@ fn both_versions() -> String {
     let others = [99_999, 100_000];
     let of = |word_and_number, numbers: &[u64]| -> String {
         let sheets = numbers.iter().map(|&n| with_number(word_and_number, n));
-        sheets
-            .map(|sheet| read_by_01(sheet.as_bytes()) + &read(&sheet))
-            .collect()
+        sheets.map(|sheet| read_by_both(&sheet)).collect()
     };
     let words = ["old 2", "new 2", "in 0", "out 1", "read 0"];
     let of_names = of("step 1", &names) + &of("done 1", &names);
@@ -76,17 +76,18 @@ fn row(names: &[u64]) -> Route {
     route(names.len() as u64 + 1, &steps)
 }
 
-/// The longest sheet's records, every one of them marked, written into as many bytes
-/// as 01's longest has, and into one too few.
+/// The longest sheet's records, a token on every place and every step marked, written
+/// into as many bytes as 01's longest has, and into one too few.
 fn longest() -> String {
     let [high, low] = [56, 24].map(|first| (first..first + 8).collect::<Vec<u64>>());
     let names: Vec<u64> = (4_000_000_000..).take(64).collect();
     let steps = names.iter();
     let steps = steps.map(|&name| cloth(step(name, [&high, &high], [&low, &low])));
-    let route = route(64, &steps.collect::<Vec<Step>>());
+    let all: Vec<u64> = (0..64).collect();
+    let route = begun(64, &all, &steps.collect::<Vec<Step>>());
     let job = job(&route, &route, &names);
     let write = |room| on_records(WRITE, &job, &[fill(room, 9)]);
-    [18_136, 20_119].map(write).concat()
+    [18_136, 20_499].map(write).concat()
 }
 
 /// The job of a row whose last two steps change places; their names and the

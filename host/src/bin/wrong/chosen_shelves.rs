@@ -8,10 +8,10 @@ use reference::shelf::{Edition, Shelf};
 
 const FULL: [u32; 8] = [1, 2, 3, 4, 5, 6, 7, 8];
 
-/// 10 and 20 in a row; each writes a variable.
+/// 10 and 20 in a row, begun before them; each writes a variable.
 fn old() -> RouteByValue {
     let steps = [record(10, [1, 2], 1), record(20, [2, 4], 2)];
-    RouteByValue::of(3, 2, &steps)
+    RouteByValue::of(3, 1, 2, &steps)
 }
 
 /// The other way round, and 30 after them; a record stands past `len`.
@@ -22,7 +22,7 @@ fn new() -> RouteByValue {
         record(30, [4, 8], 4),
         record(9, [0, 1 << 63], 8),
     ];
-    RouteByValue::of(4, 3, &steps)
+    RouteByValue::of(4, 1, 3, &steps)
 }
 
 fn record(name: u32, [ins, outs]: [u64; 2], writes: u32) -> Record {
@@ -74,14 +74,14 @@ fn rising_numbers() -> String {
 
 /// A ninth edition: 20 goes before 21, and the route's rows after both.
 fn full_shelves() -> String {
-    let wrong = RouteByValue::of(1, 0, &[]);
+    let wrong = RouteByValue::of(1, 1, 0, &[]);
     let puts = [put(9, &old()), put(8, &old()), put(65_536, &old())];
     let wrong = [put(9, &wrong), put(8, &wrong)];
     let seven = hand_in(&shelf(&FULL[..7])) + &put(8, &new());
     hand_in(&shelf(&FULL)) + &puts.concat() + &wrong.concat() + &seven + &put(9, &new())
 }
 
-/// A route that each of the rows 4, 2, 3, 5, 6 and 7 refuses.
+/// Routes that the rows 4, 2, 3, 5, 6 and 7 refuse, and one that goes round.
 fn routes_rows() -> String {
     let with = |change: fn(&mut RouteByValue)| {
         let mut route = old();
@@ -97,7 +97,9 @@ fn routes_rows() -> String {
         with(|route| route.records[1].name = 10),
         with(|route| route.places = 4),
         with(|route| route.records[1].outs = 5),
-        put(0, &RouteByValue::of(1, 0, &[])),
+        with(|route| route.start = 8),
+        with(|route| route.start = 0),
+        put(0, &RouteByValue::of(1, 1, 0, &[])),
     ];
     hand_in(&shelf(&[5, 6])) + &puts.concat()
 }

@@ -11,6 +11,7 @@ mod chosen_lookups;
 mod chosen_marks;
 mod chosen_names;
 mod chosen_shelves;
+mod chosen_starts;
 mod edit;
 mod scripts;
 mod trial;

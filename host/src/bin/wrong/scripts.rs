@@ -1,5 +1,6 @@
 //! Scripts and the second program's answers to them.
 
+use crate::chosen_starts;
 use crate::edit::root;
 use crate::{chosen, chosen_cloth, chosen_lookups, chosen_marks, chosen_names, chosen_shelves};
 use reference::random::dice::{mix, Dice};
@@ -46,12 +47,13 @@ impl Script {
     }
 }
 
-/// Three by hand, drive's own script among them; then random ones.
+/// Four by hand, drive's own script among them; then random ones.
 pub fn all() -> Vec<Script> {
     let own = fs::read_to_string(root().join("crates/drive/stdin")).expect("no script of drive's");
     let by_hand = [
         own + &chosen::script() + &chosen_shelves::script(),
         chosen_lookups::script() + &chosen_names::script(),
+        chosen_starts::script(),
         chosen_cloth::script() + &chosen_marks::script() + TOO_LONG,
     ];
     assert!(by_hand.iter().all(|text| text.len() <= MOST_BYTES));
@@ -63,7 +65,7 @@ pub fn all() -> Vec<Script> {
 }
 
 /// A sheet by value with an out slice of one byte more than the longest: it ends the script.
-const TOO_LONG: &str = "8 1 0 0 1 0 0 0 21001 0\n";
+const TOO_LONG: &str = "8 1 1 0 0 1 1 0 0 0 21001 0\n";
 
 /// An operation, to see whether the script before it ends with a whole one.
 const FIRE: &str = "1 1 10 1 2 0 1 0\n";

@@ -45,7 +45,8 @@ pub struct Trial {
 impl Trial {
     pub fn new(number: usize) -> Trial {
         // beside the repository: `rt ci` wants no code but that of its crates
-        let folder = env::temp_dir().join(format!("wrong-programs-{}/{number}", std::process::id()));
+        let folder =
+            env::temp_dir().join(format!("wrong-programs-{}/{number}", std::process::id()));
         let _ = fs::remove_dir_all(&folder);
         for from in sorted(&root().join("crates")) {
             let name = from.file_name().expect("no name");

@@ -65,7 +65,11 @@ fn free_route(dice: &mut Dice) -> Route {
     };
     let mut steps: Vec<Step> = taken.iter().map(step).collect();
     steps[dice.below(count)].ins = vec![0];
-    Route { places: 2, steps }
+    Route {
+        places: 2,
+        start: vec![0],
+        steps,
+    }
 }
 
 fn opens(step: &Step) -> bool {

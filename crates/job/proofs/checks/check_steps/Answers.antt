@@ -31,7 +31,7 @@ loop-i-init c =
       omega arith,
       (
         turns-init refl all,
-        (hinted-none, ap₂ (λ (n : ℕ) (l : List Step). first (step_rows n a.places [] l)) (omega arith) all),
+        (hinted-none, ap₂ (λ (n : ℕ) (l : List Step). first (step_rows n a.count [] l)) (omega arith) all),
       ),
     )
 
@@ -39,7 +39,7 @@ pub returns-then-i-ge-STEPS : goal.returns-then-i-ge-STEPS
 returns-then-i-ge-STEPS c =
     let (next, at, on, _) = c.in-Some.ensures.steps in
     let (low, (turns, (_, rows))) = c.loop-i.invariant in
-    let over = steps-over c.args.line c.args.places _ turns rows next low (omega (arith, at, c.if-i-ge-STEPS.true)) in
+    let over = steps-over c.args.line c.args.count _ turns rows next low (omega (arith, at, c.if-i-ge-STEPS.true)) in
     search rules
 
 pub slice_bounds-check_step-end : goal.slice_bounds-check_step-end
@@ -50,7 +50,7 @@ slice_bounds-check_step-end c =
 pub check_step-requires : goal.check_step-requires
 check_step-requires c =
     record {
-      places_bound = (search rules, flat-few _ _ 64 c.if-i-ge-STEPS.false);
+      count_bound = (search rules, flat-few _ _ 64 c.if-i-ge-STEPS.false);
       hinted = rw c.in-Some.ensures.steps.1 (hinted-prefix _ _ _ c.loop-i.invariant.1.1.0);
     }
 
@@ -59,7 +59,7 @@ returns-in_err-check_step c =
     let (next, at, on, _) = c.in-Some.ensures.steps in
     let (low, (turns, (_, rows))) = c.loop-i.invariant in
     let refused =
-    steps-refused c.args.line c.args.places _ turns rows next at _ (flat-names c.args.steps.now c.in-Some.i)
+    steps-refused c.args.line c.args.count _ turns rows next at _ (flat-names c.args.steps.now c.in-Some.i)
     c.in_err-check_step.field-0.0 c.in_err-check_step.ensures in
     search rules
 
@@ -74,7 +74,7 @@ loop-i-preserved c =
         (
           hinted-on _ c.loop-i.hint c.loop-i.i-iterator.count _ refl hinted _ _ (turn-inside turns next)
               (ap (λ (s : Step). s.name) (turn-at turns next)) (λ k e. c.add.ensures k (e ∙ sym at)),
-          steps-passed c.args.line c.args.places _ turns rows next at _ (flat-names c.args.steps.now c.in-Some.i)
+          steps-passed c.args.line c.args.count _ turns rows next at _ (flat-names c.args.steps.now c.in-Some.i)
               c.in_ok-check_step.ensures,
         ),
       ),
@@ -83,4 +83,4 @@ loop-i-preserved c =
 pub returns : goal.returns
 returns c =
     let (low, (turns, (_, rows))) = c.loop-i.invariant in
-    steps-end c.args.line c.args.places _ turns rows c.in-None.ensures.steps.0.0
+    steps-end c.args.line c.args.count _ turns rows c.in-None.ensures.steps.0.0

@@ -18,5 +18,5 @@ invariant-loop-i l =
     (i ≤ 64)
     × (Turns (steps_in l.steps) i left
     × (Hinted (take i (names (steps_in l.steps))) l.hint
-    × (first (step_rows (l.line + i) l.places (take i (names (steps_in l.steps))) left)
-    ≡ first (step_rows l.line l.places [] (steps_in l.steps)))))
+    × (first (step_rows (l.line + i) l.count (take i (names (steps_in l.steps))) left)
+    ≡ first (step_rows l.line l.count [] (steps_in l.steps)))))

@@ -1,23 +1,15 @@
--- `part_reader::parts::new_head`: its line, and rows 4 and 2.
-use mathlib.Core.Path.{refl, sym}
-use borrow.Author.Rules.{rules}
+-- `part_reader::parts::new_head`: its line, then its start line.
 use Rattle.tokens.proofs.Bytes.{handed}
 use Rattle.part_reader.specs.inner.Prefix.{NewOn}
-use Rattle.part_reader.proofs.HeadLines.{new-breaks, new-on, new-past, new-fits}
-use Rattle.part_reader.proofs.PrefixStep.{rows-ok, rows-err}
+use Rattle.part_reader.proofs.HeadLines.{head-breaks, new-whole}
 use Rattle.part_reader.proofs.parts.new_head.Goals as goal
 
-pub returns-in_err-n : goal.returns-in_err-n
-returns-in_err-n c = let a = c.args in handed (NewOn a.v a.s.now a.p a.above) _ _ c.from_residual.ensures.1
-    (new-breaks _ _ _ _ c.in_err-n.ensures)
+pub returns-in_err-h : goal.returns-in_err-h
+returns-in_err-h c = let a = c.args in handed (NewOn a.v a.s.now a.p a.above) _ _ c.from_residual.ensures.1
+    (head-breaks _ _ _ _ _ c.in_err-h.ensures)
 
-pub overflow_add-lines : goal.overflow_add-lines
-overflow_add-lines c = search (rules, new-fits)
+pub start_line-requires : goal.start_line-requires
+start_line-requires c = record { placed = c.in_ok-h.ensures.placed; count_bound = c.in_ok-h.ensures.fits }
 
-pub returns-then-is_ok : goal.returns-then-is_ok
-returns-then-is_ok c = new-on _ _ _ _ _ c.requires c.in_ok-n.ensures _ (rows-ok _ (sym c.if-is_ok.ensures.value))
-    c.new_row-rows.ensures
-
-pub returns-else-is_ok : goal.returns-else-is_ok
-returns-else-is_ok c = new-past _ _ _ _ _ c.requires c.in_ok-n.ensures _ (rows-err _
-    (sym c.if-is_ok.ensures.value)) refl
+pub returns : goal.returns
+returns c = new-whole _ _ _ _ _ c.in_ok-h.ensures _ c.start_line.ensures
