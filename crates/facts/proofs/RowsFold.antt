@@ -437,7 +437,8 @@ module _ (v : Version) (x : Lines) where
   unfolding new-state new-rows new-facts new-at old-facts in_route failed is_route
   new-part =
       route-stood v NewRoute x.new_start x.new _ new-at x.new_places _ old-facts refl refl
-      (one_line (λ i s. new_head i x.new_places s) old-state (1 + start_line_count v + length x.old) old-rows _ old-facts
+      (one_line (λ i s. new_head i x.new_places s) old-state (1 + start_line_count v + length x.old) old-rows _
+      old-facts
       _ _ _ refl old-part (λ few. new-stand new-at x.new_places _ x.old few))
 
   job-at : ℕ

@@ -97,7 +97,8 @@ module _ (v w : Version) (starts : v.starts ≡ w.starts) (g : ℕ) (in-v : g �
         λ i. head-same w v (sym starts) line places start i
         ++ (steps i ++ (unless (not (eqb (length l) 0)) 4 (next-same w v (sym starts) line l i) ∷ []))
       where
-        steps : form_rows w (line + 1 + start_line_count w) places [] l ≡ form_rows v (line + 1 + start_line_count v) places [] l
+        steps : form_rows w (line + 1 + start_line_count w) places [] l
+            ≡ form_rows v (line + 1 + start_line_count v) places [] l
         steps = ap (λ (n : ℕ). form_rows w (line + 1 + n) places [] l) (count_same w v (sym starts))
             ∙ forms-same l (line + 1 + start_line_count v) places [] h
 

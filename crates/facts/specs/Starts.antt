@@ -1,7 +1,6 @@
 -- The start lines of a sheet's lines: where there may be none, nothing is said of a start; and lines and facts with
 -- other starts.
 use Rattle.std.specs.Prelude.{◌≡◌, Bool, true, false, List, [], ℕ}
-use Rattle.version.specs.declared.Version.{Version}
 use Rattle.layout.specs.Text.{Lines}
 use Rattle.facts.specs.Forms.{all_below, rising}
 use Rattle.facts.specs.Facts.{started, with_old, with_new}

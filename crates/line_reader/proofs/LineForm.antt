@@ -108,7 +108,8 @@ unfolding entries_fit list_fits
 fits-is l = ap₂ (λ (x y : Bool). x && y) (ap (λ (n : ℕ). leb n 8) (count-is l)) (along-falls no_entries l)
 
 -- the mask of places below the count
-places-mask : (count : ℕ) (l : List ℕ) → count ≤ 64 → all_below count l ≡ true → (along no_entries l).mask ≡ masked 64 0 l
+places-mask : (count : ℕ) (l : List ℕ) → count ≤ 64 → all_below count l ≡ true
+    → (along no_entries l).mask ≡ masked 64 0 l
 places-mask count l few b = along-mask 64 (omega arith) no_entries l (below_wider count 64 l few b)
 
 -- ---- a start line

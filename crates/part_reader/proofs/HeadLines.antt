@@ -34,7 +34,8 @@ use Rattle.tokens.specs.declared.Numeral.{Numeral}
 use Rattle.line_reader.specs.inner.Rows.{head_row, new_row, job_row}
 use Rattle.line_reader.specs.inner.Lines.{head_word, has_steps, NumberedTo, NumberedBreaks}
 use Rattle.part_reader.specs.inner.Prefix.{back_steps, back_dones, old_state, new_state, job_state, state_of, Prefix}
-use Rattle.part_reader.specs.inner.Prefix.{Headed, Rows, passed, Placed, NoStep, with_route, bare, unstarted, StartLineOn}
+use Rattle.part_reader.specs.inner.Prefix.{Headed, Rows, passed, Placed, NoStep, with_route, bare, unstarted}
+use Rattle.part_reader.specs.inner.Prefix.{StartLineOn}
 use Rattle.part_reader.specs.inner.Prefix.{OldOn, NewLineTo, NewOn, NewBreaks, HeadBreaks, JobTo}
 use Rattle.part_reader.specs.declared.Pass.{Pass}
 use Rattle.part_reader.specs.declared.Head.{Head}

@@ -17,7 +17,8 @@ use Rattle.layout.specs.Parse.{no_line, in_order}
 use Rattle.layout.specs.declared.Part.{Part}
 use Rattle.layout.specs.declared.Part.TheVariants.{OldRoute, NewRoute, JobPart}
 use Rattle.layout.specs.declared.Point.TheVariants.{Open}
-use Rattle.facts.specs.Facts.{State, failed, settled, new_head, job_head, more, more_start, more_steps, more_dones, facts_of}
+use Rattle.facts.specs.Facts.{State, failed, settled, new_head, job_head, more, more_start, more_steps, more_dones}
+use Rattle.facts.specs.Facts.{facts_of}
 use Rattle.facts.specs.declared.Sheet.{Sheet}
 use Rattle.tokens.specs.inner.Tokens.{Reading}
 use Rattle.part_reader.specs.inner.Prefix.{back_steps, back_dones, old_state, new_state, job_state, state_of, Prefix}

@@ -92,8 +92,8 @@ pub record Demand3 : Type 1 where
   -- "Whichever function each done step computes from what it reads, even another one each time it is done"
   pub values : (j : Job) (o : List ℕ) → Runs j → Accepted j o → (T : Type 0) (f : Work T) → Carried f j o
   -- "Whichever two accepted orders hold the same done steps, each as often, they end on the same places." "Done steps
-  -- are counted by name, and the two orders may be of two jobs with the same new route": the same place count, start and
-  -- steps
+  -- are counted by name, and the two orders may be of two jobs with the same new route": the same place count, start
+  -- and steps
   pub places : (j j' : Job) (o o' : List ℕ) → j.new_places ≡ j'.new_places → j.new ≡ j'.new → Runs j → Runs j'
       → Accepted j o → Accepted j' o'
       → ((n : ℕ) → times n (map (name_at j) (positions o)) ≡ times n (map (name_at j') (positions o')))

@@ -87,7 +87,8 @@ attained v limits n long passes = (
 -- the definitions that compute such a sheet's length and its rows
 unfoldable the-sheet : Unit {0}
 unfolding long_lines long_start long_step from text digits number entries listed marked step_line word_line start_line
-    job_line step_lines done_lines job_text spelling sheet_rows route_form_rows head_form_rows start_line_count start_rows
+    job_line step_lines done_lines job_text spelling sheet_rows route_form_rows head_form_rows
+    start_line_count start_rows
     start_row form_rows form_row form_fits form_lists list_fits all_below rising name_fits places_fit among done_row
     done_rows unless first
 the-sheet = tt

@@ -14,7 +14,8 @@ use Rattle.layout.specs.Parse.{no_line, put_start}
 use Rattle.layout.specs.declared.Part.{Part}
 use Rattle.layout.specs.declared.Part.TheVariants.{OldRoute, NewRoute, JobPart}
 use Rattle.layout.specs.declared.Point.TheVariants.{Open}
-use Rattle.facts.specs.Facts.{State, failed, settled, with_old, with_new, old_head, new_head, job_head, done_in, step_in}
+use Rattle.facts.specs.Facts.{State, failed, settled, with_old, with_new, old_head, new_head, job_head, done_in}
+use Rattle.facts.specs.Facts.{step_in}
 use Rattle.facts.specs.Facts.{more, more_start, nothing}
 use Rattle.facts.specs.declared.Sheet.{Sheet}
 use Rattle.tokens.specs.inner.Tokens.{Reading, Breaks}
