@@ -1,6 +1,6 @@
 /* The route mover for sail jobs, for a host in C.
  *
- * Link crates/engine/out/libengine.a, which `rt lib` in crates/engine makes. Both functions are total: whatever bytes they are lent, they read and write
+ * Link crates/engine/out/libengine.a, which `rt lib` in crates/engine makes. The functions are total: whatever bytes they are lent, they read and write
  * nothing outside them, end, and return a number of docs/REFUSALS.md, 0 where all went well. They keep nothing between calls, call nothing of the C
  * library but memcpy and memset, and may run in several threads at once, each on buffers of its own.
  *
@@ -9,7 +9,8 @@
  * every path.
  *
  * In a sheet a line `(start ..)` follows each of the heads `(old N)` and `(new N)`: the places that hold a token before the first step. Where it is
- * empty the refusal is 7, at its own line.
+ * empty the refusal is 7, at its own line. The first layout has no such lines, no cloth marks and names to 65,535 only: reroute_up and reroute_down go
+ * between the two layouts.
  */
 #ifndef REROUTE_H
 #define REROUTE_H
@@ -21,10 +22,12 @@
 extern "C" {
 #endif
 
-/* The length that the work buffer needs, one that is always enough for a listing, and the most bytes that a sheet which reads can have. */
+/* The length that the work buffer needs, one that is always enough for a listing, and the most bytes that a sheet which reads can have, by the present
+ * layout and by the first one. */
 #define REROUTE_WORK 8192
 #define REROUTE_LISTING 7053
 #define REROUTE_SHEET 20500
+#define REROUTE_SHEET_01 18136
 
 /* Tries an order that somebody hands in for the job of a sheet.
  *
@@ -48,6 +51,30 @@ uint32_t reroute_try(const uint8_t *sheet, size_t sheet_len, const uint8_t *orde
  * Returns 0 where a listing was written. A job that stays is such a listing too, `(refused NUMBER SECOND)`. Returns 14 where work is too short: nothing
  * is changed then but the two numbers. Returns 15 where out is too short: out is as it was. */
 uint32_t reroute_print(const uint8_t *sheet, size_t sheet_len, uint8_t *work, size_t work_len, uint8_t *out, size_t out_len, uint64_t *second, uint64_t *written);
+
+/* Takes a sheet of the first layout up to the present one: behind each head it writes a line `(start ..)` with the places that the first layout implies,
+ * those that are an out-place of no step. All else stays as it is.
+ *
+ * sheet, sheet_len   the sheet's bytes, by the first layout; only read.
+ * out, out_len       gets the sheet by the present layout, from its first byte on. Bytes past it stay as they were. REROUTE_SHEET bytes are always
+ *                    enough.
+ * second             gets the refusal's place (a line of the sheet given, or an offset), the bytes needed where out is too short (15), and else 0.
+ * written            gets the length of the sheet that was written, and 0 on a refusal.
+ *
+ * Returns 0 where a sheet was written, else 1 to 7 or 15. There is no start line to be empty, so 7 is at the head's line as 6 is. On a refusal out is as
+ * it was. reroute_down takes what was written back to the bytes given. */
+uint32_t reroute_up(const uint8_t *sheet, size_t sheet_len, uint8_t *out, size_t out_len, uint64_t *second, uint64_t *written);
+
+/* Takes a sheet of the present layout down to the first one, if that can say what it says: it leaves out the start lines.
+ *
+ * sheet, sheet_len   the sheet's bytes, by the present layout; only read.
+ * out, out_len       gets the sheet by the first layout, from its first byte on. Bytes past it stay as they were. REROUTE_SHEET_01 bytes are always
+ *                    enough.
+ * second, written    as for reroute_up.
+ *
+ * Returns 0 where a sheet was written, else 1 to 7, 15 or 22. 22 is at the first line that the first layout can't say: a start other than the implied
+ * one, a name over 65,535, a cloth mark. On a refusal out is as it was. reroute_up takes what was written back to the bytes given. */
+uint32_t reroute_down(const uint8_t *sheet, size_t sheet_len, uint8_t *out, size_t out_len, uint64_t *second, uint64_t *written);
 
 #ifdef __cplusplus
 }

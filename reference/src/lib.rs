@@ -3,6 +3,7 @@
 //! sheet (`sheet::Sheet`), its bytes or a shelf; a refusal is a number and a
 //! second number of theirs.
 
+pub mod convert;
 pub mod fit;
 pub mod job;
 pub mod judge;

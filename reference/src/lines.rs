@@ -28,7 +28,7 @@ pub fn check(sheet: &Sheet, version: &Version) -> Result<(), Refusal> {
 pub fn check_route(route: &Route, head: usize, version: &Version) -> Result<(), Refusal> {
     refuse_if(!PLACES.contains(&route.places), 2, head)?;
     // Without a start line there is no place in the start.
-    check_start(route, start_line(head))?;
+    check_start(route, version.start_line(head))?;
     let first = version.first_step_line(head);
     for (index, step) in route.steps.iter().enumerate() {
         let line = first + index;
@@ -40,11 +40,6 @@ pub fn check_route(route: &Route, head: usize, version: &Version) -> Result<(), 
         refuse_if(earlier.iter().any(|e| e.name == step.name), 5, line)?;
     }
     refuse_if(route.steps.is_empty(), 4, first)
-}
-
-/// The start line of a route with its head at this line.
-pub fn start_line(head: usize) -> usize {
-    head + 1
 }
 
 /// Rows 2 and 3 of a start line: a place not below N, one not above the one before.

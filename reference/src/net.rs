@@ -15,7 +15,7 @@ pub fn start(route: &Route) -> Marking {
 }
 
 /// 01's start, which is only implied: a token on each place that is an out-place of
-/// no step. No operation begins there any more.
+/// no step. No job begins there any more.
 pub fn implied_start(route: &Route) -> Marking {
     (0..route.places)
         .filter(|place| !route.steps.iter().any(|step| step.outs.contains(place)))
@@ -51,22 +51,37 @@ pub fn fire(marking: &Marking, step: &Step) -> Result<Marking, Refusal> {
     Ok(next)
 }
 
-/// Rows 6 and 7 of one route: a place in no step, at its head; an empty start, at its
-/// own line.
-pub fn check_places(route: &Route, head: usize) -> Result<(), Refusal> {
+/// The start of a route in a sheet of this version: the written or the implied one.
+fn start_by(route: &Route, version: &Version) -> Marking {
+    if version.start {
+        start(route)
+    } else {
+        implied_start(route)
+    }
+}
+
+/// Rows 6 and 7 of both routes, old, then new.
+pub fn check(sheet: &Sheet, version: &Version) -> Result<(), Refusal> {
+    check_places(&sheet.old, sheet.old_line(), version)?;
+    check_places(&sheet.new, sheet.new_line_by(version), version)
+}
+
+/// Rows 6 and 7 of one route: a place in no step, at its head; no start place, at the
+/// line that tells the start.
+pub fn check_places(route: &Route, head: usize, version: &Version) -> Result<(), Refusal> {
     let used = |place: &u64| {
         let mut steps = route.steps.iter();
         steps.any(|step| step.ins.contains(place) || step.outs.contains(place))
     };
     refuse_if(!(0..route.places).all(|place| used(&place)), 6, head)?;
-    refuse_if(start(route).is_empty(), 7, lines::start_line(head))
+    let begins_nowhere = start_by(route, version).is_empty();
+    refuse_if(begins_nowhere, 7, version.start_line(head))
 }
 
 /// Runs the done list on the old route, by the rows to 9; gives its marking.
 pub fn run(sheet: &Sheet) -> Result<Marking, Refusal> {
     lines::check(sheet, &Version::PRESENT)?;
-    check_places(&sheet.old, sheet.old_line())?;
-    check_places(&sheet.new, sheet.new_line())?;
+    check(sheet, &Version::PRESENT)?;
     let mut marking = start(&sheet.old);
     for (index, name) in sheet.done.iter().enumerate() {
         let line = sheet.done_line(index + 1);

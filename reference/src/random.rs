@@ -2,10 +2,12 @@
 //! one redrawn in small ways, a start for each, and a done list got by really running
 //! the old one.
 //! Random scripts: operations on such jobs, on jobs at the limits, and on wrong
-//! records, sheets and orders; operations on shelves of such routes; and look-ups.
+//! records, sheets and orders; operations on shelves of such routes; look-ups; and
+//! sheets that go between editions.
 
 pub mod block;
 pub mod cloth;
+pub mod convert;
 pub mod damage;
 mod damage_start;
 pub mod dice;

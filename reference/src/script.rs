@@ -2,13 +2,15 @@
 //! A script has a shelf in hand, at first the empty one: 20 hands in another, 21
 //! puts an edition on it, 22 judges a job of one of its editions. 23 reads a sheet
 //! by 01's version, as 6 does by the present one. 24 finds a name among others, from
-//! a beginning; 25 tells how many names a job's run and its match compared.
+//! a beginning; 25 tells how many names a job's run and its match compared. 26, 27 and
+//! 28 take a sheet from 01's version to the present one, back, and from either.
 
 pub mod answers;
 pub mod arguments;
 pub mod numbers;
 pub mod writing;
 
+use crate::convert::{convert, down, up};
 use crate::sheet::Sheet;
 use crate::shelf::Shelf;
 use crate::version::Version;
@@ -76,6 +78,9 @@ fn one(operation: u64, script: &mut Numbers, shelf: &mut Shelf) -> Option<Vec<u6
             Some(answers::find(&among, from, word(script)?))
         }
         25 => Some(answers::comparisons(&facts(operation, script)?)),
+        26 => Some(answers::convert(up, &bytes(script)?, fill(script)?)),
+        27 => Some(answers::convert(down, &bytes(script)?, fill(script)?)),
+        28 => Some(answers::convert(convert, &bytes(script)?, fill(script)?)),
         _ => None,
     }
 }

@@ -34,9 +34,14 @@ impl Version {
         (1..=self.greatest_name).contains(&number)
     }
 
-    /// The line of a route's first step, or of what follows where it has none, with
-    /// the head at this line.
+    /// The line that tells a route's start, with the head at this line: the start line,
+    /// or the head's own where the start is implied.
+    pub fn start_line(&self, head: usize) -> usize {
+        head + usize::from(self.start)
+    }
+
+    /// The line of a route's first step, or of what follows where it has none.
     pub fn first_step_line(&self, head: usize) -> usize {
-        head + 1 + usize::from(self.start)
+        self.start_line(head) + 1
     }
 }

@@ -1,5 +1,7 @@
 //! The bytes of a sheet and where reading stands: fixed texts, numbers, lists.
 
+use crate::version::Version;
+
 /// The layout breaks at the cursor's offset.
 pub struct Broken;
 
@@ -65,11 +67,11 @@ impl<'a> Cursor<'a> {
         pairs.take_while(|(byte, letter)| byte == letter).count()
     }
 
-    /// One to ten digits, and no digit after a leading 0.
+    /// At most the version's digits, and no digit after a leading 0.
     #[inline(always)]
-    pub fn number(&mut self) -> Result<u64, Broken> {
+    pub fn number<V: Version>(&mut self) -> Result<u64, Broken> {
         let mut value = self.digit().ok_or(Broken)?;
-        let most = if value == 0 { 0 } else { 9 };
+        let most = if value == 0 { 0 } else { V::DIGITS - 1 };
         for _ in 0..most {
             match self.digit() {
                 Some(digit) => value = value * 10 + digit,
@@ -91,11 +93,11 @@ impl<'a> Cursor<'a> {
 
     /// The entries of a list, one space before each.
     #[inline(always)]
-    pub fn list(&mut self) -> Result<List, Broken> {
+    pub fn list<V: Version>(&mut self) -> Result<List, Broken> {
         let mut list = List::default();
         while self.peek() == Some(b' ') {
             self.at += 1;
-            list.add(self.number()?);
+            list.add(self.number::<V>()?);
         }
         Ok(list)
     }

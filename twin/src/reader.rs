@@ -4,7 +4,8 @@
 
 use crate::cursor::{Broken, Cursor};
 use crate::route::{Route, MOST};
-use crate::rows::{Line, NAMES, PLACES};
+use crate::rows::{Line, PLACES};
+use crate::version::{Present, Version};
 use crate::Refusal;
 
 pub struct Sheet {
@@ -33,12 +34,17 @@ impl Sheet {
 
     /// Fills in the facts of a sheet, by the rows to 5.
     pub fn read(&mut self, bytes: &[u8]) -> Result<(), Refusal> {
+        self.read_by::<Present>(bytes)
+    }
+
+    /// The same by a version.
+    pub fn read_by<V: Version>(&mut self, bytes: &[u8]) -> Result<(), Refusal> {
         let mut reader = Reader {
             cursor: Cursor::new(bytes),
             line: 1,
             fault: None,
         };
-        match reader.sheet(self) {
+        match reader.sheet::<V>(self) {
             Err(Broken) => Err((1, reader.cursor.at as u64)),
             Ok(()) => reader.fault.map_or(Ok(()), Err),
         }
@@ -59,35 +65,41 @@ impl Sheet {
 }
 
 impl Reader<'_> {
-    fn sheet(&mut self, sheet: &mut Sheet) -> Result<(), Broken> {
+    fn sheet<V: Version>(&mut self, sheet: &mut Sheet) -> Result<(), Broken> {
         self.cursor.take(b"(old ")?;
-        self.route(&mut sheet.old)?;
+        self.route::<V>(&mut sheet.old)?;
         self.cursor.take(b"(new ")?;
         self.need_steps(&sheet.old);
-        self.route(&mut sheet.new)?;
+        self.route::<V>(&mut sheet.new)?;
         self.cursor.take(b"(job)\n")?;
         self.need_steps(&sheet.new);
         while !self.cursor.at_end() {
             self.line += 1;
-            self.done(sheet)?;
+            self.done::<V>(sheet)?;
         }
         Ok(())
     }
 
-    /// The rest of a head line, the start line, and the step lines.
-    fn route(&mut self, route: &mut Route) -> Result<(), Broken> {
-        route.places = self.cursor.number()?;
-        self.cursor.take(b")\n(start")?;
+    /// The rest of a head line, the start line if there is one, and the step lines.
+    fn route<V: Version>(&mut self, route: &mut Route) -> Result<(), Broken> {
+        route.places = self.cursor.number::<V>()?;
+        if V::START {
+            self.cursor.take(b")\n(start")?;
+        } else {
+            self.cursor.take(b")\n")?;
+        }
         if !PLACES.contains(&route.places) {
             self.put_by(2);
         }
         self.line += 1;
-        self.start(route)?;
-        self.line += 1;
+        if V::START {
+            self.start::<V>(route)?;
+            self.line += 1;
+        }
         while self.cursor.sees(b"(s") {
-            let line = self.step()?;
+            let line = self.step::<V>()?;
             if self.fault.is_none() {
-                self.add(route, &line);
+                self.add::<V>(route, &line);
             }
             self.line += 1;
         }
@@ -95,8 +107,8 @@ impl Reader<'_> {
     }
 
     /// The places of a start line, and rows 2 and 3 on them.
-    fn start(&mut self, route: &mut Route) -> Result<(), Broken> {
-        let list = self.cursor.list()?;
+    fn start<V: Version>(&mut self, route: &mut Route) -> Result<(), Broken> {
+        let list = self.cursor.list::<V>()?;
         self.cursor.take(b")\n")?;
         if list.above > route.places {
             self.put_by(2);
@@ -108,27 +120,27 @@ impl Reader<'_> {
     }
 
     #[inline(always)]
-    fn step(&mut self) -> Result<Line, Broken> {
+    fn step<V: Version>(&mut self) -> Result<Line, Broken> {
         let cursor = &mut self.cursor;
         cursor.take(b"(step ")?;
-        let name = cursor.number()?;
+        let name = cursor.number::<V>()?;
         cursor.take(b" (in")?;
-        let ins = cursor.list()?;
+        let ins = cursor.list::<V>()?;
         cursor.take(b") (out")?;
-        let outs = cursor.list()?;
+        let outs = cursor.list::<V>()?;
         cursor.take(b") (read")?;
-        let reads = cursor.list()?;
+        let reads = cursor.list::<V>()?;
         cursor.take(b") (write")?;
-        let writes = cursor.list()?;
-        let cloth = self.step_end()?;
+        let writes = cursor.list::<V>()?;
+        let cloth = self.step_end::<V>()?;
         let lists = [ins, outs, reads, writes];
         Ok(Line { name, lists, cloth })
     }
 
     /// The end of a step line; whether it has the mark.
     #[inline(always)]
-    fn step_end(&mut self) -> Result<bool, Broken> {
-        let marked = self.cursor.sees(b") ");
+    fn step_end<V: Version>(&mut self) -> Result<bool, Broken> {
+        let marked = V::CLOTH && self.cursor.sees(b") ");
         if marked {
             self.cursor.take(b") (cloth))\n")?;
         } else {
@@ -139,11 +151,11 @@ impl Reader<'_> {
 
     /// Rows 4, 2, 3 and 5 of a step line; else the route gets the step.
     #[inline(always)]
-    fn add(&mut self, route: &mut Route, line: &Line) {
+    fn add<V: Version>(&mut self, route: &mut Route, line: &Line) {
         if route.len == MOST {
             return self.put_by(4);
         }
-        match line.step(route.places) {
+        match line.step::<V>(route.places) {
             Err(number) => self.put_by(number),
             Ok(step) => {
                 if !route.add(step) {
@@ -153,13 +165,13 @@ impl Reader<'_> {
         }
     }
 
-    fn done(&mut self, sheet: &mut Sheet) -> Result<(), Broken> {
+    fn done<V: Version>(&mut self, sheet: &mut Sheet) -> Result<(), Broken> {
         self.cursor.take(b"(done ")?;
-        let name = self.cursor.number()?;
+        let name = self.cursor.number::<V>()?;
         self.cursor.take(b")\n")?;
         if sheet.done_len == MOST {
             self.put_by(4);
-        } else if !NAMES.contains(&name) {
+        } else if !V::is_name(name) {
             self.put_by(2);
         } else {
             sheet.done[sheet.done_len] = name as u32;

@@ -71,14 +71,28 @@ impl Route {
         &self.steps[..self.len]
     }
 
+    fn all_places(&self) -> u64 {
+        u64::MAX >> (64 - self.places)
+    }
+
+    /// The start that 01 implies.
+    pub fn implied(&self) -> u64 {
+        let outs = self.all().iter().fold(0, |outs, step| outs | step.outs);
+        self.all_places() & !outs
+    }
+
     /// Rows 6 and 7 of a route with its head at this line.
     pub fn check(&self, head: u64) -> Result<(), Refusal> {
-        let all = u64::MAX >> (64 - self.places);
-        if self.used != all {
+        self.check_at(head, head + 1)
+    }
+
+    /// The same with 7 at any line.
+    pub fn check_at(&self, head: u64, start_line: u64) -> Result<(), Refusal> {
+        if self.used != self.all_places() {
             return Err((6, head));
         }
         if self.start == 0 {
-            return Err((7, head + 1));
+            return Err((7, start_line));
         }
         Ok(())
     }

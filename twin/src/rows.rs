@@ -2,10 +2,10 @@
 
 use crate::cursor::List;
 use crate::route::Step;
+use crate::version::Version;
 use std::ops::RangeInclusive;
 
 pub const PLACES: RangeInclusive<u64> = 1..=64;
-pub const NAMES: RangeInclusive<u64> = 1..=4_294_967_295;
 const VARIABLES: u64 = 32;
 const MOST_ENTRIES: u32 = 8;
 
@@ -19,10 +19,10 @@ pub struct Line {
 impl Line {
     /// The step, or the number of the row that the line breaks.
     #[inline(always)]
-    pub fn step(&self, places: u64) -> Result<Step, u32> {
+    pub fn step<V: Version>(&self, places: u64) -> Result<Step, u32> {
         let [ins, outs, reads, writes] = &self.lists;
         let high = ins.above.max(outs.above) > places || reads.above.max(writes.above) > VARIABLES;
-        if high || !NAMES.contains(&self.name) {
+        if high || !V::is_name(self.name) {
             return Err(2);
         }
         if ins.mask == 0 || outs.mask == 0 || self.lists.iter().any(unlike_a_list) {

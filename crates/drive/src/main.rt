@@ -15,6 +15,8 @@
 //     24                 look-up: names, the beginning and a name; it answers its place from 1 or 0, how many names
 //                        were compared, and the next beginning
 //     25                 as 2, and how many names the run and the match compared
+//     26, 27, 28         a sheet up to the present version, down to 01's, and the way that its second line tells; then
+//                        the out slice
 //
 // An answer is all its numbers, and every slice that was lent as it then stands; 20 and 21 show the shelf too. The
 // second program says the same of scripts (reference/src/script.rs).

@@ -15,5 +15,6 @@ pub fn answer(script: &mut Script<'_>, shelf: &mut Shelf, out: &mut Answer) -> R
         Operation::OverShelf(op) => drive_shelf::answer(op, shelf, script, out),
         Operation::Find => drive_lookup::find(script, out),
         Operation::Compare => drive_lookup::compare(script, out),
+        Operation::Convert(way) => drive_convert::convert(way, script, out),
     }
 }

@@ -9,6 +9,7 @@ pub enum Operation {
     OverShelf(OverShelf),
     Find,
     Compare,
+    Convert(Way),
 }
 
 // An operation over two routes and a done list.
@@ -36,6 +37,14 @@ pub enum OverShelf {
     HandIn,
     Put,
     Judge,
+}
+
+// A sheet between editions: from 01's version to the present one, back, or the way that its second line tells.
+#[derive(Clone, Copy, Debug, PartialEq, Eq)]
+pub enum Way {
+    Up,
+    Down,
+    Either,
 }
 
 // No operation has this number.
@@ -69,6 +78,9 @@ impl TryFrom<u64> for Operation {
             23 => Operation::OverSheet(OverSheet::ReadScope),
             24 => Operation::Find,
             25 => Operation::Compare,
+            26 => Operation::Convert(Way::Up),
+            27 => Operation::Convert(Way::Down),
+            28 => Operation::Convert(Way::Either),
             _ => return Err(NoOperation),
         })
     }

@@ -5,7 +5,7 @@ use Rattle.mask.specs.Mask.{has, members_from, members, collect, count}
 use Rattle.route.specs.Steps.{steps_of, union, names, lookup}
 use Rattle.route.specs.Firing.{can_fire, fire, if_fires}
 use Rattle.refusal.specs.Rows.{unless, first}
-use Rattle.opening.specs.Net.{net_row}
+use Rattle.opening.specs.Net.{net_row_at}
 use Rattle.version.specs.Limits.{name_fits}
 use Rattle.name_set.specs.Among.{among}
 use Rattle.job.specs.Lines.{places_fit, start_fits, step_fits, variable_list, place_list, lists_fit, step_row}
@@ -42,20 +42,20 @@ use Rattle.examples.specs.Starts.{rounds, misplaced, wrong_places, empty_starts,
 
 -- The definitions on the way, a name for each stage: to open the name opens all on its line.
 
-unfoldable the-masks : Unit {0}
+unfoldable pub the-masks : Unit {0}
 unfolding has members_from members collect count
 the-masks = tt
 
-unfoldable the-routes : Unit {0}
-unfolding steps_of union names lookup can_fire fire if_fires unless first net_row
+unfoldable pub the-routes : Unit {0}
+unfolding steps_of union names lookup can_fire fire if_fires unless first net_row_at
 the-routes = tt
 
-unfoldable the-layout : Unit {0}
+unfoldable pub the-layout : Unit {0}
 unfolding spelling digit alive expect chosen spelt in_list past_word first_digit ended more_digits closed list_end
     past_head past_line next stored took put_step put_start put_line keep at_end run parse
 the-layout = tt
 
-unfoldable the_facts : Unit {0}
+unfoldable pub the_facts : Unit {0}
 unfolding all_below rising form_fits list_fits form_lists form_row start_row masked record_of failed settled headed
     started stepped old_head new_head job_head done_in step_in start_in more more_start more_steps more_dones facts_of
     answered read_by

@@ -3,3 +3,4 @@ pub mod Table
 pub mod LongNames
 pub mod Cuts
 pub mod Starts
+pub mod Converted

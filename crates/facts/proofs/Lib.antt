@@ -7,6 +7,7 @@ pub mod ReadRecords
 pub mod PartText
 pub mod Widths
 pub mod RowOne
+pub mod InAnother
 pub mod Wider
 pub mod StartsPutIn
 pub mod RowsFold

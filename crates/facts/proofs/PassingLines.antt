@@ -171,22 +171,26 @@ lines-fine v x h =
       done_few = omega (arith, done.1);
     }
 
--- ---- every name is in its version's range
+-- ---- every name is in its version's range, and in any longer one
 
-forms-within : (v : Version) (places : ℕ) (l : List Form) → AllFine v places l → Within v.greatest (form_names l)
-forms-within v places [] fine = tt
-forms-within v places (f ∷ l) fine = ((fits_iff v f.name).0 fine.0.name, forms-within v places l fine.1)
+module _ (v : Version) (g : ℕ) (most : v.greatest ≤ g) where
+  name-within : (n : ℕ) → name_fits v n ≡ true → (1 ≤ n) × (n ≤ g)
+  name-within n h = let (low, high) = (fits_iff v n).0 h in (low, omega (arith, high, most))
 
-names-within : (v : Version) (l : List ℕ) → AllNamed v l → Within v.greatest l
-names-within v [] h = tt
-names-within v (n ∷ l) h = ((fits_iff v n).0 h.0, names-within v l h.1)
+  forms-within : (places : ℕ) (l : List Form) → AllFine v places l → Within g (form_names l)
+  forms-within places [] fine = tt
+  forms-within places (f ∷ l) fine = (name-within f.name fine.0.name, forms-within places l fine.1)
 
-pub lines-named : (v : Version) (x : Lines) → AllLines v x → NamesTo v.greatest x
-lines-named v x h = record {
-  old = forms-within v x.old_places x.old h.old;
-  new = forms-within v x.new_places x.new h.new;
-  done = names-within v x.done h.done;
-}
+  names-within : (l : List ℕ) → AllNamed v l → Within g l
+  names-within [] h = tt
+  names-within (n ∷ l) h = (name-within n h.0, names-within l h.1)
+
+  pub lines-named : (x : Lines) → AllLines v x → NamesTo g x
+  lines-named x h = record {
+    old = forms-within x.old_places x.old h.old;
+    new = forms-within x.new_places x.new h.new;
+    done = names-within x.done h.done;
+  }
 
 -- ---- the marks of lines that a version can write, and those of any lines where steps may be marked
 

@@ -6,7 +6,7 @@ use Rattle.refusal.specs.Refusal.{number_of}
 use Rattle.refusal.specs.declared.Refusal.{Refusal}
 use Rattle.refusal.proofs.Rows.{first_alone}
 use Rattle.refusal.proofs.Answered.{err-rows, ok-rows}
-use Rattle.opening.specs.Net.{net_row}
+use Rattle.opening.specs.Net.{net_row_at, net_row}
 use Rattle.route.specs.declared.Places.{Places}
 use Rattle.route.specs.declared.Step.{Step}
 use Rattle.job.specs.Lines.{route_rows}
@@ -20,5 +20,5 @@ module _ (places : Places) (l : List Step) where
 
   pub alone-opens : pass ≡ first (route_rows 1 places l) → (o : Outcome) → o ≡ net_row 1 places l
       → o ≡ first (alone_rows places l)
-  unfolding alone_rows net_row
+  unfolding alone_rows net_row_at
   alone-opens passed o opens = opens ∙ sym (first_alone _) ∙ sym (ok-rows (route_rows 1 places l) passed _)

@@ -8,11 +8,15 @@ use Rattle.route.specs.declared.Step.{Step}
 use Rattle.refusal.specs.declared.Outcome.{Outcome}
 use Rattle.refusal.specs.Rows.{unless, first}
 
--- 6: a place in no step, at the head's line; 7: no start place, at the start line, which follows it
-unfoldable pub net_row : ℕ → Places → List Step → Outcome
-net_row line places l =
+-- 6: a place in no step, at the head's line; 7: no start place, at the line that tells of the start
+unfoldable pub net_row_at : ℕ → ℕ → Places → List Step → Outcome
+net_row_at head start places l =
     first
     (unless
-    (within (below places.count) (bit_or (union (λ (s : Step). s.ins) l) (union (λ (s : Step). s.outs) l))) 6 line
-    ∷ unless (not (eqb places.start 0)) 7 (line + 1)
+    (within (below places.count) (bit_or (union (λ (s : Step). s.ins) l) (union (λ (s : Step). s.outs) l))) 6 head
+    ∷ unless (not (eqb places.start 0)) 7 start
     ∷ [])
+
+-- in the present layout that is the start line, which follows the head
+abbrev pub net_row : ℕ → Places → List Step → Outcome
+net_row line places l = net_row_at line (line + 1) places l

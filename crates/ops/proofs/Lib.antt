@@ -2,4 +2,3 @@
 pub mod ListingLength
 pub mod Prints
 pub mod SheetTry
-pub mod ReadJob

@@ -4,6 +4,7 @@ use mathlib.Core.Bool.{Bool, true, false, cond}
 use mathlib.Core.List.{List}
 use Prim.Native.Nat.{ℕ, ◌*◌, ◌≤◌, ◌<◌}
 use native.Mathlib.Omega.{arith}
+use Rattle.version.specs.Limits.{present}
 use Rattle.std.specs.Prelude.{Ok, Err}
 use lib.Dec.{eqb, leb}
 use lib.ListN.{length, take}
@@ -24,7 +25,7 @@ use Rattle.refusal.specs.Refusal.{number_of}
 use Rattle.refusal.specs.declared.Refusal.{Refusal}
 use Rattle.refusal.proofs.Answered.{number-some}
 use Rattle.ops.specs.Print.{sheet_answer, listing_of, printed, out_printed, work_printed}
-use Rattle.ops.proofs.ReadJob.{read-job}
+use Rattle.reader.proofs.JobOfLists.{read-job}
 use Rattle.mask.proofs.Truth.{cond_yes, cond_no}
 
 -- ---- judge's answer to a sheet
@@ -56,13 +57,14 @@ module _ (s : List ℕ) (c : Lengths) (old new done : List ℕ) (k : ReadTo s (c
   unfolding sheet_answer
   answer-judged w long a e =
       e
-      ∙ ap (λ (j : Job). judged j (length w)) (read-job s c old new done k j is)
+      ∙ ap (λ (j : Job). judged j (length w)) (read-job present s c old new done k j is)
       ∙ enough-work (job_read (read_of s)) (length w) long
       ∙ cond_yes _ _ refl reads
 
   pub work-judged : (w x : List ℕ) → x ≡ work_after j w → x ≡ work_printed s w
   unfolding work_printed
-  work-judged w x e = e ∙ ap (λ (j : Job). work_after j w) (read-job s c old new done k j is) ∙ cond_yes _ w refl reads
+  work-judged w x e =
+      e ∙ ap (λ (j : Job). work_after j w) (read-job present s c old new done k j is) ∙ cond_yes _ w refl reads
 
 -- ---- the operation
 

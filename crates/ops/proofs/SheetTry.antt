@@ -2,6 +2,7 @@
 use mathlib.Core.Path.{◌≡◌, refl, sym, ap, ◌∙◌}
 use mathlib.Core.List.{List}
 use Prim.Native.Nat.{ℕ, ◌*◌}
+use Rattle.version.specs.Limits.{present}
 use Rattle.std.specs.Prelude.{Ok, Err}
 use lib.Dec.{eqb}
 use lib.ListN.{take}
@@ -18,7 +19,7 @@ use Rattle.refusal.specs.Refusal.{number_of}
 use Rattle.refusal.specs.declared.Refusal.{Refusal}
 use Rattle.refusal.proofs.Answered.{number-some}
 use Rattle.ops.specs.SheetTry.{tried_facts, tried_sheet}
-use Rattle.ops.proofs.ReadJob.{read-job}
+use Rattle.reader.proofs.JobOfLists.{read-job}
 use Rattle.mask.proofs.Truth.{cond_yes, cond_no}
 
 module _ (s order : List ℕ) where
@@ -35,5 +36,5 @@ module _ (s order : List ℕ) where
   unfolding tried_sheet tried_facts
   try-tried c old new done k j is t e =
       e
-      ∙ ap (λ (j : Job). tried j order) (read-job s c old new done k j is)
+      ∙ ap (λ (j : Job). tried j order) (read-job present s c old new done k j is)
       ∙ cond_yes _ _ refl (eq-eqb (read_of s).number 0 (sym k.number))

@@ -1,6 +1,7 @@
 -- A whole text in the out slice: what is answered, and what the slice holds then.
-use Rattle.std.specs.Prelude.{cond, List, ◌++◌, ℕ, leb, length, drop, Result, Ok, Err}
+use Rattle.std.specs.Prelude.{cond, List, ◌++◌, ℕ, eqb, leb, length, drop, Result, Ok, Err}
 use Rattle.refusal.specs.Refusal.{number_of}
+use Rattle.refusal.specs.declared.Outcome.{Outcome}
 use Rattle.refusal.specs.declared.Refusal.{Refusal}
 use Rattle.out_slice.specs.declared.Wrote.{Wrote}
 
@@ -24,3 +25,10 @@ wrote_text t room = cond (leb (length t) room) (whole (length t)) (unwritten 15 
 -- "Entries of a lent slice past those filled keep their contents"; a refusal "leaves every lent slice unchanged"
 unfoldable pub out_with : List ℕ → List ℕ → List ℕ
 out_with t out = cond (leb (length t) (length out)) (t ++ drop (length t) out) out
+
+-- where rows go before 15: what they refuse by is answered, and all bytes stay; else the text is written
+unfoldable pub wrote_past : Outcome → List ℕ → ℕ → Wrote
+wrote_past o t room = cond (eqb o.number 0) (wrote_text t room) (unwritten o.number o.second)
+
+unfoldable pub out_past : Outcome → List ℕ → List ℕ → List ℕ
+out_past o t out = cond (eqb o.number 0) (out_with t out) out

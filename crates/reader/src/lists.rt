@@ -72,7 +72,7 @@ fn parts_by(v: Version, sheet: &[u8], lists: &mut Lists) -> Result<Result<Length
 }
 
 // Reading by a version.
-pub(crate) fn read_lists_by(v: Version, sheet: &[u8], lists: &mut Lists) -> Result<Lengths, Refusal>
+pub fn read_lists_by(v: Version, sheet: &[u8], lists: &mut Lists) -> Result<Lengths, Refusal>
     requires { lists.old ≡ no_lists }
     ensures { ReadInto v sheet.now (counts_of result) lists.new.old_steps lists.new.new_steps lists.new.done }
 {

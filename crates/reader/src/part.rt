@@ -5,7 +5,7 @@ ghost use Rattle.facts.specs.JobPart.{job_part, PastLines};
 use crate::lists::{Lists, read_lists};
 
 // The offset past the first n lines.
-fn past_lines(s: &[u8], n: usize) -> usize
+pub fn past_lines(s: &[u8], n: usize) -> usize
     ensures { PastLines n s.now result }
 {
     let mut left = n;

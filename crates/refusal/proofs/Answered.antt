@@ -5,13 +5,13 @@ use Rattle.refusal.specs.Rows.{pass, refuse, first}
 use Rattle.refusal.specs.declared.Outcome.{Outcome}
 use Rattle.refusal.specs.Refusal.{number_of, outcome_of}
 use Rattle.refusal.specs.declared.Row.{Row}
-use Rattle.refusal.specs.declared.Row.TheVariants.{Layout, OutOfRange, BadList, BadLength, NameTwice, UnusedPlace, NoStart, UnknownStep, CannotFire, TooManyKept, NotInNewRoute, UsesDiffer, NoFitOrder, ShortWork, ShortSlice, BadOrder, TooEarly, StepCannotFire, NoEdition, BadEdition, BadShelf}
+use Rattle.refusal.specs.declared.Row.TheVariants.{Layout, OutOfRange, BadList, BadLength, NameTwice, UnusedPlace, NoStart, UnknownStep, CannotFire, TooManyKept, NotInNewRoute, UsesDiffer, NoFitOrder, ShortWork, ShortSlice, BadOrder, TooEarly, StepCannotFire, NoEdition, BadEdition, BadShelf, BeyondScope}
 use Rattle.refusal.specs.declared.Refusal.{Refusal}
 use Rattle.refusal.proofs.Rows.{head-refuses, head-passes, rows_pass, rows-refuse}
 
 -- no row has the number 0
 pub number-some : (r : Row) → eqb (number_of r) 0 ≡ false
-number-some = elim [ Layout ↦ refl | OutOfRange ↦ refl | BadList ↦ refl | BadLength ↦ refl | NameTwice ↦ refl | UnusedPlace ↦ refl | NoStart ↦ refl | UnknownStep ↦ refl | CannotFire ↦ refl | TooManyKept ↦ refl | NotInNewRoute ↦ refl | UsesDiffer ↦ refl | NoFitOrder ↦ refl | ShortWork ↦ refl | ShortSlice ↦ refl | BadOrder ↦ refl | TooEarly ↦ refl | StepCannotFire ↦ refl | NoEdition ↦ refl | BadEdition ↦ refl | BadShelf ↦ refl ]
+number-some = elim [ Layout ↦ refl | OutOfRange ↦ refl | BadList ↦ refl | BadLength ↦ refl | NameTwice ↦ refl | UnusedPlace ↦ refl | NoStart ↦ refl | UnknownStep ↦ refl | CannotFire ↦ refl | TooManyKept ↦ refl | NotInNewRoute ↦ refl | UsesDiffer ↦ refl | NoFitOrder ↦ refl | ShortWork ↦ refl | ShortSlice ↦ refl | BadOrder ↦ refl | TooEarly ↦ refl | StepCannotFire ↦ refl | NoEdition ↦ refl | BadEdition ↦ refl | BadShelf ↦ refl | BeyondScope ↦ refl ]
 
 -- an error is the answer of all rows
 pub err-refuses : (e : Refusal) (o : Outcome) → refuse (number_of e.row) e.second ≡ o → (l : List Outcome) → refuse (number_of e.row) e.second ≡ first (o ∷ l)

@@ -29,6 +29,7 @@ pub enum Row {
     NoEdition = 19,
     BadEdition = 20,
     BadShelf = 21,
+    BeyondScope = 22,
 }
 
 impl Row {

@@ -1,7 +1,7 @@
 -- The texts of a sheet in the parts that calls write, and the room that each call has.
 -- Assumes nothing.
 use mathlib.Core.Path.{◌≡◌, refl, sym, ap, ap₂, ◌∙◌}
-use mathlib.Core.Bool.{Bool, true, false}
+use mathlib.Core.Bool.{Bool, true, false, cond}
 use mathlib.Core.List.{List, [], ◌∷◌, ◌++◌, append-nil, map}
 use Prim.Native.Nat.{ℕ, ◌+◌, ◌^◌, ◌<◌}
 use Rattle.mask.specs.Mask.{members}
@@ -9,9 +9,9 @@ use Rattle.mask.proofs.FromLowest.{members-none, members-narrow}
 use Rattle.emit.specs.Numbers.{decimal, entry, over}
 use Rattle.emit.proofs.Chains.{parts, First, Second, Third, Fourth, Two, Three, Four, first-room, second-room}
 use Rattle.emit.specs.Emit.{Emits}
-use Rattle.emit.proofs.Chains.{third-room, fourth-room, two-emits, three-emits, four-emits, emits-as}
+use Rattle.emit.proofs.Chains.{third-room, fourth-room, two-emits, three-emits, four-emits, emits-as, emits_none}
 use Rattle.emit.proofs.Over.{from_zero}
-use Rattle.version.specs.Limits.{present}
+use Rattle.version.specs.declared.Version.{Version}
 use Rattle.route.specs.declared.Places.{Places}
 use Rattle.route.specs.declared.Step.{Step}
 use Rattle.layout.specs.Words.{spelling}
@@ -181,52 +181,62 @@ module _ (w : Word) (n : ℕ) where
   pub word-whole : Three (word_line w n []) (opening w) (entry n) closing
   word-whole = three-emits _ _ _ _ word-parts
 
--- a start line
-module _ (m : ℕ) where
-  start-parts : start_line present (members 64 m) [] ≡ parts (opening W.Start ∷ numbers m ∷ closing ∷ [])
+-- a start line, where the version has it, and none
+module _ (v : Version) (m : ℕ) where
+  start-parts : v.starts ≡ true
+      → start_line v (members 64 m) [] ≡ parts (opening W.Start ∷ numbers m ∷ closing ∷ [])
   unfolding start_line parts
-  start-parts = ap (λ (t : List ℕ). 40 ∷ (spelling W.Start ++ t)) (numbers-are m closing)
+  start-parts e =
+      ap (λ (t : Bool). cond t (40 ∷ (spelling W.Start ++ entries (members 64 m) closing)) []) e
+      ∙ ap (λ (t : List ℕ). 40 ∷ (spelling W.Start ++ t)) (numbers-are m closing)
 
-  pub start_first : First (start_line present (members 64 m) []) (opening W.Start)
-  start_first = first-room _ _ _ start-parts
+  start-none : v.starts ≡ false → start_line v (members 64 m) [] ≡ []
+  unfolding start_line
+  start-none e = ap (λ (t : Bool). cond t (40 ∷ (spelling W.Start ++ entries (members 64 m) closing)) []) e
 
-  pub start-second : Second (start_line present (members 64 m) []) (opening W.Start) (numbers m)
-  start-second = second-room _ _ _ _ start-parts
+  pub start_first : v.starts ≡ true → First (start_line v (members 64 m) []) (opening W.Start)
+  start_first e = first-room _ _ _ (start-parts e)
 
-  pub start-third : Third (start_line present (members 64 m) []) (opening W.Start) (numbers m) closing
-  start-third = third-room _ _ _ _ _ start-parts
+  pub start-second : v.starts ≡ true → Second (start_line v (members 64 m) []) (opening W.Start) (numbers m)
+  start-second e = second-room _ _ _ _ (start-parts e)
 
-  pub start-whole : Three (start_line present (members 64 m) []) (opening W.Start) (numbers m) closing
-  start-whole = three-emits _ _ _ _ start-parts
+  pub start-third : v.starts ≡ true → Third (start_line v (members 64 m) []) (opening W.Start) (numbers m) closing
+  start-third e = third-room _ _ _ _ _ (start-parts e)
+
+  pub start-whole : v.starts ≡ true → Three (start_line v (members 64 m) []) (opening W.Start) (numbers m) closing
+  start-whole e = three-emits _ _ _ _ (start-parts e)
+
+  pub start-lacks : v.starts ≡ false → (o : List ℕ) (n : ℕ) → Emits (start_line v (members 64 m) []) o n o n
+  start-lacks e o n = emits-as (start-none e) (emits_none o n)
 
 -- a route
-module _ (w : Word) (places : Places) (l : List Step) where
+module _ (v : Version) (w : Word) (places : Places) (l : List Step) where
   abbrev head : List ℕ
   head = word_line w places.count []
 
   abbrev start : List ℕ
-  start = start_line present (members 64 places.start) []
+  start = start_line v (members 64 places.start) []
 
   abbrev steps : List ℕ
   steps = step_lines (map form_of l) []
 
-  route-parts : route_text w places l [] ≡ parts (head ∷ start ∷ steps ∷ [])
+  route-parts : route_text v w places l [] ≡ parts (head ∷ start ∷ steps ∷ [])
   unfolding parts
   route-parts =
       word-front w places.count _
-      ∙ ap (λ (t : List ℕ). head ++ t) (start-front (members 64 places.start) steps
+      ∙ ap (λ (t : List ℕ). head ++ t) (start-front v (members 64 places.start) steps
       ∙ ap (λ (t : List ℕ). start ++ t) (sym (append-nil steps)))
 
-  pub route-first : First (route_text w places l []) head
+  pub route-first : First (route_text v w places l []) head
   route-first = first-room _ _ _ route-parts
 
-  pub route-second : Second (route_text w places l []) head start
+  pub route-second : Second (route_text v w places l []) head start
   route-second = second-room _ _ _ _ route-parts
 
-  pub route-third : Third (route_text w places l []) head start steps
+  pub route-third : Third (route_text v w places l []) head start steps
   route-third = third-room _ _ _ _ _ route-parts
 
-  pub route-whole : Three (route_text w places l []) head start steps
+  pub route-whole : Three (route_text v w places l []) head start steps
   route-whole = three-emits _ _ _ _ route-parts
 
 -- the job part

@@ -9,7 +9,7 @@ use Rattle.mask.specs.Mask.{members}
 use Rattle.mask.proofs.Truth.{split}
 use Rattle.emit.specs.Numbers.{decimal, entry, over}
 use Rattle.emit.specs.Numbers as N
-use Rattle.version.specs.Limits.{present}
+use Rattle.version.specs.declared.Version.{Version}
 use Rattle.route.specs.declared.Places.{Places}
 use Rattle.route.specs.declared.Step.{Step}
 use Rattle.layout.specs.Words.{spelling}
@@ -101,19 +101,23 @@ word-front w n =
     (front-then (λ s. 32 ∷ s) (λ s. number n (41 ∷ 10 ∷ s)) (λ s. refl)
     (front-then (number n) (λ s. 41 ∷ 10 ∷ s) (number-front n) (λ s. refl)))
 
-pub start-front : (l : List ℕ) → Front (start_line present l)
+pub start-front : (v : Version) (l : List ℕ) → Front (start_line v l)
 unfolding start_line
-start-front l =
-    front-then (λ s. 40 ∷ (spelling W.Start ++ s)) (λ s. entries l (41 ∷ 10 ∷ s)) (front-text (40 ∷ spelling W.Start))
-    (front-then (entries l) (λ s. 41 ∷ 10 ∷ s) (entries-front l) (λ s. refl))
+start-front v l = go v.starts
+  where
+    go : (t : Bool) → Front (λ s. cond t (40 ∷ (spelling W.Start ++ entries l (41 ∷ 10 ∷ s))) s)
+    go true s =
+        front-then (λ s. 40 ∷ (spelling W.Start ++ s)) (λ s. entries l (41 ∷ 10 ∷ s))
+        (front-text (40 ∷ spelling W.Start)) (front-then (entries l) (λ s. 41 ∷ 10 ∷ s) (entries-front l) (λ s. refl)) s
+    go false s = refl
 
 steps_front : (l : List Form) → Front (step_lines l)
 unfolding step_lines
 steps_front [] s = refl
 steps_front (f ∷ l) s = front-then (step_line f) (step_lines l) (step-front f) (steps_front l) s
 
-pub route-front : (w : Word) (places : Places) (l : List Step) → Front (route_text w places l)
-route-front w places l =
+pub route-front : (v : Version) (w : Word) (places : Places) (l : List Step) → Front (route_text v w places l)
+route-front v w places l =
     front-then (word_line w places.count) _ (word-front w places.count)
-    (front-then (start_line present (members 64 places.start)) (step_lines (map form_of l))
-    (start-front (members 64 places.start)) (steps_front (map form_of l)))
+    (front-then (start_line v (members 64 places.start)) (step_lines (map form_of l))
+    (start-front v (members 64 places.start)) (steps_front (map form_of l)))

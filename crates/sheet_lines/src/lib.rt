@@ -6,7 +6,6 @@ ghost use Rattle.std.specs.Prelude.{[], map};
 ghost use Rattle.mask.specs.Mask.{members};
 ghost use Rattle.emit.specs.Emit.{Room, Emits};
 ghost use Rattle.flat.specs.Flat.{steps_in};
-ghost use Rattle.version.specs.Limits.{present};
 ghost use Rattle.layout.specs.Words.{spelling};
 ghost use Rattle.layout.specs.Text.{listed, marked, step_line, step_lines, word_line, start_line, done_lines, job_text};
 ghost use Rattle.facts.specs.LinesOf.{form_of};
@@ -15,6 +14,7 @@ ghost use Rattle.sheet_lines.specs.inner.Parts.{opening, closing, lists, route_t
 use emit::{entries, entry, put};
 use layout::Word;
 use route::{Places, Step};
+use version::Numbers;
 
 // The letters of a word, from the table.
 fn word(out: &mut [u8], at: usize, w: Word) -> usize
@@ -99,14 +99,17 @@ fn word_line(out: &mut [u8], at: usize, w: Word, n: u64) -> usize
     closed(out, b)
 }
 
-// The start line that follows a head: the members of a mask, which may be all 64 or none.
-fn start_line(out: &mut [u8], at: usize, m: u64) -> usize
-    requires { Room (start_line present (members 64 m) []) out.old at }
-    ensures { Emits (start_line present (members 64 m) []) out.old at out.new result }
+// The start line that follows a head, where the version has it: the members of a mask, which may be all 64 or none.
+fn start_line(v: Numbers, out: &mut [u8], at: usize, m: u64) -> usize
+    requires { Room (start_line v (members 64 m) []) out.old at }
+    ensures { Emits (start_line v (members 64 m) []) out.old at out.new result }
 {
-    let a = opened(out, at, Word::Start);
-    let b = entries(out, a, m, 0);
-    closed(out, b)
+    if v.starts {
+        let a = opened(out, at, Word::Start);
+        let b = entries(out, a, m, 0);
+        return closed(out, b);
+    }
+    at
 }
 
 fn step_lines(out: &mut [u8], at: usize, steps: &[u64]) -> usize
@@ -121,14 +124,21 @@ fn step_lines(out: &mut [u8], at: usize, steps: &[u64]) -> usize
     p
 }
 
-// A route's head, its start line and its steps.
-pub fn route_lines(out: &mut [u8], at: usize, w: Word, places: Places, steps: &[u64]) -> usize
-    requires { Room (route_text w places (steps_in steps.now) []) out.old at }
-    ensures { Emits (route_text w places (steps_in steps.now) [])
+// A route's head, its start line and its steps, by a version.
+pub fn route_lines(
+    v: Numbers,
+    out: &mut [u8],
+    at: usize,
+    w: Word,
+    places: Places,
+    steps: &[u64],
+) -> usize
+    requires { Room (route_text v w places (steps_in steps.now) []) out.old at }
+    ensures { Emits (route_text v w places (steps_in steps.now) [])
         out.old at out.new result }
 {
     let a = word_line(out, at, w, places.count);
-    let b = start_line(out, a, places.start);
+    let b = start_line(v, out, a, places.start);
     step_lines(out, b, steps)
 }
 

@@ -10,11 +10,11 @@ use lib.Dec.{eqb, ltb, leb}
 use lib.ListN.{length, replicate}
 use lib.Seq.{take-append_seam}
 use Rattle.mask.proofs.Truth.{cond_yes, cond_no}
-use Rattle.refusal.proofs.Rows.{cond-zero-elim}
+use Rattle.refusal.specs.Rows.{first}
 use Rattle.route.specs.Steps.{steps_of}
 use Rattle.route.specs.declared.Route.{Route}
 use Rattle.job.specs.Job.{Job, job_of}
-use Rattle.job.specs.Lines.{LinesPass}
+use Rattle.job.specs.Lines.{line_rows, LinesPass}
 use Rattle.job.proofs.Rows.{LinesFit, pass_fits}
 use Rattle.judging.specs.Judge.{judged, work_after}
 use Rattle.answering.specs.Answer.{judge_stopped}
@@ -26,7 +26,8 @@ use Rattle.facts.proofs.RowsFold.{filled-steps}
 use Rattle.facts.proofs.Widths.{records-own}
 use Rattle.writer.specs.Writes.{wrote}
 use Rattle.writer.proofs.RoundTrips.{write-reads}
-use Rattle.out_slice.specs.declared.Wrote.{Wrote}
+use Rattle.out_slice.proofs.PastRows.{past-fits}
+use Rattle.writer.specs.Written.{written}
 use Rattle.listing.specs.Listing.{listing}
 use Rattle.ops.specs.Print.{sheet_answer, listing_of}
 use Rattle.ops.proofs.Prints.{enough-work}
@@ -70,8 +71,7 @@ read-judged j passes s reads =
 
 module _ (j : Job) (out : List ℕ) (success : (wrote j (length out)).number ≡ 0) where
   lines-pass : LinesPass j
-  unfolding wrote
-  lines-pass = (cond-zero-elim (λ (x : Wrote). x.number) _ _ _ refl success).0
+  lines-pass = (past-fits (first (line_rows j)) (written j) (length out) success).0
 
   written-judged : AllWide j.old → AllWide j.new → sheet_answer (bytes_written j out) ≡ judged j 8192
   written-judged old new =

@@ -18,6 +18,7 @@ use Rattle.route.specs.declared.Places.{Places}
 use Rattle.route.specs.declared.Step.{Step}
 use Rattle.route.specs.declared.Route.{Route}
 use Rattle.opening.specs.Net.{net_row}
+use Rattle.opening.proofs.NetRows.{net-anywhere}
 use Rattle.job.specs.Job.{job_of, after_steps, new_line, job_line}
 use Rattle.name_set.specs.Among.{among}
 use Rattle.job.specs.Lines.{places_fit, start_fits, step_fits, lists_fit, step_row, step_rows, head_rows, route_rows}
@@ -79,14 +80,6 @@ route-anywhere line at places l e =
     ∙ row-passes _ 4 (after_steps at l) [] some-step
     ∙ rows_end)
 
-net-anywhere : (line at : ℕ) (places : Places) (l : List Step)
-    → eqb (net_row line places l).number 0 ≡ true → eqb (net_row at places l).number 0 ≡ true
-unfolding net_row
-net-anywhere line at places l e =
-    let (all, rest) = row-passed _ 6 line _ refl e in
-    let (begins, _) = row-passed _ 7 (line + 1) [] refl rest in
-    ap (λ (o : Outcome). eqb o.number 0) (row-passes _ 6 at _ all ∙ row-passes _ 7 (at + 1) [] begins ∙ rows_end)
-
 -- what the rows of a route by itself say of it in a sheet
 meets-anywhere : (r : Route) → Meets r → (at : ℕ)
     → Passes (route_rows at r.places (steps_of r)) × (eqb (net_row at r.places (steps_of r)).number 0 ≡ true)
@@ -94,7 +87,7 @@ unfolding alone_rows
 meets-anywhere r meets at =
     let (lines, net) = rows-passed (route_rows 1 r.places (steps_of r)) _ (eq-eqb _ 0 meets) in (
       route-anywhere 1 at r.places (steps_of r) lines,
-      net-anywhere 1 at r.places (steps_of r) (head_passed (net_row 1 r.places (steps_of r)) [] net).0,
+      net-anywhere 1 2 at (at + 1) r.places (steps_of r) (head_passed (net_row 1 r.places (steps_of r)) [] net).0,
     )
 
 -- rows that pass at the end say nothing

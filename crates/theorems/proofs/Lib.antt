@@ -36,3 +36,4 @@ pub mod LongestListing
 pub mod StartLines
 pub mod EditionsStored
 pub mod Main
+pub mod BetweenEditions

@@ -1,7 +1,7 @@
--- The whole promise on one page, in 01's order: the sheet, its bytes both ways, the start lines and the longer names of
--- 02, its look-up, slice and precedence with 02's cloth, fit orders, what judge gives and its listing shows, the shelf
--- of 02, and demand 3. Each is proved in the file that its name is cited from. Code meets it through the contracts,
--- which are equalities with the definitions that these theorems speak of.
+-- The whole promise on one page, in 01's order: the sheet, its bytes both ways, the start lines, the converter and the
+-- longer names of 02, its look-up, slice and precedence with 02's cloth, fit orders, what judge gives and its listing
+-- shows, the shelf of 02, and demand 3. Each is proved in the file that its name is cited from. Code meets it through
+-- the contracts, which are equalities with the definitions that these theorems speak of.
 use mathlib.Core.Path.{◌≡◌, refl}
 use mathlib.Core.Logic.{◌↔◌, ◌⊎◌}
 use mathlib.Core.Bool.{true, false, not, ◌&&◌}
@@ -69,6 +69,9 @@ use Rattle.writer.proofs.Inverses as W
 use Rattle.writer.proofs.RoundTrips.{write-reads}
 use Rattle.writer.proofs.Bound.{bounded}
 use Rattle.writer.proofs.Longest.{scope-attained, present-attained}
+use Rattle.converting.specs.Up.{with_implied, raised}
+use Rattle.converting.specs.Down.{lowered}
+use Rattle.converting.specs.Either.{has_start_line}
 use Rattle.listing.specs.Listing.{listing}
 use Rattle.ops.specs.Print.{sheet_answer, listing_of, printed, out_printed}
 use Rattle.ops.specs.SheetTry.{tried_sheet}
@@ -76,6 +79,8 @@ use Rattle.examples.specs.Table.{AllPrint, table}
 use Rattle.examples.specs.LongNames.{long_names}
 use Rattle.examples.specs.Cuts.{cuts}
 use Rattle.examples.specs.Starts.{starts}
+use Rattle.examples.specs.Converted.{AllRaised, scope_letters, LRefused, AllLowered, lowerings}
+use Rattle.examples.proofs.Converted.{letters-raised, l-refused, all-lowered}
 use Rattle.examples.proofs.Examples.{examples, long-names, cuts-print, starts-print}
 use Rattle.theorems.specs.Values.{Work, all_blank, perform_all, cut_all}
 use Rattle.theorems.specs.Demand3.{Runs, steps_done, positions, Accepted, FitFor, ordered, moved, whole_job}
@@ -96,6 +101,10 @@ use Rattle.theorems.proofs.Printed.{try-sheet}
 use Rattle.ops.proofs.ListingLength.{listing-length}
 use Rattle.theorems.proofs.LongestListing.{one-listing}
 use Rattle.theorems.proofs.StartLines.{starts-fit}
+use Rattle.theorems.specs.BetweenEditions.{Raises, Lowers, Converts, to_row_7}
+use Rattle.theorems.proofs.BetweenEditions.{there-and-back, down-succeeds, up-succeeds, raised-job}
+use Rattle.theorems.proofs.BetweenEditions.{twenty-two, never-22}
+use Rattle.theorems.proofs.BetweenEditions.{scope-told, present-told, convert-back}
 use Rattle.theorems.proofs.RoundTrip.{read-then-write, write-then-read-lent, read-lent, read-then-write-lent}
 use Rattle.theorems.proofs.LookUps.{names-unique, run-follows, match-follows}
 use Rattle.theorems.proofs.Editions.{empty-good, put-good, put-eight, put-blank, put-stores, put-adds}
@@ -236,6 +245,53 @@ a-start-is-the-implied-one-exactly = implied-iff
 -- places or are empty: such sheets from bytes to bytes
 pub every-start : AllPrint starts
 every-start = starts-print
+
+-- ---- 02, "Sheets between editions": "A converter goes from 01's layout to the present one, writing out the implied
+-- start, and back."
+
+-- "Going there and back gives the first bytes again": up gives the bytes t of a sheet s exactly where down gives s of t
+pub there-and-back-gives-the-first-bytes : (s t : List ℕ) → Raises s t ↔ Lowers t s
+there-and-back-gives-the-first-bytes = there-and-back
+
+-- so with room down succeeds exactly on what up gives, and up on what down gives
+pub down-succeeds-on-what-up-gives : (t : List ℕ) (room : ℕ)
+    → ((lowered t room).number ≡ 0) ↔ ((s : List ℕ) × Raises s t × (length s ≤ room))
+down-succeeds-on-what-up-gives = down-succeeds
+
+pub up-succeeds-on-what-down-gives : (s : List ℕ) (room : ℕ)
+    → ((raised s room).number ≡ 0) ↔ ((t : List ℕ) × Lowers t s × (length t ≤ room))
+up-succeeds-on-what-down-gives = up-succeeds
+
+-- what up gives has the same facts, with the start that each route implies
+pub what-up-gives-is-the-same-job : (s t : List ℕ) → Raises s t
+    → ((read_by scope s).number ≡ 0) × ((read_of t).number ≡ 0)
+    × (job_on t ≡ with_implied (job_read (read_by scope s)))
+what-up-gives-is-the-same-job = raised-job
+
+-- "22, a form that 01's layout can't say", "after rows 1 to 7 of the sheet given and before 15": where no row to 7
+-- refuses, 22 is the answer exactly where up gives the sheet of none; and going up it never is
+pub twenty-two-is-what-01-cannot-say : (t : List ℕ) → (to_row_7 t).number ≡ 0 → (room : ℕ)
+    → ((lowered t room).number ≡ 22) ↔ ((s : List ℕ) → Raises s t → ⊥)
+twenty-two-is-what-01-cannot-say = twenty-two
+
+pub going-up-is-never-22 : (s : List ℕ) (room : ℕ) → (raised s room).number ≡ 22 → ⊥
+going-up-is-never-22 = never-22
+
+-- a sheet's second line tells its version, so one operation goes both ways
+pub the-second-line-tells : (s : List ℕ)
+    → (IsSheet scope s → has_start_line s ≡ false) × (IsSheet present s → has_start_line s ≡ true)
+the-second-line-tells s = (scope-told s, present-told s)
+
+pub converted-twice-is-the-first : (s t : List ℕ) → Converts s t → Converts t s
+converted-twice-is-the-first = convert-back
+
+-- 01's examples as 01 writes them: up gives A to K with 02's start lines, byte for byte, and refuses L by 7
+pub every-example-of-01-is-converted : AllRaised scope_letters × LRefused
+every-example-of-01-is-converted = (letters-raised, l-refused)
+
+-- starts, marks and names that 01 can't say, its greatest name, and rows that go before 22: such sheets from their bytes
+pub every-lowering : AllLowered lowerings
+every-lowering = all-lowered
 
 -- ---- 02, "Longer step names": "A name may be 1 to 4,294,967,295 and every number up to ten digits long."
 

@@ -6,3 +6,4 @@ pub mod Sheets
 pub mod Shows
 pub mod RoundTrip
 pub mod Editions
+pub mod BetweenEditions

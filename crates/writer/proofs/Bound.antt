@@ -8,7 +8,7 @@ use native.Mathlib.Nat.{suc-mul, mul-le-mul_right}
 use native.Mathlib.Omega.{arith}
 use lib.Dec.{eqb, ltb, leb}
 use lib.ListN.{length}
-use borrow.Author.Tests.{ltb-true, ltb-false, leb-true}
+use borrow.Author.Tests.{eq-eqb, ltb-true, ltb-false, leb-true}
 use Rattle.mask.proofs.Truth.{both}
 use Rattle.refusal.specs.Rows.{first}
 use Rattle.refusal.specs.declared.Outcome.{Outcome}
@@ -16,7 +16,7 @@ use Rattle.version.specs.Limits.{present, Limits}
 use Rattle.version.specs.declared.Version.{Version}
 use Rattle.version.proofs.Tens.{tenth}
 use Rattle.version.proofs.Limits.{present-limits, name-short}
-use Rattle.job.specs.Lines.{line_rows}
+use Rattle.job.specs.Lines.{line_rows, LinesPass}
 use Rattle.layout.specs.Words.{spelling}
 use Rattle.layout.specs.Text.{Form, Lines, digits, number, entries, listed, marked, step_line, word_line, job_line}
 use Rattle.layout.specs.Text.{start_line, step_lines, done_lines, job_text, text, Short, Shorts}
@@ -202,3 +202,7 @@ written-length j h =
     subst (λ (x : Lines). length (text present x) ≤ longest present) (lines_same j)
     (long-text present present-limits (lines_of (as_records j)) (all-marks (lines_of (as_records j)))
     (all-starts (lines_of (as_records j))) (lines-fine present (lines_of (as_records j)) passes))
+
+-- so it fits the bound of the present version
+pub text-short : (j : J.Job) → LinesPass j → length (written j) ≤ 20500
+text-short j pass = written-length j (eq-eqb _ 0 pass)

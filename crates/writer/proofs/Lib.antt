@@ -2,7 +2,6 @@
 pub mod Inverses
 pub mod Bound
 pub mod Longest
-pub mod Answers
 pub mod LongLists
 pub mod RoundTrips
 pub mod WholeText

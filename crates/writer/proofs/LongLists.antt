@@ -6,15 +6,16 @@ use Prim.Native.Nat.{ℕ}
 use Rattle.job.specs.Job.{Job, cut}
 use Rattle.job.proofs.LongLists.{Refused, laid-alike}
 use Rattle.writer.specs.Writes.{wrote, out_after}
+use Rattle.out_slice.specs.OutSlice.{wrote_past, out_past}
 use Rattle.out_slice.specs.declared.Wrote.{Wrote}
 
 module _ (j k : Job) (r : Refused j k) where
   wrote-alike : (n : ℕ) → wrote j n ≡ wrote k n
-  unfolding wrote
+  unfolding wrote_past
   wrote-alike n = rw (r.alike, r.refused)
 
   out-alike : (l : List ℕ) → out_after j l ≡ out_after k l
-  unfolding out_after
+  unfolding out_past
   out-alike l = rw (r.alike, r.refused)
 
 -- ---- both lists laid as numbers

@@ -3,6 +3,7 @@
 use crate::guarded::Guarded;
 use crate::seed::seed;
 use host::{Printed, Tried};
+use reference::convert;
 use reference::fit::try_sheet;
 use reference::net::Marking;
 use reference::print;
@@ -30,6 +31,30 @@ pub fn compare_print(sheet: &[u8], work: &[u8], out: &[u8], dice: &mut Dice) -> 
     same_buffer(sheet, "sheet", lent.buffer(), &buffers_after[0]);
     same_buffer(sheet, "work", work.buffer(), &buffers_after[1]);
     same_buffer(sheet, "out", out.buffer(), &buffers_after[2]);
+    (answer, out_after)
+}
+
+/// A way between 01's layout and the present one: the engine's and the second program's.
+#[derive(Clone, Copy)]
+pub struct Way {
+    pub engine: fn(&[u8], &mut [u8]) -> Printed,
+    pub second_program: convert::Way,
+}
+
+/// Takes a sheet that way with an out slice that has these contents. Compares the answer,
+/// the out slice and all that stands around them; gives the answer and the out slice.
+pub fn compare_way(way: Way, sheet: &[u8], out: &[u8], dice: &mut Dice) -> (Printed, Vec<u8>) {
+    let mut out_after = out.to_vec();
+    let expected = match (way.second_program)(sheet, &mut out_after) {
+        Ok(written) => printed(0, 0, written),
+        Err(refusal) => printed(refusal.number, refusal.second, 0),
+    };
+    let (lent, mut out) = (Guarded::new(sheet, dice), Guarded::new(out, dice));
+    let buffers_after = [lent.with(sheet), out.with(&out_after)];
+    let answer = (way.engine)(lent.slice(), out.slice_mut());
+    same(sheet, &answer, &expected);
+    same_buffer(sheet, "sheet", lent.buffer(), &buffers_after[0]);
+    same_buffer(sheet, "out", out.buffer(), &buffers_after[1]);
     (answer, out_after)
 }
 

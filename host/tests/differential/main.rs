@@ -1,10 +1,12 @@
 //! The engine, held to the second program: every answer, and every byte of every
-//! slice that a call is lent. Print and try on sheets are called through the
-//! static library, and all operations by the program `drive`, over scripts.
+//! slice that a call is lent. Print, try, up and down on sheets are called through
+//! the static library, and all operations by the program `drive`, over scripts.
 //!
 //! The seed is fixed; the variable SEED gives another.
 
 mod compare;
+mod conversions;
+mod convert;
 mod crowded;
 mod damaged;
 mod drive;

@@ -7,7 +7,7 @@ use reference::sheet::form;
 const SHEET: &str = include_str!("../../../examples/letters/A.sheet");
 
 /// The sheet without its start lines, which 01's version doesn't have.
-fn of_01(sheet: &str) -> String {
+pub fn of_01(sheet: &str) -> String {
     let lines = sheet.split_inclusive('\n');
     lines.filter(|line| !line.starts_with("(start")).collect()
 }
@@ -33,15 +33,20 @@ const NUMBERS: [&str; 11] = [
     "10000000000",
 ];
 
-/// Each number of example A becomes each of these.
-#[test]
-fn numbers_at_their_limits() {
+/// Example A with each of these in the place of one of its numbers, of each in turn.
+pub fn with_other_numbers() -> impl Iterator<Item = [String; NUMBERS.len()]> {
     let digit = |at: usize| SHEET.as_bytes()[at].is_ascii_digit();
-    let begins = (1..SHEET.len()).filter(|&at| digit(at) && !digit(at - 1));
-    for begin in begins {
+    let begins = (1..SHEET.len()).filter(move |&at| digit(at) && !digit(at - 1));
+    begins.map(|begin| {
         let (before, rest) = SHEET.split_at(begin);
         let after = rest.trim_start_matches(|c: char| c.is_ascii_digit());
-        let sheets = NUMBERS.map(|number| [before, number, after].concat());
+        NUMBERS.map(|number| [before, number, after].concat())
+    })
+}
+
+#[test]
+fn numbers_at_their_limits() {
+    for sheets in with_other_numbers() {
         let answers = compare_script("versions", &sheets.map(by_both).concat());
         assert_eq!(answers.len(), 3 * NUMBERS.len());
     }
@@ -60,14 +65,19 @@ const ENDS: [&str; 9] = [
     " (write))",
 ];
 
-/// Each form's end in example A becomes each of these, so that marks stand in every
-/// place; the present version alone takes one, at a step's end.
+/// Example A with each of these in the place of one form's end, of each in turn.
+pub fn with_other_ends() -> impl Iterator<Item = [String; ENDS.len()]> {
+    let ends = SHEET.match_indices(')').map(|(at, _)| at);
+    ends.map(|end| {
+        let (before, after) = (&SHEET[..end], &SHEET[end + 1..]);
+        ENDS.map(|mark| [before, mark, after].concat())
+    })
+}
+
+/// Marks stand in every place; the present version alone takes one, at a step's end.
 #[test]
 fn marks_in_every_place() {
-    let ends = SHEET.match_indices(')').map(|(at, _)| at);
-    for end in ends {
-        let (before, after) = (&SHEET[..end], &SHEET[end + 1..]);
-        let sheets = ENDS.map(|mark| [before, mark, after].concat());
+    for sheets in with_other_ends() {
         let answers = compare_script("marks", &sheets.map(by_both).concat());
         assert_eq!(answers.len(), 3 * ENDS.len());
     }

@@ -3,9 +3,9 @@
 use crate::drive::{compare_script, drive};
 use reference::judge::WORK;
 use reference::print::listing_of;
-use reference::random::lookup;
 use reference::random::records::Facts;
 use reference::random::script::PAST_A_LIMIT;
+use reference::random::{convert, lookup};
 use reference::record::Record;
 use reference::script::answer;
 use reference::script::arguments::MOST_SLICE;
@@ -322,7 +322,8 @@ fn a_script_past_its_limit() {
 #[test]
 fn arguments_past_their_limits() {
     let fire = "1 1 10 1 2 0 1 0\n";
-    for begin in PAST_A_LIMIT.iter().chain(&lookup::PAST_A_LIMIT) {
+    let of_kinds = lookup::PAST_A_LIMIT.iter().chain(&convert::PAST_A_LIMIT);
+    for begin in PAST_A_LIMIT.iter().chain(of_kinds) {
         let script = format!("{fire}{begin}{}\n{fire}", " 0".repeat(600));
         assert_eq!(compare_script("past-limits", &script).len(), 1);
     }

@@ -24,7 +24,7 @@ pub const PAST_A_LIMIT: [&str; 12] = [
     "25 2 1 1 1 1 1 2 0 0 2",
     "25 1 1 0 0 1 1 0 0 101",
     "25 1 1 0 0 1 1 0 0 1 4294967296",
-    "26",
+    "29",
 ];
 
 /// A random script. A job that leaves no room for the operations after it has a

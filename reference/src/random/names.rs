@@ -86,6 +86,19 @@ pub fn shorten(job: &mut Sheet, dice: &mut Dice) {
     rename_by(fresh_of_five, job, dice);
 }
 
+/// A name that 01's layout can say, and that none of these is; some are its greatest.
+fn fresh_of_01(taken: &[u64], dice: &mut Dice) -> u64 {
+    not_taken(taken, || match dice.below(16) {
+        0 => any(&[65_535, 65_535, 65_534, 32_768, 10_000, 9_999, 256], dice),
+        _ => up_to(any(&[99, 9_999, 65_535], dice), dice),
+    })
+}
+
+/// The same with names that 01's layout can say.
+pub fn fit_01(job: &mut Sheet, dice: &mut Dice) {
+    rename_by(fresh_of_01, job, dice);
+}
+
 fn rename_by(fresh: fn(&[u64], &mut Dice) -> u64, job: &mut Sheet, dice: &mut Dice) {
     let steps = job.old.steps.iter_mut().chain(&mut job.new.steps);
     let of_steps = steps.map(|step: &mut Step| &mut step.name);

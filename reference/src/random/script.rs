@@ -15,7 +15,7 @@ use crate::version::Version;
 pub const MOST_BYTES: usize = 60_000;
 
 /// The longest slice that is lent.
-const LONGEST: usize = MOST_SLICE as usize;
+pub(super) const LONGEST: usize = MOST_SLICE as usize;
 
 /// What a script's ending may add to its operations.
 pub(super) const ENDING: usize = 2_000;
@@ -91,7 +91,7 @@ pub const PAST_A_LIMIT: [&str; 49] = [
     "22 1 2 0 1 256",
     "23 21001",
     "23 1 256",
-    "26",
+    "29",
 ];
 
 /// A random script. Few end in the middle of an operation, have a strange word
@@ -258,7 +258,7 @@ fn out(needed: usize, dice: &mut Dice) -> String {
     fill(length.min(LONGEST), some_byte(dice))
 }
 
-fn some_byte(dice: &mut Dice) -> u8 {
+pub(super) fn some_byte(dice: &mut Dice) -> u8 {
     [0, 1, 9, 10, 255][dice.below(5)]
 }
 

@@ -1,6 +1,7 @@
 //! What each operation answers, as numbers: those of a refusal are its number,
 //! its second number and 0 in all else, and every lent slice as it then stands.
 
+use crate::convert::Way;
 use crate::fit;
 use crate::judge::{self, Moved};
 use crate::lookup;
@@ -201,6 +202,12 @@ pub fn write(facts: &Sheet, mut out: Vec<u8>) -> Vec<u64> {
 pub fn print(bytes: &[u8], mut work: Vec<u8>, mut out: Vec<u8>) -> Vec<u64> {
     let written = print::print(bytes, &mut work, &mut out).map(|length| vec![length as u64]);
     [line(written, 1), runs(&work), runs(&out)].concat()
+}
+
+/// A sheet that goes this way between editions.
+pub fn convert(way: Way, bytes: &[u8], mut out: Vec<u8>) -> Vec<u64> {
+    let written = way(bytes, &mut out).map(|length| vec![length as u64]);
+    [line(written, 1), runs(&out)].concat()
 }
 
 /// A shelf: `len`, and each of its 8 entries.

@@ -83,6 +83,12 @@ pub fn read_by_01(sheet: &[u8]) -> String {
     operation(23, &[bytes(sheet)])
 }
 
+/// Operation 26, 27 or 28: a sheet goes up, down, or the way that it is to go, with
+/// this out slice.
+pub fn convert(number: u64, sheet: &[u8], out: String) -> String {
+    operation(number, &[bytes(sheet), out])
+}
+
 /// Operation 20: a shelf is handed in.
 pub fn hand_in(in_hand: &Shelf) -> String {
     operation(20, &[shelf(in_hand)])

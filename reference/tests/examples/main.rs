@@ -1,9 +1,11 @@
 //! 01's examples, the rows of its table, orders handed in, slips, 02's names,
-//! shelf, look-up, cloth and starts, and 01's version of the layout.
+//! shelf, look-up, cloth and starts, 01's version of the layout, and sheets between
+//! editions.
 
 mod cloth;
 mod cloth_text;
 mod common;
+mod convert;
 mod edges;
 mod letters;
 mod lookup;

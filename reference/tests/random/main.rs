@@ -1,8 +1,10 @@
 //! Random sheets, and lists of names: what 01 and 02 say must hold of each of them.
 
 mod cloth;
+mod convert;
 mod kinds;
 mod kinds_of_cloth;
+mod kinds_of_convert;
 mod kinds_of_starts;
 mod layout;
 mod lookup;

@@ -1,14 +1,17 @@
 //! Scripts: worked answers for 01's examples, for wrong records, for shelves, for
-//! look-ups, for cloth and for starts, and random scripts held to a direct reading of
-//! 01's and 02's definitions.
+//! look-ups, for cloth, for starts and for sheets between editions, and random scripts
+//! held to a direct reading of 01's and 02's definitions.
 
 mod cloth;
 mod common;
+mod convert;
 mod direct;
 #[path = "../random/kinds.rs"]
 mod kinds;
 #[path = "../random/kinds_of_cloth.rs"]
 mod kinds_of_cloth;
+#[path = "../random/kinds_of_convert.rs"]
+mod kinds_of_convert;
 mod kinds_of_lookups;
 #[path = "../random/kinds_of_starts.rs"]
 mod kinds_of_starts;

@@ -1,7 +1,7 @@
 //! The words of a script: where a run ends, and what stands between numbers.
 
-use reference::random::lookup;
 use reference::random::script::PAST_A_LIMIT;
+use reference::random::{convert, lookup};
 use reference::script::answer;
 
 const FIRE: &str = "1 1 10 1 2 0 1 0";
@@ -30,7 +30,8 @@ fn a_script_with_another_byte() {
 
 #[test]
 fn an_argument_past_its_limit() {
-    for wrong in PAST_A_LIMIT.iter().chain(&lookup::PAST_A_LIMIT) {
+    let of_kinds = lookup::PAST_A_LIMIT.iter().chain(&convert::PAST_A_LIMIT);
+    for wrong in PAST_A_LIMIT.iter().chain(of_kinds) {
         let script = format!("{FIRE}\n{wrong} {}\n{FIRE}", "0 ".repeat(600));
         assert_eq!(answer(&script), "0 0 2\n", "{wrong}");
     }

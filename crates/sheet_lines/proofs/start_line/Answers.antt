@@ -1,6 +1,6 @@
--- `sheet_lines::start_line`: its parts in turn.
+-- `sheet_lines::start_line`: its parts in turn where the version has it, else nothing.
 use borrow.Author.Rules.{rules}
-use Rattle.sheet_lines.proofs.InParts.{start_first, start-second, start-third, start-whole}
+use Rattle.sheet_lines.proofs.InParts.{start_first, start-second, start-third, start-whole, start-lacks}
 use Rattle.sheet_lines.proofs.start_line.Goals as goal
 
 pub opened-a-requires : goal.opened-a-requires
@@ -15,5 +15,8 @@ entries-b-requires c = record {
 pub closed-requires : goal.closed-requires
 closed-requires c = search (rules, start-third)
 
+pub returns-then-v : goal.returns-then-v
+returns-then-v c = search (rules, start-whole)
+
 pub returns : goal.returns
-returns c = search (rules, start-whole)
+returns c = search (rules, start-lacks)

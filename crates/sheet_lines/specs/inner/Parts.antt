@@ -1,7 +1,7 @@
 -- The parts of a text that an emitter writes at once.
 use Rattle.std.specs.Prelude.{List, [], ◌∷◌, map, ℕ}
 use Rattle.mask.specs.Mask.{members}
-use Rattle.version.specs.Limits.{present}
+use Rattle.version.specs.declared.Version.{Version}
 use Rattle.route.specs.declared.Places.{Places}
 use Rattle.route.specs.declared.Step.{Step}
 use Rattle.layout.specs.Words.{spelling}
@@ -20,7 +20,7 @@ closing = 41 ∷ 10 ∷ []
 abbrev pub lists : Form → List ℕ → List ℕ
 lists f s = listed In f.ins (listed Out f.outs (listed Read f.reads (listed Write f.writes s)))
 
--- by the present version: a head, its start line, its steps
-abbrev pub route_text : Word → Places → List Step → List ℕ → List ℕ
-route_text w places l s =
-    word_line w places.count (start_line present (members 64 places.start) (step_lines (map form_of l) s))
+-- by a version: a head, its start line, its steps
+abbrev pub route_text : Version → Word → Places → List Step → List ℕ → List ℕ
+route_text v w places l s =
+    word_line w places.count (start_line v (members 64 places.start) (step_lines (map form_of l) s))

@@ -68,6 +68,26 @@ pub fn cases() -> Vec<Case> {
     ]
 }
 
+/// The sheets that go to 01's layout and back: the usual job, and one of 64 places and 64
+/// steps whose lists are all full; each place is in a step, so it is 20 bytes shorter there
+/// than the longest that reads.
+pub fn between_layouts() -> [(&'static str, Vec<u8>); 2] {
+    let list = |first: u32| (first..first + 8).map(entry).collect::<String>();
+    let rest = [48, 24, 16].map(list);
+    let line = |i: u32| {
+        let ins = list(if i < 6 { 8 * i } else { 56 });
+        step(65_472 + i, &ins, &rest[0], &rest[1], &rest[2])
+    };
+    let steps: String = (0..64).map(line).collect();
+    let start: String = (0..48).chain(56..64).map(entry).collect();
+    let longest = both(64, &start, &steps, &[65_535; 64]);
+    [
+        ("usual job", sheet(OLD, NEW, &DONE)),
+        ("longest sheet that goes", longest),
+    ]
+    .map(|(name, text)| (name, text.into_bytes()))
+}
+
 fn sheet(old: &str, new: &str, done: &[u32]) -> String {
     let mut text = format!("{old}{new}(job)\n");
     for name in done {
@@ -128,7 +148,7 @@ fn falling(mut lines: Vec<String>) -> String {
 
 /// 64 steps one after another, all done; each reads what the one before wrote.
 fn full(order: fn(Vec<String>) -> String) -> String {
-    let line = |i| {
+    let line = |i: u32| {
         let (from, to) = (entry(i), entry((i + 1).min(63)));
         step(1_000 + i, &from, &to, &entry((i + 31) % 32), &entry(i % 32))
     };

@@ -1,7 +1,8 @@
-//! The engine's print and try and the twin's, timed on the same sheets in one run;
-//! then judge from a shelf, and put.
+//! The engine's print, try, up and down and the twin's, timed on the same sheets in one
+//! run; then judge from a shelf, and put.
 
 mod cases;
+mod convert;
 mod shelf;
 mod stack;
 mod timing;
@@ -13,7 +14,10 @@ const WORK: usize = 8_192;
 const OUT: usize = 16_384;
 
 fn main() {
-    println!("Times of one print or try, engine and twin in turn: least and median of the rounds.");
+    println!(
+        "Times of one print, try, up or down, engine and twin in turn: least and median of the"
+    );
+    println!("rounds.");
     println!("The work and out slices are not cleared between calls.");
     println!("Stack: the engine's deepest use, in bytes.\n");
     println!(
@@ -28,6 +32,7 @@ fn main() {
     for case in cases.iter().filter(|case| case.tried) {
         try_row(case);
     }
+    convert::print_rows();
     shelf::print_rows();
 }
 

@@ -7,6 +7,7 @@
 
 mod chosen;
 mod chosen_cloth;
+mod chosen_convert;
 mod chosen_lookups;
 mod chosen_marks;
 mod chosen_names;

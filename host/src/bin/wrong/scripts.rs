@@ -1,16 +1,16 @@
 //! Scripts and the second program's answers to them.
 
-use crate::chosen_starts;
 use crate::edit::root;
-use crate::{chosen, chosen_cloth, chosen_lookups, chosen_marks, chosen_names, chosen_shelves};
+use crate::{chosen, chosen_cloth, chosen_convert, chosen_lookups, chosen_marks};
+use crate::{chosen_names, chosen_shelves, chosen_starts};
 use reference::random::dice::{mix, Dice};
-use reference::random::{lookup, script, shelf};
+use reference::random::{convert, lookup, script, shelf};
 use reference::script::numbers::MOST_BYTES;
 use reference::script::{answers, line};
 use std::fs;
 
-/// So many random scripts, each as long as drive takes; one of shelves is added, and
-/// one of look-ups.
+/// So many random scripts, each as long as drive takes; one of shelves is added, one of
+/// look-ups and one of sheets between editions.
 const SCRIPTS: u64 = 5;
 
 /// A script, and each operation's number with the line of its answer.
@@ -47,20 +47,23 @@ impl Script {
     }
 }
 
-/// Four by hand, drive's own script among them; then random ones.
+/// Five by hand, drive's own script among them; then random ones.
 pub fn all() -> Vec<Script> {
     let own = fs::read_to_string(root().join("crates/drive/stdin")).expect("no script of drive's");
     let by_hand = [
         own + &chosen::script() + &chosen_shelves::script(),
         chosen_lookups::script() + &chosen_names::script(),
         chosen_starts::script(),
+        chosen_convert::script(),
         chosen_cloth::script() + &chosen_marks::script() + TOO_LONG,
     ];
     assert!(by_hand.iter().all(|text| text.len() <= MOST_BYTES));
     let random = (0..SCRIPTS).map(|number| long(script, number));
     let shelves = long(shelf::script, SCRIPTS);
     let lookups = long(lookup::script, SCRIPTS + 1);
-    let texts = by_hand.into_iter().chain(random).chain([shelves, lookups]);
+    let converted = long(convert::script, SCRIPTS + 2);
+    let last = [shelves, lookups, converted];
+    let texts = by_hand.into_iter().chain(random).chain(last);
     texts.map(Script::of).collect()
 }
 

@@ -1,6 +1,6 @@
 -- `ops::print::answer`: the sheet's refusal, or judge's answer to the job that its lists hold.
 use borrow.Author.Rules.{rules}
-use Rattle.ops.proofs.ReadJob.{lengths-few, read-passes}
+use Rattle.reader.proofs.JobOfLists.{lengths-few, read-passes}
 use Rattle.ops.proofs.Prints.{answer-refused, work-refused, answer-judged, work-judged}
 use Rattle.ops.proofs.print.answer.Goals as goal
 

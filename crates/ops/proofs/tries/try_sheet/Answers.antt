@@ -1,6 +1,6 @@
 -- `ops::tries::try_sheet`: the sheet's refusal, or try's answer to the job that its lists hold.
 use borrow.Author.Rules.{rules}
-use Rattle.ops.proofs.ReadJob.{lengths-few, read-passes}
+use Rattle.reader.proofs.JobOfLists.{lengths-few, read-passes}
 use Rattle.ops.proofs.SheetTry.{try-refused, try-tried}
 use Rattle.ops.proofs.tries.try_sheet.Goals as goal
 

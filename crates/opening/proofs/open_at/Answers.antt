@@ -1,7 +1,7 @@
--- `opening::open`: the two tests in turn, on what the pass over the steps found.
+-- `opening::open_at`: the two tests in turn, on what the pass over the steps found.
 use borrow.Author.Rules.{rules}
 use Rattle.opening.proofs.NetRows.{net-six, net-seven, net-neither}
-use Rattle.opening.proofs.open.Goals as goal
+use Rattle.opening.proofs.open_at.Goals as goal
 
 pub returns-then-not-within-clause-outcome : goal.returns-then-not-within-clause-outcome
 returns-then-not-within-clause-outcome c = search (rules, net-six)

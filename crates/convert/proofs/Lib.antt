@@ -1,0 +1,2 @@
+-- Why what convert wrote lies in its buffer.
+pub mod Fits
