@@ -55,7 +55,7 @@ module _ (t : List ℕ) (z : (read_of t).number ≡ 0) where
         all-said present.greatest j (subst (NamesTo present.greatest) (sym lines-are) names) passes
 
     pub down-reads : read_by scope (down_text t) ≡ started_both [] [] (read_of t)
-    unfolding down_text written_by
+    unfolding written_by
     down-reads =
         let (rows, facts) = sheet-passes present-limits t of-present z in
         let x = of-present.lines in
@@ -89,12 +89,10 @@ module _ (t : List ℕ) (z : (read_of t).number ≡ 0) where
 
     -- so up gives the sheet again
     pub up-again : up_text (down_text t) ≡ t
-    unfolding up_text
     up-again = ap written down-job ∙ read-then-write present-limits t z
 
   -- the text of any job that is this one, where row 22 refuses no line
   pub down-fits : (k : Job) → k ≡ j → pass ≡ first (beyond_rows k) → length (written_by scope k) ≤ 20500
-  unfolding down_text
   down-fits k is said =
       let passes : Passes (beyond_rows j) = ap (λ (o : Outcome). eqb o.number 0)
       (sym (said ∙ ap (λ (i : Job). first (beyond_rows i)) is)) in
@@ -117,7 +115,7 @@ module _ (s : List ℕ) (z : (read_by scope s).number ≡ 0) where
       }
 
   pub down-again : down_text (up_text s) ≡ s
-  unfolding down_text written_by
+  unfolding written_by
   down-again =
       ap (λ (k : Job). text scope (lines_of k)) (up-job s z)
       ∙ ap (text scope) (up-lines s z)

@@ -73,7 +73,7 @@ module _ (s : List ℕ) (z : (read_by scope s).number ≡ 0) where
   up-lines = ap (started_lines old new) lines-are
 
   pub up-reads : read_of (up_text s) ≡ started_both old new (read_by scope s)
-  unfolding up_text written_by lines_of
+  unfolding written_by lines_of
   up-reads =
       ap (λ (x : Lines). read_of (text present x)) up-lines
       ∙ starts-put-in scope-limits s of-scope z old new
@@ -110,5 +110,4 @@ module _ (s : List ℕ) (z : (read_by scope s).number ≡ 0) where
 
   -- as does the text of any job that is this one
   pub up-fits : (j : Job) → j ≡ scope_job s → length (written j) ≤ 20500
-  unfolding up_text
   up-fits j is = subst (λ (k : Job). length (written k) ≤ 20500) (sym is) up-short

@@ -17,14 +17,13 @@ use Rattle.reader.specs.inner.Read.{ReadInto}
 use Rattle.reader.specs.Refused.{counts_of}
 use Rattle.reader.specs.declared.Lengths.{Lengths}
 use Rattle.reader.proofs.JobOfLists.{lists-read, read-job, Few, job-few}
-use Rattle.writer.specs.Written.{written_by, written}
-use Rattle.out_slice.specs.OutSlice.{wrote_text, out_with}
+use Rattle.out_slice.specs.OutSlice.{wrote_text, out_with, wrote_past, out_past}
 use Rattle.out_slice.specs.declared.Wrote.{Wrote}
 use Rattle.out_slice.proofs.PastRows.{text-answer, text_out}
-use Rattle.converting.specs.Up.{with_implied, scope_job, read_row, up_row, up_text, raised, out_raised}
+use Rattle.converting.specs.Up.{with_implied, scope_job, read_row, up_row}
 use Rattle.converting.specs.Nets.{net_rows}
 use Rattle.converting.specs.Beyond.{beyond_rows}
-use Rattle.converting.specs.Down.{present_job, down_row, down_text, lowered, out_lowered}
+use Rattle.converting.specs.Down.{present_job, down_row}
 
 module _ (v : Version) (s : List ℕ) (old new done : List ℕ) where
   -- reading refuses
@@ -78,30 +77,14 @@ pub implied-few : (j k : Job) → k ≡ with_implied j → Few j → Few k
 implied-few j k is h = subst Few (sym is)
     (record { old_places = h.old_places; old = h.old; new_places = h.new_places; new = h.new })
 
--- no row refuses: the text is written
-module _ (s : List ℕ) (j : Job) where
-  module _ (rows : pass ≡ up_row s) (is : j ≡ scope_job s) where
-    pub up-answer : (room : ℕ) (r : Wrote) → r ≡ wrote_text (written j) room → r ≡ raised s room
-    unfolding up_text
-    up-answer room r e =
-        text-answer (up_row s) (up_text s) (sym (ap (λ (o : Outcome). o.number) rows)) room r
-        (e ∙ ap (λ (k : Job). wrote_text (written k) room) is)
+-- no row refuses: the job's text is written
+module _ (o : Outcome) (text : Job → List ℕ) (j k : Job) (rows : pass ≡ o) (is : j ≡ k) where
+  pub job-answer : (room : ℕ) (r : Wrote) → r ≡ wrote_text (text j) room → r ≡ wrote_past o (text k) room
+  job-answer room r e =
+      text-answer o (text k) (sym (ap (λ (x : Outcome). x.number) rows)) room r
+      (e ∙ ap (λ (i : Job). wrote_text (text i) room) is)
 
-    pub up-out : (o p : List ℕ) → p ≡ out_with (written j) o → p ≡ out_raised s o
-    unfolding up_text
-    up-out o p e =
-        text_out (up_row s) (up_text s) (sym (ap (λ (o : Outcome). o.number) rows)) o p
-        (e ∙ ap (λ (k : Job). out_with (written k) o) is)
-
-  module _ (rows : pass ≡ down_row s) (is : j ≡ present_job s) where
-    pub down-answer : (room : ℕ) (r : Wrote) → r ≡ wrote_text (written_by scope j) room → r ≡ lowered s room
-    unfolding down_text
-    down-answer room r e =
-        text-answer (down_row s) (down_text s) (sym (ap (λ (o : Outcome). o.number) rows)) room r
-        (e ∙ ap (λ (k : Job). wrote_text (written_by scope k) room) is)
-
-    pub down-out : (o p : List ℕ) → p ≡ out_with (written_by scope j) o → p ≡ out_lowered s o
-    unfolding down_text
-    down-out o p e =
-        text_out (down_row s) (down_text s) (sym (ap (λ (o : Outcome). o.number) rows)) o p
-        (e ∙ ap (λ (k : Job). out_with (written_by scope k) o) is)
+  pub job-out : (out p : List ℕ) → p ≡ out_with (text j) out → p ≡ out_past o (text k) out
+  job-out out p e =
+      text_out o (text k) (sym (ap (λ (x : Outcome). x.number) rows)) out p
+      (e ∙ ap (λ (i : Job). out_with (text i) out) is)

@@ -16,10 +16,11 @@ use Rattle.converting.specs.Beyond.{beyond_rows}
 abbrev pub present_job : List ℕ → Job
 present_job s = job_read (read_of s)
 
+-- the row that refuses it: 1 to 7, then 22
 unfoldable pub down_row : List ℕ → Outcome
 down_row s = first (read_row (read_of s) ∷ (net_rows present (present_job s) ++ beyond_rows (present_job s)))
 
-unfoldable pub down_text : List ℕ → List ℕ
+abbrev pub down_text : List ℕ → List ℕ
 down_text s = written_by scope (present_job s)
 
 -- these rows, then the text, or 15; `room` is the out slice's length

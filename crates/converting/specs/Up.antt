@@ -26,15 +26,15 @@ with_implied j = record {
 abbrev pub scope_job : List ℕ → Job
 scope_job s = with_implied (job_read (read_by scope s))
 
--- rows 1, 4, 2, 3 and 5 of a sheet, as reading it answers
+-- rows 1, 4, 2, 3 and 5 of a sheet, as reading answers it
 abbrev pub read_row : Sheet → Outcome
 read_row z = record { number = z.number; second = z.second }
 
--- these, then rows 6 and 7 as 01 has them
+-- the row that refuses it: these, then 6 and 7 as 01 has them
 unfoldable pub up_row : List ℕ → Outcome
 up_row s = first (read_row (read_by scope s) ∷ net_rows scope (scope_job s))
 
-unfoldable pub up_text : List ℕ → List ℕ
+abbrev pub up_text : List ℕ → List ℕ
 up_text s = written (scope_job s)
 
 -- these rows, then the text, or 15; `room` is the out slice's length

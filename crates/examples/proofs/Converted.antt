@@ -11,7 +11,7 @@ use Rattle.facts.specs.SheetRows.{start_line_count}
 use Rattle.writer.specs.Written.{written_by}
 use Rattle.converting.specs.Nets.{net_rows}
 use Rattle.converting.specs.Beyond.{says_step, says_start, beyond_lines, beyond_route, beyond_rows}
-use Rattle.converting.specs.Up.{up_row, up_text}
+use Rattle.converting.specs.Up.{up_row}
 use Rattle.converting.specs.Down.{down_row}
 use Rattle.examples.specs.Table.{codes, bytes}
 use Rattle.examples.specs.Converted.{AllRaised, scope_letters, LRefused, AllLowered, lowerings}
@@ -23,7 +23,7 @@ unfolding digits number entries listed marked step_line word_line start_line job
 the-text = tt
 
 pub letters-raised : AllRaised scope_letters
-unfolding codes bytes the-layout the_facts the-masks the-routes the-text net_rows up_row up_text
+unfolding codes bytes the-layout the_facts the-masks the-routes the-text net_rows up_row
 letters-raised = (
   (refl, refl),
   (
@@ -45,7 +45,7 @@ letters-raised = (
 )
 
 pub l-refused : LRefused
-unfolding codes bytes the-layout the_facts the-masks the-routes the-text net_rows up_row up_text
+unfolding codes bytes the-layout the_facts the-masks the-routes the-text net_rows up_row
 l-refused = refl
 
 pub all-lowered : AllLowered lowerings

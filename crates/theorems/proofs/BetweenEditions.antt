@@ -238,7 +238,7 @@ module _ (s : List ℕ) where
 
 -- what up gives is a sheet of the present layout, and what it is given one of 01's
 raised-told : (s t : List ℕ) → Raises s t → (has_start_line s ≡ false) × (has_start_line t ≡ true)
-unfolding up_text written_by
+unfolding written_by
 raised-told s t g =
     let (ok, is) = given-only (up_row s) (up_text s) t g in
     (scope-told s (of-scope s (up-read s ok)), ap has_start_line (sym is) ∙ present-has (lines_of (scope_job s)))

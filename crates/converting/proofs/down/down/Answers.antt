@@ -3,8 +3,10 @@ use borrow.Author.Rules.{rules}
 use Rattle.job.proofs.Rows.{lists-fit}
 use Rattle.out_slice.proofs.PastRows.{refused-answer, refused-out}
 use Rattle.reader.proofs.JobOfLists.{lengths-few, lists-read, read-job, read-passes}
+use Rattle.version.specs.Limits.{scope}
+use Rattle.writer.specs.Written.{written_by}
 use Rattle.converting.proofs.Lowered.{down-fits}
-use Rattle.converting.proofs.Rows.{unread, read_on, down-unread, down-nets, down-beyond, down-answer, down-out}
+use Rattle.converting.proofs.Rows.{unread, read_on, down-unread, down-nets, down-beyond, job-answer, job-out}
 use Rattle.converting.proofs.down.down.Goals as goal
 
 pub returns-in_err-c : goal.returns-in_err-c
@@ -52,6 +54,6 @@ returns c =
     let rows = down-beyond _ (read_on _ _ _ _ _ _ k) _ told c.in_ok-check_nets.ensures _ c.in_ok-check_said.ensures in
     let (answer, out) = c.write_text.ensures in
     record {
-      value = down-answer _ _ rows told _ _ answer;
-      out_after = down-out _ _ rows told _ _ out;
+      value = job-answer _ (written_by scope) _ _ rows told _ _ answer;
+      out_after = job-out _ (written_by scope) _ _ rows told _ _ out;
     }

@@ -3,9 +3,10 @@ use mathlib.Core.Path.{ap, ◌∙◌}
 use borrow.Author.Rules.{rules}
 use Rattle.out_slice.proofs.PastRows.{refused-answer, refused-out}
 use Rattle.reader.proofs.JobOfLists.{lengths-few, lists-read, read-job}
+use Rattle.writer.specs.Written.{written}
 use Rattle.converting.specs.Up.{with_implied}
 use Rattle.converting.proofs.Raised.{up-fits}
-use Rattle.converting.proofs.Rows.{unread, read_on, few, implied-few, up-unread, up-nets, up-answer, up-out}
+use Rattle.converting.proofs.Rows.{unread, read_on, few, implied-few, up-unread, up-nets, job-answer, job-out}
 use Rattle.converting.proofs.up.up.Goals as goal
 
 pub returns-in_err-c : goal.returns-in_err-c
@@ -49,6 +50,6 @@ returns c =
     let rows = up-nets _ (read_on _ _ _ _ _ _ k) _ told _ c.in_ok-check_nets.ensures in
     let (answer, out) = c.write_text.ensures in
     record {
-      value = up-answer _ _ rows told _ _ answer;
-      out_after = up-out _ _ rows told _ _ out;
+      value = job-answer _ written _ _ rows told _ _ answer;
+      out_after = job-out _ written _ _ rows told _ _ out;
     }
