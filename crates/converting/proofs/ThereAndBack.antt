@@ -2,18 +2,15 @@
 -- first bytes again. Assumes nothing.
 use mathlib.Core.Path.{◌≡◌, ap, ◌∙◌}
 use mathlib.Core.Bool.{true}
-use mathlib.Core.List.{List, [], ◌∷◌, ◌++◌}
+use mathlib.Core.List.{List, ◌∷◌, ◌++◌}
 use Prim.Native.Nat.{ℕ, ◌+◌}
 use lib.Dec.{eqb}
-use lib.ListN.{length}
 use borrow.Author.Tests.{eq-eqb, eqb-true}
 use Rattle.refusal.specs.Rows.{first}
 use Rattle.refusal.specs.declared.Outcome.{Outcome}
-use Rattle.refusal.proofs.Rows.{rows_pass, rows-passed, head-passes, head_passed, rows_end}
+use Rattle.refusal.proofs.Rows.{rows_pass, rows-passed, head-passes, head_passed}
 use Rattle.version.specs.Limits.{scope, present}
-use Rattle.opening.specs.Net.{net_row_at}
-use Rattle.opening.proofs.NetRows.{net-anywhere}
-use Rattle.job.specs.Job.{Job, new_line}
+use Rattle.job.specs.Job.{Job}
 use Rattle.facts.specs.Facts.{read_by, read_of}
 use Rattle.facts.proofs.PassingLines.{Passes}
 use Rattle.converting.specs.Up.{scope_job, read_row, up_row, up_text}
