@@ -36,7 +36,7 @@ extern "C" {
  * second             gets the refusal's place (a line, an offset or a position in the order), and 0 where the order is accepted.
  * marking            gets the places that hold a token after the order, place p at bit p, and 0 where it is refused.
  *
- * Returns 0 where the order is accepted, else 1 to 12, 16, 17 or 18. A refusal changes nothing but the two numbers. */
+ * Returns 0 where the order is accepted, else 1 to 12, 16, 17, 18 or 23. A refusal changes nothing but the two numbers. */
 uint32_t reroute_try(const uint8_t *sheet, size_t sheet_len, const uint8_t *order, size_t order_len, uint64_t *second, uint64_t *marking);
 
 /* Judges the job of a sheet and prints the listing.
@@ -48,8 +48,8 @@ uint32_t reroute_try(const uint8_t *sheet, size_t sheet_len, const uint8_t *orde
  * second             gets the bytes needed where out is too short (15), and else 0.
  * written            gets the length of the listing, and 0 on a refusal.
  *
- * Returns 0 where a listing was written. A job that stays is such a listing too, `(refused NUMBER SECOND)`. Returns 14 where work is too short: nothing
- * is changed then but the two numbers. Returns 15 where out is too short: out is as it was. */
+ * Returns 0 where a listing was written. A job that stays is such a listing too, `(refused NUMBER SECOND)`, with a number from 1 to 13 or 23. Returns 14
+ * where work is too short: nothing is changed then but the two numbers. Returns 15 where out is too short: out is as it was. */
 uint32_t reroute_print(const uint8_t *sheet, size_t sheet_len, uint8_t *work, size_t work_len, uint8_t *out, size_t out_len, uint64_t *second, uint64_t *written);
 
 /* Takes a sheet of the first layout up to the present one: behind each head it writes a line `(start ..)` with the places that the first layout implies,
@@ -61,8 +61,8 @@ uint32_t reroute_print(const uint8_t *sheet, size_t sheet_len, uint8_t *work, si
  * second             gets the refusal's place (a line of the sheet given, or an offset), the bytes needed where out is too short (15), and else 0.
  * written            gets the length of the sheet that was written, and 0 on a refusal.
  *
- * Returns 0 where a sheet was written, else 1 to 7 or 15. There is no start line to be empty, so 7 is at the head's line as 6 is. On a refusal out is as
- * it was. reroute_down takes what was written back to the bytes given. */
+ * Returns 0 where a sheet was written, else 1 to 7 or 15; 23 isn't looked for. There is no start line to be empty, so 7 is at the head's line as 6 is.
+ * On a refusal out is as it was. reroute_down takes what was written back to the bytes given. */
 uint32_t reroute_up(const uint8_t *sheet, size_t sheet_len, uint8_t *out, size_t out_len, uint64_t *second, uint64_t *written);
 
 /* Takes a sheet of the present layout down to the first one, if that can say what it says: it leaves out the start lines.
@@ -72,8 +72,8 @@ uint32_t reroute_up(const uint8_t *sheet, size_t sheet_len, uint8_t *out, size_t
  *                    enough.
  * second, written    as for reroute_up.
  *
- * Returns 0 where a sheet was written, else 1 to 7, 15 or 22. 22 is at the first line that the first layout can't say: a start other than the implied
- * one, a name over 65,535, a cloth mark. On a refusal out is as it was. reroute_up takes what was written back to the bytes given. */
+ * Returns 0 where a sheet was written, else 1 to 7, 15 or 22; 23 isn't looked for. 22 is at the first line that the first layout can't say: a start
+ * other than the implied one, a name over 65,535, a cloth mark. On a refusal out is as it was. reroute_up takes what was written back to the bytes given. */
 uint32_t reroute_down(const uint8_t *sheet, size_t sheet_len, uint8_t *out, size_t out_len, uint64_t *second, uint64_t *written);
 
 #ifdef __cplusplus

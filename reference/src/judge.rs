@@ -26,7 +26,7 @@ pub struct Moved {
     pub values: Vec<(u64, usize)>,
 }
 
-/// Judges the job of these facts: rows 14, 4, 2, 3, 5 and 6 to 13.
+/// Judges the job of these facts: rows 14, 4, 2, 3 and 5, 6, 7 and 23, and 8 to 13.
 pub fn judge(sheet: &Sheet, work: &mut [u8]) -> Result<Moved, Refusal> {
     refuse_if(work.len() < WORK, 14, 0)?;
     let job = Job::of(sheet)?;

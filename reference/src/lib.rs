@@ -14,6 +14,7 @@ pub mod lookup;
 pub mod net;
 pub mod print;
 pub mod random;
+pub mod reads;
 pub mod record;
 pub mod refusal;
 pub mod script;

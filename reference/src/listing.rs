@@ -4,7 +4,7 @@ use crate::judge::Moved;
 use crate::refusal::Refusal;
 use crate::sheet::form;
 
-/// The listing of an answer of judge, or of a refusal up to 13.
+/// The listing of an answer of judge, or of a refusal up to 13 or by 23.
 pub fn listing(answer: &Result<Moved, Refusal>) -> String {
     match answer {
         Ok(facts) => moved(facts),

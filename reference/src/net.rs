@@ -1,6 +1,8 @@
-//! The net: firing, the start, rows 6 and 7, and the run of the done list (8, 9).
+//! The net: firing, the start, the rows of a route after its lines (6, 7 and 23), and
+//! the run of the done list (8, 9).
 
 use crate::lines;
+use crate::reads;
 use crate::refusal::{refuse, refuse_if, Refusal};
 use crate::sheet::{Route, Sheet, Step};
 use crate::version::Version;
@@ -60,15 +62,21 @@ fn start_by(route: &Route, version: &Version) -> Marking {
     }
 }
 
-/// Rows 6 and 7 of both routes, old, then new.
+/// Rows 6 and 7 of both routes, old, then new: the converter looks for no 23.
 pub fn check(sheet: &Sheet, version: &Version) -> Result<(), Refusal> {
     check_places(&sheet.old, sheet.old_line(), version)?;
     check_places(&sheet.new, sheet.new_line_by(version), version)
 }
 
+/// Rows 6, 7 and 23 of one route, with its head at this line.
+pub fn check_route(route: &Route, head: usize) -> Result<(), Refusal> {
+    check_places(route, head, &Version::PRESENT)?;
+    reads::check(route, head)
+}
+
 /// Rows 6 and 7 of one route: a place in no step, at its head; no start place, at the
 /// line that tells the start.
-pub fn check_places(route: &Route, head: usize, version: &Version) -> Result<(), Refusal> {
+fn check_places(route: &Route, head: usize, version: &Version) -> Result<(), Refusal> {
     let used = |place: &u64| {
         let mut steps = route.steps.iter();
         steps.any(|step| step.ins.contains(place) || step.outs.contains(place))
@@ -81,7 +89,8 @@ pub fn check_places(route: &Route, head: usize, version: &Version) -> Result<(),
 /// Runs the done list on the old route, by the rows to 9; gives its marking.
 pub fn run(sheet: &Sheet) -> Result<Marking, Refusal> {
     lines::check(sheet, &Version::PRESENT)?;
-    check(sheet, &Version::PRESENT)?;
+    check_route(&sheet.old, sheet.old_line())?;
+    check_route(&sheet.new, sheet.new_line())?;
     let mut marking = start(&sheet.old);
     for (index, name) in sheet.done.iter().enumerate() {
         let line = sheet.done_line(index + 1);

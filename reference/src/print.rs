@@ -6,7 +6,7 @@ use crate::refusal::{refuse_if, Refusal};
 use crate::sheet;
 
 /// Prints the listing of the sheet into the out slice; gives the bytes written.
-/// A refusal up to 13 is itself the listing; 14 and 15 are print's own.
+/// A refusal up to 13, or by 23, is itself the listing; 14 and 15 are print's own.
 pub fn print(bytes: &[u8], work: &mut [u8], out: &mut [u8]) -> Result<usize, Refusal> {
     refuse_if(work.len() < WORK, 14, 0)?;
     let text = text(bytes, work);

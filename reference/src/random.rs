@@ -13,9 +13,11 @@ mod damage_start;
 pub mod dice;
 pub mod jobs;
 pub mod lookup;
+pub mod mistype;
 pub mod names;
 pub mod orders;
 pub mod plan;
+pub mod reads;
 pub mod records;
 pub mod redraw;
 pub mod script;
@@ -36,7 +38,7 @@ pub fn sheet(dice: &mut Dice) -> Sheet {
         redraw::change_a_place(&mut old, dice);
     }
     let mut redrawn = plan.clone();
-    if dice.chance(50) {
+    if dice.chance(57) {
         redraw::reorder(&mut redrawn, dice);
     }
     for _ in 0..[0, 1, 1, 1, 1, 2, 2, 3][dice.below(8)] {
@@ -52,13 +54,15 @@ pub fn sheet(dice: &mut Dice) -> Sheet {
     } else {
         dice.below(length + 1)
     };
-    let mut done = run_at_random(&old, length, dice);
+    let done = run_at_random(&old, length, dice);
+    let mut sheet = Sheet { old, new, done };
     match dice.below(100) {
-        0..=7 => spoil(&mut done, dice),
-        8..=9 => starts::change(&mut old, dice),
+        0..=7 => spoil(&mut sheet.done, dice),
+        8..=10 => starts::change(&mut sheet.old, dice),
+        11..=17 => mistype::job(&mut sheet, dice),
         _ => {}
     }
-    Sheet { old, new, done }
+    sheet
 }
 
 /// Some jobs have begun further on, and few routes have a start of another kind.
@@ -76,8 +80,8 @@ fn change_starts(old: &mut Route, new: &mut Route, dice: &mut Dice) {
 fn plan_and_length(dice: &mut Dice) -> (Plan, usize) {
     match dice.below(100) {
         0..=7 => (Plan::looping(dice), dice.from_to(12, 64)),
-        8..=15 => (Plan::round(dice), dice.from_to(4, 20)),
-        16..=37 => (Plan::random(9, 14, dice), 14),
+        8..=16 => (Plan::round(dice), dice.from_to(4, 20)),
+        17..=37 => (Plan::random(9, 14, dice), 14),
         38..=46 => (Plan::cutting(dice), 16),
         _ => (Plan::random(1, 7, dice), 9),
     }

@@ -96,8 +96,8 @@ impl Shelf {
     }
 }
 
-/// Rows 4, 2, 3, 5, 6 and 7 of a route, as an old route meets them.
+/// Rows 4, 2, 3, 5, 6, 7 and 23 of a route, as an old route meets them.
 fn check_as_old(route: &Route) -> Result<(), Refusal> {
     lines::check_route(route, HEAD, &Version::PRESENT)?;
-    net::check_places(route, HEAD, &Version::PRESENT)
+    net::check_route(route, HEAD)
 }

@@ -1,4 +1,4 @@
-//! A job: rows 6 to 12, straight replay, and what is kept.
+//! A job: rows 6 to 12 with 23, straight replay, and what is kept.
 
 use crate::lookup::Lookup;
 use crate::reader::Sheet;
@@ -75,10 +75,10 @@ pub fn way(sheet: &Sheet, uses: &mut Uses) -> Result<Way, Refusal> {
     Ok(Way::Search(kept))
 }
 
-/// The rows from 6 to 9; finds the occurrences in both routes.
+/// The rows from 6 to 9 with 23; finds the occurrences in both routes.
 fn find(sheet: &Sheet, uses: &mut Uses) -> Result<(), Refusal> {
-    sheet.old.check(1)?;
-    sheet.new.check(sheet.new_line())?;
+    sheet.old.open(1)?;
+    sheet.new.open(sheet.new_line())?;
     run(sheet, uses)?;
     place(sheet, uses);
     Ok(())

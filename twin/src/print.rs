@@ -9,7 +9,7 @@ use crate::search::WORK;
 use crate::Refusal;
 
 /// Prints the listing; gives the number, the second number and the bytes
-/// written. A refusal up to 13 is itself the listing.
+/// written. A refusal up to 13 or by 23 is itself the listing.
 pub fn print(sheet: &[u8], work: &mut [u8], out: &mut [u8]) -> (u32, u64, u64) {
     let Some(work) = work.first_chunk_mut::<WORK>() else {
         return (14, 0, 0);

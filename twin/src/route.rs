@@ -36,9 +36,10 @@ pub struct Route {
     pub len: usize,
     pub steps: [Step; MOST],
     names: Names,
-    /// All places and all variables of the steps.
+    /// All places, all variables and the written variables of the steps.
     used: u64,
     pub variables: u32,
+    written: u32,
 }
 
 impl Route {
@@ -51,6 +52,7 @@ impl Route {
             names: Names::new(),
             used: 0,
             variables: 0,
+            written: 0,
         }
     }
 
@@ -63,6 +65,7 @@ impl Route {
         self.len += 1;
         self.used |= step.ins | step.outs;
         self.variables |= step.reads | step.writes;
+        self.written |= step.writes;
         true
     }
 
@@ -81,7 +84,25 @@ impl Route {
         self.all_places() & !outs
     }
 
-    /// Rows 6 and 7 of a route with its head at this line.
+    /// Rows 6, 7 and 23 of a route with its head at this line.
+    pub fn open(&self, head: u64) -> Result<(), Refusal> {
+        self.check(head)?;
+        match self.unwritten_read() {
+            Some(index) => Err((23, head + 2 + index as u64)),
+            None => Ok(()),
+        }
+    }
+
+    /// The first step that reads what no step writes.
+    fn unwritten_read(&self) -> Option<usize> {
+        if self.variables == self.written {
+            return None;
+        }
+        let unwritten = |step: &Step| step.reads & !self.written != 0;
+        self.all().iter().position(unwritten)
+    }
+
+    /// Rows 6 and 7 alone.
     pub fn check(&self, head: u64) -> Result<(), Refusal> {
         self.check_at(head, head + 1)
     }

@@ -1,5 +1,4 @@
 -- Laws on converting a sheet.
-pub mod BeyondLines
 pub mod Beyond
 pub mod BothNets
 pub mod Told

@@ -7,6 +7,7 @@ use Prim.Native.Nat.{ℕ, ◌+◌}
 use lib.Dec.{eqb}
 use borrow.Author.Tests.{eq-eqb, eqb-true, leb-true, le-leb}
 use Rattle.mask.proofs.Truth.{both}
+use Rattle.refusal.specs.Rows.{each_line}
 use Rattle.refusal.specs.declared.Outcome.{Outcome}
 use Rattle.refusal.proofs.Rows.{row-passes, row-passed, rows_pass, rows-passed, rows_end}
 use Rattle.version.specs.Limits.{scope}
@@ -18,7 +19,7 @@ use Rattle.facts.specs.LinesOf.{form_of, lines_of}
 use Rattle.facts.specs.Names.{Within, form_names, NamesTo}
 use Rattle.facts.specs.Marks.{Marks, MarksTo}
 use Rattle.facts.proofs.PassingLines.{Passes}
-use Rattle.converting.specs.Beyond.{says_name, says_step, says_start, beyond_lines, beyond_route, beyond_rows}
+use Rattle.converting.specs.Beyond.{says_name, says_step, says_start, beyond_route, beyond_rows}
 
 abbrev pub Implied : Places → List Step → Type 0
 Implied places l = places.start ≡ implied_start places.count l
@@ -36,9 +37,9 @@ unmarked true off on = off
 unmarked false off on = on
 
 steps-said : (g line : ℕ) (l : List Step) → Within g (form_names (map form_of l))
-    → Passes (beyond_lines says_step line l)
+    → Passes (each_line says_step 22 line l)
     → Within scope.greatest (form_names (map form_of l)) × Marks scope.cloth (map form_of l)
-unfolding beyond_lines says_step form_of
+unfolding each_line says_step form_of
 steps-said g line [] names e = (tt, tt)
 steps-said g line (s ∷ l) names e =
     let (here, below) = row-passed (says_step s) 22 line _ refl e in
@@ -46,15 +47,15 @@ steps-said g line (s ∷ l) names e =
     let (rest, marks) = steps-said g (line + 1) l names.1 below in
     (((names.0.0, leb-true s.name scope.greatest name), rest), (unmarked s.cloth mark, marks))
 
-dones-said : (g line : ℕ) (l : List ℕ) → Within g l → Passes (beyond_lines says_name line l) → Within scope.greatest l
-unfolding beyond_lines
+dones-said : (g line : ℕ) (l : List ℕ) → Within g l → Passes (each_line says_name 22 line l) → Within scope.greatest l
+unfolding each_line
 dones-said g line [] names e = tt
 dones-said g line (n ∷ l) names e =
     let (here, below) = row-passed (says_name n) 22 line _ refl e in
     ((names.0.0, leb-true n scope.greatest here), dones-said g (line + 1) l names.1 below)
 
 route-said : (line : ℕ) (places : Places) (l : List Step) → Passes (beyond_route line places l)
-    → Implied places l × Passes (beyond_lines says_step (line + 2) l)
+    → Implied places l × Passes (each_line says_step 22 (line + 2) l)
 unfolding beyond_route says_start
 route-said line places l e =
     let (start, below) = row-passed (eqb places.start (implied_start places.count l)) 22 (line + 1) _ refl e in
@@ -79,8 +80,8 @@ all-said g j names e =
 -- ---- and what is said passes
 
 steps-pass : (line : ℕ) (l : List Step) → Within scope.greatest (form_names (map form_of l))
-    → Marks scope.cloth (map form_of l) → Passes (beyond_lines says_step line l)
-unfolding beyond_lines says_step form_of
+    → Marks scope.cloth (map form_of l) → Passes (each_line says_step 22 line l)
+unfolding each_line says_step form_of
 steps-pass line [] names marks = ap (λ (o : Outcome). eqb o.number 0) rows_end
 steps-pass line (s ∷ l) names marks =
     ap (λ (o : Outcome). eqb o.number 0) (row-passes (says_step s) 22 line _
@@ -91,8 +92,8 @@ steps-pass line (s ∷ l) names marks =
     off true h = h refl
     off false h = refl
 
-dones-pass : (line : ℕ) (l : List ℕ) → Within scope.greatest l → Passes (beyond_lines says_name line l)
-unfolding beyond_lines
+dones-pass : (line : ℕ) (l : List ℕ) → Within scope.greatest l → Passes (each_line says_name 22 line l)
+unfolding each_line
 dones-pass line [] names = ap (λ (o : Outcome). eqb o.number 0) rows_end
 dones-pass line (n ∷ l) names =
     ap (λ (o : Outcome). eqb o.number 0) (row-passes (says_name n) 22 line _ (le-leb n scope.greatest names.0.1))

@@ -4,9 +4,9 @@ ghost use Rattle.flat.specs.Flat.{steps_in};
 ghost use Rattle.job.specs.Job.{job_in};
 ghost use Rattle.job.specs.Lines.{LinesPass};
 ghost use Rattle.out_slice.specs.OutSlice.{wrote_of};
-ghost use Rattle.refusal.specs.Rows.{first};
+ghost use Rattle.refusal.specs.Rows.{first, each_line};
 ghost use Rattle.refusal.specs.Refusal.{outcome_of};
-ghost use Rattle.converting.specs.Beyond.{says_name, says_step, beyond_lines, beyond_route, beyond_rows};
+ghost use Rattle.converting.specs.Beyond.{says_name, says_step, beyond_route, beyond_rows};
 ghost use Rattle.converting.specs.Down.{lowered, out_lowered};
 
 use crate::nets::check_nets;
@@ -35,7 +35,7 @@ fn says_step(s: Step) -> bool
 // Row 22 over step lines, top down; the first is on `line`.
 fn check_steps(steps: &[u64], line: u64) -> Result<(), Refusal>
     requires { (line ≤ 1000) × (length (steps_in steps.now) ≤ 64) }
-    ensures { outcome_of result ≡ first (beyond_lines says_step line (steps_in steps.now)) }
+    ensures { outcome_of result ≡ first (each_line says_step 22 line (steps_in steps.now)) }
 {
     for (i, s) in flat::steps(steps).enumerate() {
         if !says_step(s) {
@@ -48,7 +48,7 @@ fn check_steps(steps: &[u64], line: u64) -> Result<(), Refusal>
 // The same over done lines.
 fn check_done(done: &[u32], line: u64) -> Result<(), Refusal>
     requires { (line ≤ 1000) × (length done.now ≤ 64) }
-    ensures { outcome_of result ≡ first (beyond_lines says_name line done.now) }
+    ensures { outcome_of result ≡ first (each_line says_name 22 line done.now) }
 {
     for (i, &name) in done.iter().enumerate() {
         if !says_name(name) {

@@ -1,6 +1,7 @@
 -- The table of converted sheets, by computing. Assumes nothing.
 use mathlib.Core.Path.{refl}
 use Rattle.route.specs.Firing.{implied_start}
+use Rattle.refusal.specs.Rows.{each_line}
 use Rattle.name_set.specs.Among.{among}
 use Rattle.version.specs.Limits.{name_fits}
 use Rattle.job.specs.Lines.{places_fit, done_row}
@@ -10,7 +11,7 @@ use Rattle.facts.specs.LinesOf.{form_of, lines_of}
 use Rattle.facts.specs.SheetRows.{start_line_count}
 use Rattle.writer.specs.Written.{written_by}
 use Rattle.converting.specs.Nets.{net_rows}
-use Rattle.converting.specs.Beyond.{says_step, says_start, beyond_lines, beyond_route, beyond_rows}
+use Rattle.converting.specs.Beyond.{says_step, says_start, beyond_route, beyond_rows}
 use Rattle.converting.specs.Up.{up_row}
 use Rattle.converting.specs.Down.{down_row}
 use Rattle.examples.specs.Table.{codes, bytes}
@@ -49,6 +50,6 @@ unfolding codes bytes the-layout the_facts the-masks the-routes the-text net_row
 l-refused = refl
 
 pub all-lowered : AllLowered lowerings
-unfolding codes bytes the-layout the_facts the-masks the-routes the-text says_step says_start beyond_lines beyond_route
+unfolding codes bytes the-layout the_facts the-masks the-routes the-text says_step says_start each_line beyond_route
     beyond_rows net_rows down_row
 all-lowered = (refl, (refl, (refl, (refl, (refl, (refl, (refl, (refl, (refl, (refl, (refl, (refl, tt))))))))))))

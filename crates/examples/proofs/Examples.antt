@@ -4,8 +4,9 @@ use mathlib.Core.List.{List, [], ◌∷◌, ◌++◌}
 use Rattle.mask.specs.Mask.{has, members_from, members, collect, count}
 use Rattle.route.specs.Steps.{steps_of, union, names, lookup}
 use Rattle.route.specs.Firing.{can_fire, fire, if_fires}
-use Rattle.refusal.specs.Rows.{unless, first}
-use Rattle.opening.specs.Net.{net_row_at}
+use Rattle.refusal.specs.Rows.{unless, first, each_line}
+use Rattle.opening.specs.Net.{net_row_at, open_row}
+use Rattle.opening.specs.Unwritten.{unwritten_rows}
 use Rattle.version.specs.Limits.{name_fits}
 use Rattle.name_set.specs.Among.{among}
 use Rattle.job.specs.Lines.{places_fit, start_fits, step_fits, variable_list, place_list, lists_fit, step_row}
@@ -39,6 +40,7 @@ use Rattle.examples.specs.Table.{Example, codes, bytes, AllPrint, table}
 use Rattle.examples.specs.LongNames.{long_names}
 use Rattle.examples.specs.Cuts.{cuts}
 use Rattle.examples.specs.Starts.{rounds, misplaced, wrong_places, empty_starts, starts}
+use Rattle.examples.specs.Unwritten.{nobody_writes, in_its_place, unwritten}
 
 -- The definitions on the way, a name for each stage: to open the name opens all on its line.
 
@@ -47,7 +49,8 @@ unfolding has members_from members collect count
 the-masks = tt
 
 unfoldable pub the-routes : Unit {0}
-unfolding steps_of union names lookup can_fire fire if_fires unless first net_row_at
+unfolding steps_of union names lookup can_fire fire if_fires unless first each_line net_row_at
+    unwritten_rows open_row
 the-routes = tt
 
 unfoldable pub the-layout : Unit {0}
@@ -119,3 +122,14 @@ starts-print =
     print-both rounds (misplaced ++ (wrong_places ++ empty_starts)) rounds-print
     (print-both misplaced (wrong_places ++ empty_starts) misplaced-print
     (print-both wrong_places empty_starts wrong-places-print empty-starts-print))
+
+nobody-writes-print : AllPrint nobody_writes
+unfolding codes bytes the-layout the_facts the-masks the-routes the-run the-slice the-judge the-listing
+nobody-writes-print = (refl, (refl, (refl, (refl, (refl, (refl, (refl, tt)))))))
+
+in-its-place-print : AllPrint in_its_place
+unfolding codes bytes the-layout the_facts the-masks the-routes the-run the-slice the-judge the-listing
+in-its-place-print = (refl, (refl, (refl, (refl, (refl, (refl, (refl, (refl, (refl, tt)))))))))
+
+pub unwritten-print : AllPrint unwritten
+unwritten-print = print-both nobody_writes in_its_place nobody-writes-print in-its-place-print

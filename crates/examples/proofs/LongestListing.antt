@@ -10,8 +10,9 @@ use Rattle.mask.specs.Mask.{has, members_from, members, collect, count, below}
 use Rattle.route.specs.Steps.{union, names, lookup}
 use Rattle.route.specs.Firing.{can_fire, fire, if_fires}
 use Rattle.route.specs.declared.Step.{Step}
-use Rattle.refusal.specs.Rows.{unless, first}
-use Rattle.opening.specs.Net.{net_row_at}
+use Rattle.refusal.specs.Rows.{unless, first, each_line}
+use Rattle.opening.specs.Net.{net_row_at, open_row}
+use Rattle.opening.specs.Unwritten.{unwritten_rows}
 use Rattle.version.specs.Limits.{name_fits}
 use Rattle.name_set.specs.Among.{among}
 use Rattle.job.specs.Job.{Job}
@@ -74,10 +75,10 @@ longest-passes = refl
 
 pub longest-judged : length (listing (judged longest_job 8192)) ≡ 7053
 unfolding longest_job has members_from members collect count union names lookup can_fire fire if_fires unless first
-    net_row_at name_fits places_fit start_fits step_fits variable_list place_list lists_fit among step_row step_rows
-    head_rows route_rows done_row done_rows line_rows checked run_from ran in_turn clash tied comes_after row performed
-    is_some variables keeps sweep_step sweep kept_mask kept_of same_mark same_data same_step all_of fire_all steps_on
-    runs_straight kept_row kept_lines kept_rows padded last_writer after_of writer_of answer judge_found judge_rows
-    judged listing moved_text moved_line after_line after_lines order_line marking_line value_line value_lines line over
-    entry decimal digits
+    each_line net_row_at unwritten_rows open_row name_fits places_fit start_fits step_fits variable_list place_list
+    lists_fit among step_row step_rows head_rows route_rows done_row done_rows line_rows checked run_from ran in_turn
+    clash tied comes_after row performed is_some variables keeps sweep_step sweep kept_mask kept_of same_mark same_data
+    same_step all_of fire_all steps_on runs_straight kept_row kept_lines kept_rows padded last_writer after_of
+    writer_of answer judge_found judge_rows judged listing moved_text moved_line after_line after_lines order_line
+    marking_line value_line value_lines line over entry decimal digits
 longest-judged = refl

@@ -102,7 +102,8 @@ D =
       listing = "(refused 13 11)" ∷ [];
     }
 
--- "E, `(new 3)` without 10, 20 from 0 to 1, 30 from 1 to 2 reading 0 1; 10 and 20 done: `(refused 11 9)`", two lines on
+-- "E, `(new 3)` without 10, 20 from 0 to 1, 30 from 1 to 2 reading 0 1; 10 and 20 done". 02: "Example E then gives the
+-- new number at the line of step 30."
 abbrev pub new_e : List String
 new_e =
     "(new 3)"
@@ -112,7 +113,7 @@ new_e =
     ∷ []
 
 abbrev pub E : Example
-E = record { old = old_a; new = new_e; done = "(done 10)" ∷ "(done 20)" ∷ []; listing = "(refused 11 11)" ∷ [] }
+E = record { old = old_a; new = new_e; done = "(done 10)" ∷ "(done 20)" ∷ []; listing = "(refused 23 9)" ∷ [] }
 
 -- "F, as E but 30 reads 1 only: kept 1, dropped 1, order 2, marking 1, value 1 2."
 abbrev pub F : Example

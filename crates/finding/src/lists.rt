@@ -12,7 +12,7 @@ use job::checks::check_lines;
 use refusal::Refusal;
 use running::lists::{begin, perform};
 
-// Rows 6 to 9 where all lines pass; the steps done go into `occurrences`, the new route's steps for them into
+// Rows 6 to 9 with 23, where all lines pass; the steps done go into `occurrences`, the new route's steps for them into
 // `matches`.
 pub fn gather(
     job: FlatJob,

@@ -15,7 +15,7 @@ use Rattle.refusal.specs.declared.Outcome.{Outcome}
 use Rattle.refusal.proofs.Rows.{rows_pass, rows-refuse, row-refuses, ends-refused}
 use Rattle.route.specs.Steps.{blank}
 use Rattle.flat.specs.Flat.{steps_in, Laid}
-use Rattle.opening.specs.Net.{net_row}
+use Rattle.opening.specs.Net.{open_row}
 use Rattle.route.specs.declared.Places.{Places}
 use Rattle.route.specs.declared.Step.{Step}
 use Rattle.job.specs.Job.{Job, cut, new_line}
@@ -197,15 +197,15 @@ unfolding alone_rows
 alone-cut places l = go (ltb 64 (length l)) refl
   where
     go : (t : Bool) → ltb 64 (length l) ≡ t
-        → first (route_rows 1 places (take 65 l) ++ (net_row 1 places (take 65 l) ∷ []))
-        ≡ first (route_rows 1 places l ++ (net_row 1 places l ∷ []))
+        → first (route_rows 1 places (take 65 l) ++ (open_row 1 places (take 65 l) ∷ []))
+        ≡ first (route_rows 1 places l ++ (open_row 1 places l ∷ []))
     go true e =
         let over = ltb-true 64 (length l) e in
         (front-alike (over_rows 1 places (take 64 l)) (route_rows 1 places (take 65 l)) (route_rows 1 places l) _ _
         (cut-over 1 places l over) (route-over 1 places l over) (over-refused 1 places _)).0
     go false e =
         let few : length l ≤ 64 = ltb-false 64 (length l) e in
-        ap (λ (x : List Step). first (route_rows 1 places x ++ (net_row 1 places x ∷ [])))
+        ap (λ (x : List Step). first (route_rows 1 places x ++ (open_row 1 places x ∷ [])))
         (take_all 65 l (omega arith))
 
 pub alone-laid : (places : Places) (l : List Step) (n : ℕ) (w : List ℕ) → Laid l n w

@@ -23,6 +23,7 @@ use Rattle.refusal.specs.declared.Outcome.{Outcome}
 use Rattle.refusal.proofs.Rows.{head-refuses, head-passes, head_passed, row-refuses, row-passes, row-passed, rows_end}
 use Rattle.refusal.proofs.Rows.{rows-passed}
 use Rattle.refusal.proofs.Answered.{err-rows, ok-rows}
+use Rattle.refusal.proofs.Sheet.{sheet-old, sheet-new, sheet-done}
 use Rattle.refusal.specs.Refusal.{number_of}
 use Rattle.refusal.specs.declared.Refusal.{Refusal}
 use Rattle.version.specs.Limits.{present, name_fits}
@@ -255,31 +256,28 @@ module _ (j : Job) where
   abbrev old_rows : List Outcome
   old_rows = route_rows 1 j.old_places j.old
 
-  abbrev new_rows : List Outcome
-  new_rows = route_rows (new_line j) j.new_places j.new
+  abbrev new_at : ℕ → List Outcome
+  new_at n = route_rows n j.new_places j.new
+
+  abbrev done_at : ℕ → List Outcome
+  done_at n = done_rows present (n + 1) 0 j.done
 
   pub lines-old : (e : Refusal) → refuse (number_of e.row) e.second ≡ first old_rows
       → refuse (number_of e.row) e.second ≡ first (line_rows j)
   unfolding line_rows
-  lines-old e is = err-rows e old_rows is _
+  lines-old = sheet-old old_rows new_at done_at (new_line j) (job_line j)
 
   module _ (passed : pass ≡ first old_rows) (head : ℕ) (head-is : head ≡ new_line j) where
     pub lines_new : (e : Refusal) → refuse (number_of e.row) e.second ≡ first (route_rows head j.new_places j.new)
         → refuse (number_of e.row) e.second ≡ first (line_rows j)
     unfolding line_rows
-    lines_new e is =
-        err-rows e new_rows (is ∙ ap (λ (n : ℕ). first (route_rows n j.new_places j.new)) head-is) _
-        ∙ sym (ok-rows old_rows passed _)
+    lines_new = sheet-new old_rows new_at done_at (new_line j) (job_line j) passed head head-is
 
     pub lines-done : pass ≡ first (route_rows head j.new_places j.new) → (line : ℕ) → line ≡ job_line j → (o : Outcome)
         → o ≡ first (done_rows present (line + 1) 0 j.done)
         → o ≡ first (line_rows j)
     unfolding line_rows
-    lines-done passed' line line-is o last =
-        last
-        ∙ ap (λ (n : ℕ). first (done_rows present (n + 1) 0 j.done)) line-is
-        ∙ sym (ok-rows new_rows (passed' ∙ ap (λ (n : ℕ). first (route_rows n j.new_places j.new)) head-is) _)
-        ∙ sym (ok-rows old_rows passed _)
+    lines-done = sheet-done old_rows new_at done_at (new_line j) (job_line j) passed head head-is
 
 -- what a job whose lines pass has
 pub record LinesFit (j : Job) : Type 0 where

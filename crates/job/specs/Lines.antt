@@ -1,12 +1,12 @@
 -- Rows 4, 2, 3 and 5: each line, top down, and for each line the rows in this order.
-use Rattle.std.specs.Prelude.{◌≡◌, Bool, not, ◌&&◌, List, [], ◌∷◌, ◌++◌, ℕ, ◌+◌, ◌≤◌, ◌<◌, eqb, ltb, leb, length, get_or}
+use Rattle.std.specs.Prelude.{Bool, not, ◌&&◌, List, [], ◌∷◌, ◌++◌, ℕ, ◌+◌, ◌≤◌, ◌<◌, eqb, ltb, leb, length, get_or}
 use Rattle.std.specs.Int.Bits.{bit_or}
 use Rattle.mask.specs.Mask.{below, within, count}
-use Rattle.refusal.specs.Rows.{unless, first}
+use Rattle.refusal.specs.Rows.{unless, first, AllPass}
 use Rattle.version.specs.Limits.{present, name_fits}
 use Rattle.version.specs.declared.Version.{Version}
 use Rattle.name_set.specs.Among.{among}
-use Rattle.opening.specs.Net.{net_row}
+use Rattle.opening.specs.Net.{open_row}
 use Rattle.route.specs.declared.Places.{Places}
 use Rattle.route.specs.declared.Step.{Step}
 use Rattle.refusal.specs.declared.Outcome.{Outcome}
@@ -77,14 +77,14 @@ line_rows j =
 
 -- no line is refused
 abbrev pub LinesPass : Job → Type 0
-LinesPass j = (first (line_rows j)).number ≡ 0
+LinesPass j = AllPass (line_rows j)
 
--- all lines, then rows 6 and 7 of the old route, then of the new
+-- all lines, then rows 6, 7 and 23 of the old route, then of the new
 unfoldable pub checked : Job → Outcome
 checked j =
     first
     (line_rows j
-    ++ (net_row 1 j.old_places j.old ∷ net_row (new_line j) j.new_places j.new ∷ []))
+    ++ (open_row 1 j.old_places j.old ∷ open_row (new_line j) j.new_places j.new ∷ []))
 
 -- no name is 0: a step that a route lacks is blank, and no other has the name 0
 abbrev pub AllNamed : List ℕ → Type 0

@@ -9,17 +9,18 @@ use borrow.Author.Tests.{not-true, not-false, eq-eqb, ne_eqb}
 use Rattle.mask.specs.Mask.{below, without, within}
 use Rattle.route.specs.Steps.{union}
 use Rattle.route.specs.Firing.{implied_start, implied_places}
-use Rattle.opening.specs.Ends.{EndsOf}
+use Rattle.opening.specs.Gathered.{GatheredFrom}
 use Rattle.refusal.specs.Rows.{pass, refuse}
 use Rattle.opening.specs.Net.{net_row_at}
 use Rattle.route.specs.declared.Places.{Places}
 use Rattle.route.specs.declared.Step.{Step}
-use Rattle.opening.specs.declared.Ends.{Ends}
+use Rattle.opening.specs.declared.Gathered.{Gathered}
 use Rattle.refusal.specs.declared.Outcome.{Outcome}
 use Rattle.refusal.proofs.Rows.{row-passes, row-passed, row-refuses, rows_end}
 
-module _ (head start : ℕ) (places : Places) (l : List Step) (e : Ends) (all : ℕ) (held : Bool) (ends : EndsOf l e)
-    (places-are : all ≡ below places.count) (held-is : held ≡ within all (bit_or e.ins e.outs)) where
+module _ (head start : ℕ) (places : Places) (l : List Step) (e : Gathered) (all : ℕ) (held : Bool)
+    (ends : GatheredFrom l e) (places-are : all ≡ below places.count)
+    (held-is : held ≡ within all (bit_or e.ins e.outs)) where
   covered : held
       ≡ within (below places.count) (bit_or (union (λ (s : Step). s.ins) l) (union (λ (s : Step). s.outs) l))
   covered = held-is ∙ ap₂ within places-are (ap₂ bit_or ends.ins ends.outs)
@@ -54,7 +55,7 @@ net-anywhere a b head start places l e =
     (row-passes _ 6 head _ all ∙ row-passes _ 7 start [] begins ∙ rows_end)
 
 -- the places that a pass over the steps implies
-pub implied_are : (count : ℕ) (l : List Step) (e : Ends) (all start : ℕ) → EndsOf l e → all ≡ below count
+pub implied_are : (count : ℕ) (l : List Step) (e : Gathered) (all start : ℕ) → GatheredFrom l e → all ≡ below count
     → start ≡ without all e.outs → record { count = count; start = start } ≡ implied_places count l
 unfolding implied_start
 implied_are count l e all start ends all-is is =

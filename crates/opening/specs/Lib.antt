@@ -1,3 +1,4 @@
--- A route as a whole: rows 6 and 7.
-pub mod Ends
+-- A route as a whole: rows 6, 7 and 23.
+pub mod Gathered
 pub mod Net
+pub mod Unwritten

@@ -15,7 +15,7 @@ sheet_answer s =
     (judged (job_read (read_of s)) 8192)
     (judge_stopped (read_of s).number (read_of s).second)
 
--- "a refusal up to 13 is itself the listing"
+-- "a refusal up to 13 is itself the listing", and 02's 23, "like one up to 13"
 unfoldable pub listing_of : List ℕ → List ℕ
 listing_of s = listing (sheet_answer s)
 

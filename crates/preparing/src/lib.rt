@@ -1,4 +1,4 @@
-// The rows from 6 to 12, where all lines pass: what try and judge start from.
+// The rows from 6 to 12 with 23, where all lines pass: what try and judge start from.
 #![tactic(auto)]
 
 ghost use Rattle.std.specs.Prelude.{◌≡◌, ◌≤◌, length, IfOk};

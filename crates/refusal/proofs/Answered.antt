@@ -1,17 +1,16 @@
 -- What an answer says of the rows that it stands for: an error refuses, a value passes.
-use Rattle.std.proofs.Common.{◌≡◌, refl, sym, ap, ◌∙◌, ℕ, Bool, true, false, List, ◌∷◌, ◌++◌, eqb}
-use Rattle.std.specs.Prelude.{Result, Ok, Err, cond}
+use Rattle.std.proofs.Common.{◌≡◌, refl, sym, ap, ◌∙◌, false, List, ◌∷◌, ◌++◌, eqb}
 use Rattle.refusal.specs.Rows.{pass, refuse, first}
 use Rattle.refusal.specs.declared.Outcome.{Outcome}
-use Rattle.refusal.specs.Refusal.{number_of, outcome_of}
+use Rattle.refusal.specs.Refusal.{number_of}
 use Rattle.refusal.specs.declared.Row.{Row}
-use Rattle.refusal.specs.declared.Row.TheVariants.{Layout, OutOfRange, BadList, BadLength, NameTwice, UnusedPlace, NoStart, UnknownStep, CannotFire, TooManyKept, NotInNewRoute, UsesDiffer, NoFitOrder, ShortWork, ShortSlice, BadOrder, TooEarly, StepCannotFire, NoEdition, BadEdition, BadShelf, BeyondScope}
+use Rattle.refusal.specs.declared.Row.TheVariants.{Layout, OutOfRange, BadList, BadLength, NameTwice, UnusedPlace, NoStart, UnknownStep, CannotFire, TooManyKept, NotInNewRoute, UsesDiffer, NoFitOrder, ShortWork, ShortSlice, BadOrder, TooEarly, StepCannotFire, NoEdition, BadEdition, BadShelf, BeyondScope, UnwrittenRead}
 use Rattle.refusal.specs.declared.Refusal.{Refusal}
 use Rattle.refusal.proofs.Rows.{head-refuses, head-passes, rows_pass, rows-refuse}
 
 -- no row has the number 0
 pub number-some : (r : Row) → eqb (number_of r) 0 ≡ false
-number-some = elim [ Layout ↦ refl | OutOfRange ↦ refl | BadList ↦ refl | BadLength ↦ refl | NameTwice ↦ refl | UnusedPlace ↦ refl | NoStart ↦ refl | UnknownStep ↦ refl | CannotFire ↦ refl | TooManyKept ↦ refl | NotInNewRoute ↦ refl | UsesDiffer ↦ refl | NoFitOrder ↦ refl | ShortWork ↦ refl | ShortSlice ↦ refl | BadOrder ↦ refl | TooEarly ↦ refl | StepCannotFire ↦ refl | NoEdition ↦ refl | BadEdition ↦ refl | BadShelf ↦ refl | BeyondScope ↦ refl ]
+number-some = elim [ Layout ↦ refl | OutOfRange ↦ refl | BadList ↦ refl | BadLength ↦ refl | NameTwice ↦ refl | UnusedPlace ↦ refl | NoStart ↦ refl | UnknownStep ↦ refl | CannotFire ↦ refl | TooManyKept ↦ refl | NotInNewRoute ↦ refl | UsesDiffer ↦ refl | NoFitOrder ↦ refl | ShortWork ↦ refl | ShortSlice ↦ refl | BadOrder ↦ refl | TooEarly ↦ refl | StepCannotFire ↦ refl | NoEdition ↦ refl | BadEdition ↦ refl | BadShelf ↦ refl | BeyondScope ↦ refl | UnwrittenRead ↦ refl ]
 
 -- an error is the answer of all rows
 pub err-refuses : (e : Refusal) (o : Outcome) → refuse (number_of e.row) e.second ≡ o → (l : List Outcome) → refuse (number_of e.row) e.second ≡ first (o ∷ l)

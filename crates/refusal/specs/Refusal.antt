@@ -3,7 +3,7 @@ use Rattle.std.specs.Prelude.{ℕ, Result, Ok, Err}
 use Rattle.refusal.specs.Rows.{pass, refuse}
 use Rattle.refusal.specs.declared.Outcome.{Outcome}
 use Rattle.refusal.specs.declared.Row.{Row}
-use Rattle.refusal.specs.declared.Row.TheVariants.{Layout, OutOfRange, BadList, BadLength, NameTwice, UnusedPlace, NoStart, UnknownStep, CannotFire, TooManyKept, NotInNewRoute, UsesDiffer, NoFitOrder, ShortWork, ShortSlice, BadOrder, TooEarly, StepCannotFire, NoEdition, BadEdition, BadShelf, BeyondScope}
+use Rattle.refusal.specs.declared.Row.TheVariants.{Layout, OutOfRange, BadList, BadLength, NameTwice, UnusedPlace, NoStart, UnknownStep, CannotFire, TooManyKept, NotInNewRoute, UsesDiffer, NoFitOrder, ShortWork, ShortSlice, BadOrder, TooEarly, StepCannotFire, NoEdition, BadEdition, BadShelf, BeyondScope, UnwrittenRead}
 use Rattle.refusal.specs.declared.Refusal.{Refusal}
 
 abbrev pub number_of : Row → ℕ
@@ -29,6 +29,7 @@ number_of NoEdition = 19
 number_of BadEdition = 20
 number_of BadShelf = 21
 number_of BeyondScope = 22
+number_of UnwrittenRead = 23
 
 -- 0 and 0 where an answer holds a value, else the row's number and the second number
 abbrev pub outcome_of : {A : Type 0} → Result A Refusal → Outcome

@@ -1,6 +1,6 @@
 -- A refusal is a number and a second number; 0 and 0 refuse nothing. "Rows go in this order": the first that refuses is
 -- the answer.
-use Rattle.std.specs.Prelude.{Bool, cond, List, [], ◌∷◌, ℕ, eqb}
+use Rattle.std.specs.Prelude.{◌≡◌, Bool, cond, List, [], ◌∷◌, ℕ, ◌+◌, eqb}
 use Rattle.refusal.specs.declared.Outcome.{Outcome}
 
 abbrev pub pass : Outcome
@@ -17,3 +17,12 @@ unless t n k = cond t pass (refuse n k)
 unfoldable pub first : List Outcome → Outcome
 first [] = pass
 first (o ∷ l) = cond (eqb o.number 0) (first l) o
+
+-- rows in turn refuse nothing
+abbrev pub AllPass : List Outcome → Type 0
+AllPass rows = (first rows).number ≡ 0
+
+-- the refusal n at each line whose entry fails the test, top down; the first is on `line`
+unfoldable pub each_line : {A : Type 0} → (A → Bool) → ℕ → ℕ → List A → List Outcome
+each_line test n line [] = []
+each_line test n line (x ∷ l) = unless (test x) n line ∷ each_line test n (line + 1) l

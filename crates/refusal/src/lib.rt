@@ -30,6 +30,7 @@ pub enum Row {
     BadEdition = 20,
     BadShelf = 21,
     BeyondScope = 22,
+    UnwrittenRead = 23,
 }
 
 impl Row {

@@ -1,4 +1,5 @@
--- Running the done list on the old route: rows 6 to 9, the last two done line by done line.
+-- Running the done list on the old route: rows 6 to 9, 8 and 9 done line by done line. 23 stands "after 7 of the same
+-- route", so before 8.
 use Rattle.std.specs.Prelude.{◌≡◌, cond, List, [], ◌∷◌, map, ℕ, ◌+◌, eqb, Result, Ok, Err}
 use Rattle.std.proofs.Math.Option.{get_or}
 use Rattle.refusal.specs.declared.Refusal.{Refusal}
@@ -27,7 +28,7 @@ run_from steps m line [] = reached m
 run_from steps m line (n ∷ l) = if_fires m (lookup n steps) (stopped 8 line) (stopped 9 line)
     (λ s m'. run_from steps m' (line + 1) l)
 
--- the operation run: the rows to 7, then the done lines from the old route's written places
+-- the operation run: the rows of the lines and of both routes, then the done lines from the old route's written places
 unfoldable pub ran : Job → Fired
 ran j =
     cond (eqb (checked j).number 0)

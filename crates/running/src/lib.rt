@@ -1,4 +1,4 @@
-// The run of a job on its old route: rows 6 to 9, and the steps done.
+// The run of a job on its old route: rows 6 to 9 with 23, and the steps done.
 use route::Marking;
 
 pub mod lists;

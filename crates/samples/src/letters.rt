@@ -50,6 +50,11 @@ fn e_new() -> Route {
     route_of(3, 1, [step(20, 1, 2, 0, 2), step(30, 2, 4, 3, 4)])
 }
 
+// E's new route, where step 30 writes 0 too: all that it reads is written.
+fn e_written_new() -> Route {
+    route_of(3, 1, [step(20, 1, 2, 0, 2), step(30, 2, 4, 3, 5)])
+}
+
 fn f_new() -> Route {
     route_of(3, 1, [step(20, 1, 2, 0, 2), step(30, 2, 4, 2, 4)])
 }
@@ -81,6 +86,10 @@ pub fn d() -> Sample {
 
 pub fn e() -> Sample {
     job(a_old(), e_new(), &[10, 20])
+}
+
+pub fn e_written() -> Sample {
+    job(a_old(), e_written_new(), &[10, 20])
 }
 
 pub fn f() -> Sample {

@@ -16,7 +16,7 @@ shelf_rows s n =
     ∷ unless (ltb s.len 8) 21 0
     ∷ []
 
--- then "rows 4, 2, 3, 5, 6 and 7 as an old route does"
+-- then "rows 4, 2, 3, 5, 6 and 7 as an old route does", and 23: "The shelf looks for it too"
 unfoldable pub put_row : Shelf → ℕ → Route → Outcome
 put_row s n r = first (shelf_rows s n ++ alone_rows r.places (steps_of r))
 

@@ -9,6 +9,7 @@ pub fn show(rt: &impl Print) -> io::Result<()> {
     say(rt, b"C", letters::c().job())?;
     say(rt, b"D", letters::d().job())?;
     say(rt, b"E", letters::e().job())?;
+    say(rt, b"E, written", letters::e_written().job())?;
     say(rt, b"F", letters::f().job())?;
     say(rt, b"G", letters::g().job())?;
     say(rt, b"H", letters::h().job())?;

@@ -40,7 +40,7 @@ pub fn show(rt: &impl Print) -> io::Result<()> {
     try_list(rt, b"try the straight list", x, &[1, 2, 3])?;
     try_list(rt, b"try what is kept of a straight job", x, &[3, 2, 1])?;
     try_list(rt, b"try F", letters::f().job(), &[2])?;
-    try_list(rt, b"try E", letters::e().job(), &[2, 1])?;
+    try_list(rt, b"try E, written", letters::e_written().job(), &[2, 1])?;
     show_17(rt)?;
     try_list(rt, b"try H", letters::h().job(), &[])
 }
@@ -54,6 +54,12 @@ pub fn show_letters(rt: &impl Print) -> io::Result<()> {
     try_list(rt, b"try 1 2 of D", letters::d().job(), &[1, 2])?;
     try_list(rt, b"try 2 1 of D", letters::d().job(), &[2, 1])?;
     try_list(rt, b"try 1 2 of E", letters::e().job(), &[1, 2])?;
+    try_list(
+        rt,
+        b"try 1 2 of E, written",
+        letters::e_written().job(),
+        &[1, 2],
+    )?;
     try_list(rt, b"try 2 of F", letters::f().job(), &[2])?;
     try_list(rt, b"try 1 of G", letters::g().job(), &[1])?;
     try_list(rt, b"try 1 of H", letters::h().job(), &[1])?;

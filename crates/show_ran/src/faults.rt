@@ -1,5 +1,6 @@
 // A wrong record for each row, and for each place where it can stand.
-use crate::{say_bare, say_done};
+use crate::{say, say_bare, say_done};
+use job::laying::RouteJob;
 use route::{Places, Route, Step};
 use samples::{letters, route_of, step};
 use std::io;
@@ -84,4 +85,43 @@ pub fn show_starts(rt: &impl Print) -> io::Result<()> {
     say_bare(rt, b"old 7 before new 6", bare, loose)?;
     say_done(rt, b"9 second line", &[10, 10])?;
     say_done(rt, b"8 after 9 is not reached", &[20, 40])
+}
+
+// Two steps in a row; of each, what it reads and what it writes.
+fn pair(a: [u32; 2], b: [u32; 2]) -> Route {
+    route_of(3, 1, [step(1, 1, 2, a[0], a[1]), step(2, 2, 4, b[0], b[1])])
+}
+
+// Routes whose steps read what some step writes, and routes that read what none writes.
+pub fn show_reads(rt: &impl Print) -> io::Result<()> {
+    let none = &pair([0, 1], [2, 4]);
+    say_old(rt, b"0 reads what it writes", &pair([1, 1], [0, 0]))?;
+    say_old(rt, b"0 reads what the next writes", &pair([2, 1], [1, 2]))?;
+    say_old(rt, b"23 old", none)?;
+    say_new(rt, b"23 new", none)?;
+    say_old(rt, b"23 first of two", &pair([4, 0], [4, 0]))?;
+    say_bare(
+        rt,
+        b"23 the other route writes it",
+        &pair([0, 0], [1, 2]),
+        &letters::a_old(),
+    )?;
+    show_reads_in_order(rt, none)
+}
+
+// Where such a route has other faults, or the other route has one.
+fn show_reads_in_order(rt: &impl Print, none: &Route) -> io::Result<()> {
+    let a = letters::a_old();
+    let places = Places { count: 5, start: 1 };
+    let loose = &Route { places, ..a };
+    let places = Places { count: 3, start: 0 };
+    say_old(rt, b"7 before 23", &Route { places, ..*none })?;
+    say_bare(rt, b"old 23 before new 6", none, loose)?;
+    say_bare(rt, b"old 6 before new 23", loose, none)?;
+    let job = RouteJob {
+        old: &a,
+        new: none,
+        done: &[40],
+    };
+    say(rt, b"23 before 8", job)
 }

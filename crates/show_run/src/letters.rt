@@ -6,6 +6,8 @@ use std::io;
 pub fn show(rt: &impl Print) -> io::Result<()> {
     say(rt, b"A", letters::a().job())?;
     say(rt, b"B", letters::b().job())?;
+    say(rt, b"E", letters::e().job())?;
+    say(rt, b"E, written", letters::e_written().job())?;
     say(rt, b"H", letters::h().job())?;
     say(rt, b"I", letters::i().job())?;
     say(rt, b"J", letters::j().job())?;

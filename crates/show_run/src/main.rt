@@ -15,5 +15,6 @@ fn main(rt: HostRuntime) -> io::Result<()> {
     faults::show_routes(&rt)?;
     faults::show_steps(&rt)?;
     faults::show_starts(&rt)?;
+    faults::show_reads(&rt)?;
     fires::show(&rt)
 }

@@ -53,6 +53,7 @@ fn main(rt: HostRuntime) -> io::Result<()> {
     say(&rt, b"A", letters::a().job())?;
     say(&rt, b"D", letters::d().job())?;
     say(&rt, b"E", letters::e().job())?;
+    say(&rt, b"E, written", letters::e_written().job())?;
     say(&rt, b"F", letters::f().job())?;
     say(&rt, b"K", letters::k().job())?;
     show_loops(&rt)?;

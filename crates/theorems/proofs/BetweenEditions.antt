@@ -3,7 +3,7 @@
 use mathlib.Core.Path.{◌≡◌, refl, sym, ap, ◌∙◌, subst}
 use mathlib.Core.Logic.{◌↔◌, ◌⊎◌, inl, inr}
 use mathlib.Core.Bool.{Bool, true, false, cond}
-use mathlib.Core.List.{List, [], ◌∷◌, ◌++◌}
+use mathlib.Core.List.{List, [], ◌++◌}
 use Prim.Native.Nat.{ℕ, ◌+◌, ◌≤◌}
 use native.Mathlib.Nat.{le_refl}
 use native.Mathlib.Omega.{arith}
@@ -11,7 +11,7 @@ use lib.Dec.{eqb, leb}
 use lib.ListN.{length, take, drop, replicate, length-replicate}
 use lib.Seq.{take-append_seam}
 use borrow.Author.Tests.{eq-eqb}
-use Rattle.refusal.specs.Rows.{unless, first}
+use Rattle.refusal.specs.Rows.{unless, first, each_line}
 use Rattle.refusal.specs.declared.Outcome.{Outcome}
 use Rattle.refusal.proofs.Rows.{rows_end, first-number, unless-number, append-number}
 use Rattle.refusal.proofs.Rows.{head_passed, head-passes, rows_pass}
@@ -28,7 +28,7 @@ use Rattle.version.specs.Limits.{scope, present}
 use Rattle.route.specs.declared.Places.{Places}
 use Rattle.route.specs.declared.Step.{Step}
 use Rattle.job.specs.Job.{Job, new_line, job_line}
-use Rattle.converting.specs.Beyond.{says_name, says_step, says_start, beyond_lines, beyond_route, beyond_rows}
+use Rattle.converting.specs.Beyond.{says_name, says_step, says_start, beyond_route, beyond_rows}
 use Rattle.converting.specs.Nets.{net_rows}
 use Rattle.converting.specs.Up.{with_implied, read_row, scope_job, up_row, up_text, raised, out_raised}
 use Rattle.converting.specs.Down.{down_row, down_text, lowered, out_lowered}
@@ -38,6 +38,7 @@ use Rattle.converting.proofs.Raised.{of-scope, up-number, up-job}
 use Rattle.converting.proofs.SecondLine.{present-has, scope-lacks}
 use Rattle.converting.proofs.ThereAndBack.{up-read, down-passes, up-then-down, up-passes, down-then-up}
 use Rattle.theorems.specs.Sheets.{job_on}
+use Rattle.theorems.proofs.RowNumbers.{net-number, each-number}
 use Rattle.theorems.specs.BetweenEditions.{Gives, Raises, Lowers, Converts, to_row_7}
 
 -- a text past rows is given exactly where none refuses
@@ -124,24 +125,18 @@ raised-job s t g =
 
 -- ---- 22
 
-abbrev Only22 : ℕ → Type 0
+abbrev pub Only22 : ℕ → Type 0
 Only22 n = (n ≡ 0) ⊎ (n ≡ 22)
 
-none-only : Only22 (first []).number
-none-only = inl (ap (λ (o : Outcome). o.number) rows_end)
-
-lines-only : {A : Type 0} (says : A → Bool) (line : ℕ) (l : List A) → Only22 (first (beyond_lines says line l)).number
-unfolding beyond_lines
-lines-only says line [] = none-only
-lines-only says line (x ∷ l) = first-number Only22 (unless (says x) 22 line) _
-    (unless-number Only22 (says x) 22 line (inl refl) (inr refl)) (lines-only says (line + 1) l)
+lines-only : {A : Type 0} (says : A → Bool) (line : ℕ) (l : List A) → Only22 (first (each_line says 22 line l)).number
+lines-only says line l = each-number Only22 says 22 line l (inl refl) (inr refl)
 
 route-only : (line : ℕ) (places : Places) (l : List Step) → Only22 (first (beyond_route line places l)).number
 unfolding beyond_route
 route-only line places l = first-number Only22 (unless (says_start places l) 22 (line + 1)) _
     (unless-number Only22 (says_start places l) 22 (line + 1) (inl refl) (inr refl)) (lines-only says_step (line + 2) l)
 
-rows-only : (j : Job) → Only22 (first (beyond_rows j)).number
+pub rows-only : (j : Job) → Only22 (first (beyond_rows j)).number
 unfolding beyond_rows
 rows-only j =
     append-number Only22 (beyond_route 1 j.old_places j.old) _ (route-only 1 j.old_places j.old)
@@ -199,10 +194,7 @@ none-low : Low (first []).number
 none-low = omega (arith, ap (λ (o : Outcome). o.number) rows_end)
 
 net-low : (head start : ℕ) (places : Places) (l : List Step) → Low (net_row_at head start places l).number
-unfolding net_row_at
-net-low head start places l =
-    first-number Low _ _ (unless-number Low _ 6 head (omega arith) (omega arith))
-    (first-number Low _ [] (unless-number Low _ 7 start (omega arith) (omega arith)) none-low)
+net-low = net-number Low (omega arith) (omega arith) (omega arith)
 
 up-low : (s : List ℕ) → Low (up_row s).number
 unfolding up_row net_rows

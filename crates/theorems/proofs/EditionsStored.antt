@@ -8,7 +8,7 @@ use Prim.Native.Nat.{ℕ, ◌+◌}
 use lib.Dec.{eqb, ltb}
 use lib.ListN.{length}
 use borrow.Author.Tests.{eq-eqb}
-use Rattle.refusal.specs.Rows.{first}
+use Rattle.refusal.specs.Rows.{first, each_line}
 use Rattle.refusal.specs.declared.Outcome.{Outcome}
 use Rattle.refusal.proofs.Rows.{row-passes, row-passed, rows_pass, rows-refuse, rows-passed, head-passes, head_passed}
 use Rattle.refusal.proofs.Rows.{rows_end, first-clean}
@@ -17,7 +17,8 @@ use Rattle.route.specs.Steps.{steps_of}
 use Rattle.route.specs.declared.Places.{Places}
 use Rattle.route.specs.declared.Step.{Step}
 use Rattle.route.specs.declared.Route.{Route}
-use Rattle.opening.specs.Net.{net_row}
+use Rattle.opening.specs.Net.{net_row, open_row}
+use Rattle.opening.specs.Unwritten.{reads_written, unwritten_rows}
 use Rattle.opening.proofs.NetRows.{net-anywhere}
 use Rattle.job.specs.Job.{job_of, after_steps, new_line, job_line}
 use Rattle.name_set.specs.Among.{among}
@@ -80,14 +81,32 @@ route-anywhere line at places l e =
     ∙ row-passes _ 4 (after_steps at l) [] some-step
     ∙ rows_end)
 
+each-anywhere : (test : Step → Bool) (n line at : ℕ) (l : List Step) → eqb n 0 ≡ false
+    → Passes (each_line test n line l) → Passes (each_line test n at l)
+unfolding each_line
+each-anywhere test n line at [] z e = e
+each-anywhere test n line at (s ∷ l) z e =
+    let (own, rest) = row-passed (test s) n line _ z e in
+    ap (λ (o : Outcome). eqb o.number 0) (row-passes (test s) n at _ own)
+    ∙ each-anywhere test n (line + 1) (at + 1) l z rest
+
+open-anywhere : (line at : ℕ) (places : Places) (l : List Step)
+    → eqb (open_row line places l).number 0 ≡ true → eqb (open_row at places l).number 0 ≡ true
+unfolding open_row unwritten_rows
+open-anywhere line at places l e =
+    let (net, reads) = head_passed (net_row line places l) _ e in
+    ap (λ (o : Outcome). eqb o.number 0)
+    (head-passes (net_row at places l) _ (net-anywhere line (line + 1) at (at + 1) places l net))
+    ∙ each-anywhere (reads_written l) 23 (line + 2) (at + 2) l refl reads
+
 -- what the rows of a route by itself say of it in a sheet
 meets-anywhere : (r : Route) → Meets r → (at : ℕ)
-    → Passes (route_rows at r.places (steps_of r)) × (eqb (net_row at r.places (steps_of r)).number 0 ≡ true)
+    → Passes (route_rows at r.places (steps_of r)) × (eqb (open_row at r.places (steps_of r)).number 0 ≡ true)
 unfolding alone_rows
 meets-anywhere r meets at =
-    let (lines, net) = rows-passed (route_rows 1 r.places (steps_of r)) _ (eq-eqb _ 0 meets) in (
+    let (lines, whole) = rows-passed (route_rows 1 r.places (steps_of r)) _ (eq-eqb _ 0 meets) in (
       route-anywhere 1 at r.places (steps_of r) lines,
-      net-anywhere 1 2 at (at + 1) r.places (steps_of r) (head_passed (net_row 1 r.places (steps_of r)) [] net).0,
+      open-anywhere 1 at r.places (steps_of r) (head_passed (open_row 1 r.places (steps_of r)) [] whole).0,
     )
 
 -- rows that pass at the end say nothing
@@ -105,13 +124,13 @@ pub routes-pass : (old new : Route) → Meets old → Meets new → (done : List
 unfolding checked line_rows
 routes-pass old new a b done =
     let j = job_of old new done in
-    let (old-lines, old-net) = meets-anywhere old a 1 in
-    let (new-lines, new-net) = meets-anywhere new b (new_line j) in
-    let nets : Passes (net_row 1 old.places (steps_of old) ∷ net_row (new_line j) new.places (steps_of new) ∷ []) =
+    let (old-lines, old-whole) = meets-anywhere old a 1 in
+    let (new-lines, new-whole) = meets-anywhere new b (new_line j) in
+    let wholes : Passes (open_row 1 old.places (steps_of old) ∷ open_row (new_line j) new.places (steps_of new) ∷ []) =
     ap (λ (o : Outcome). eqb o.number 0)
-    (head-passes (net_row 1 old.places (steps_of old)) _ old-net
-    ∙ head-passes (net_row (new_line j) new.places (steps_of new)) [] new-net ∙ rows_end) in
-    pass-last (line_rows j) _ nets
+    (head-passes (open_row 1 old.places (steps_of old)) _ old-whole
+    ∙ head-passes (open_row (new_line j) new.places (steps_of new)) [] new-whole ∙ rows_end) in
+    pass-last (line_rows j) _ wholes
     ∙ rows_pass (route_rows 1 old.places (steps_of old)) _ old-lines
     ∙ rows_pass (route_rows (new_line j) new.places (steps_of new)) _ new-lines
 

@@ -16,6 +16,7 @@ pub mod FitList
 pub mod Dictionary
 pub mod Candidates
 pub mod KeptRows
+pub mod RowNumbers
 pub mod ListRow
 pub mod EntryRows
 pub mod Accepts
@@ -34,6 +35,8 @@ pub mod Editions
 pub mod EditionsJudged
 pub mod LongestListing
 pub mod StartLines
+pub mod Unwritten
+pub mod UnwrittenAnswers
 pub mod EditionsStored
 pub mod Main
 pub mod BetweenEditions

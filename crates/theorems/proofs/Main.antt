@@ -1,7 +1,7 @@
 -- The whole promise on one page, in 01's order: the sheet, its bytes both ways, the start lines, the converter and the
 -- longer names of 02, its look-up, slice and precedence with 02's cloth, fit orders, what judge gives and its listing
--- shows, the shelf of 02, and demand 3. Each is proved in the file that its name is cited from. Code meets it through
--- the contracts, which are equalities with the definitions that these theorems speak of.
+-- shows, readings that nobody writes, the shelf of 02, and demand 3. Each is proved in the file that its name is cited
+-- from. Code meets it through the contracts, which are equalities with the definitions that these theorems speak of.
 use mathlib.Core.Path.{◌≡◌, refl}
 use mathlib.Core.Logic.{◌↔◌, ◌⊎◌}
 use mathlib.Core.Bool.{true, false, not, ◌&&◌}
@@ -28,6 +28,7 @@ use Rattle.lookup.proofs.Around.{count-below, count-above, count-nowhere}
 use Rattle.lookup.proofs.Unique.{looked-found, found-lookup, missed-lookup}
 use Rattle.lookup.proofs.Totals.{looked-next, total-round, total-follows, total-least, total-most}
 use Rattle.running.specs.Run.{ran}
+use Rattle.slicing.specs.Slicing.{sliced}
 use Rattle.finding.specs.Comparisons.{comparisons}
 use Rattle.slice.specs.Slice.{Kept, cuts_at, kept_mask}
 use Rattle.precedence.specs.Precedence.{clash, comes_after, row}
@@ -71,7 +72,8 @@ use Rattle.writer.proofs.Bound.{bounded}
 use Rattle.writer.proofs.Longest.{scope-attained, present-attained}
 use Rattle.converting.specs.Up.{with_implied, raised}
 use Rattle.converting.specs.Down.{lowered}
-use Rattle.converting.specs.Either.{has_start_line}
+use Rattle.converting.specs.Either.{has_start_line, converted}
+use Rattle.listing_lines.specs.Lines.{refused_line}
 use Rattle.listing.specs.Listing.{listing}
 use Rattle.ops.specs.Print.{sheet_answer, listing_of, printed, out_printed}
 use Rattle.ops.specs.SheetTry.{tried_sheet}
@@ -79,17 +81,19 @@ use Rattle.examples.specs.Table.{AllPrint, table}
 use Rattle.examples.specs.LongNames.{long_names}
 use Rattle.examples.specs.Cuts.{cuts}
 use Rattle.examples.specs.Starts.{starts}
+use Rattle.examples.specs.Unwritten.{unwritten}
 use Rattle.examples.specs.Converted.{AllRaised, scope_letters, LRefused, AllLowered, lowerings}
 use Rattle.examples.proofs.Converted.{letters-raised, l-refused, all-lowered}
-use Rattle.examples.proofs.Examples.{examples, long-names, cuts-print, starts-print}
+use Rattle.examples.proofs.Examples.{examples, long-names, cuts-print, starts-print, unwritten-print}
 use Rattle.theorems.specs.Values.{Work, all_blank, perform_all, cut_all}
 use Rattle.theorems.specs.Demand3.{Runs, steps_done, positions, Accepted, FitFor, ordered, moved, whole_job}
 use Rattle.theorems.specs.Demand3.{Demand3}
 use Rattle.theorems.specs.Given.{Given}
-use Rattle.theorems.specs.Sheets.{job_on, SheetRuns, Movable, Moved, Refused}
+use Rattle.theorems.specs.Sheets.{job_on, SheetRuns, Movable, Moved, Refused, BeginsWith}
 use Rattle.theorems.specs.Shows.{Shows}
 use Rattle.theorems.specs.RoundTrip.{bytes_written, WritesBytes, counts_read, job_into, ReadsInto}
 use Rattle.theorems.specs.Editions.{Eight, UnusedBlank, Later, Meets, AllMeet}
+use Rattle.theorems.specs.Unwritten.{RefusedBy23, SheetRefusedBy23, PutRefusedBy23, Is23}
 use Rattle.theorems.proofs.KeptValues.{kept-values, kept-cuts}
 use Rattle.theorems.proofs.ComesAfter.{comes_after-iff, cut-after}
 use Rattle.theorems.proofs.Accepts.{try-fit, try-second, try-marking}
@@ -112,6 +116,9 @@ use Rattle.theorems.proofs.Editions.{put-finds, put_keeps, edition-found, put-ba
 use Rattle.theorems.proofs.EditionsJudged.{shelf-judges, shelf-works, shelf-prints, shelf-nineteen}
 use Rattle.theorems.proofs.EditionsJudged.{shelf-fourteen, shelf-bad}
 use Rattle.theorems.proofs.EditionsStored.{stored-meets, meets-found, routes-pass}
+use Rattle.theorems.proofs.UnwrittenAnswers.{run-23, slice-23, compare-23, try-23, judge-23, try-sheet-23, lists-23}
+use Rattle.theorems.proofs.UnwrittenAnswers.{print-begins-23, put-23, shelf-23, read-never, read-lists-never}
+use Rattle.theorems.proofs.UnwrittenAnswers.{write-never, up-never, down-never, convert-never}
 use Rattle.theorems.proofs.AcceptedReplay.{moved-cuts}
 use Rattle.theorems.proofs.Demand3.{demand3}
 
@@ -520,6 +527,71 @@ pub print-shows-the-facts : (s out : List ℕ) (work : ℕ) → 8192 ≤ work �
     → Moved (out_printed s work out) → Shows (job_on s) (sheet_answer s)
 print-shows-the-facts = print-shows
 
+-- ---- 02, "A reading that nobody writes": "A route with a step that reads a variable which no step of that route
+-- writes is refused." Run, slice, try and judge answer 23 and a line exactly where no earlier row refuses and there is
+-- such a step, the first one on that line: in the old route, or else in the new
+
+pub run-answers-23-exactly : (j : Job) (at : ℕ) → Is23 (ran j).number (ran j).second at ↔ RefusedBy23 j at
+run-answers-23-exactly = run-23
+
+pub slice-answers-23-exactly : (j : Job) (at : ℕ) → Is23 (sliced j).number (sliced j).second at ↔ RefusedBy23 j at
+slice-answers-23-exactly = slice-23
+
+pub try-answers-23-exactly : (j : Job) (at : ℕ) (o : List ℕ)
+    → Is23 (tried j o).number (tried j o).second at ↔ RefusedBy23 j at
+try-answers-23-exactly = try-23
+
+pub judge-answers-23-exactly : (j : Job) (at room : ℕ) → 8192 ≤ room
+    → Is23 (judged j room).number (judged j room).second at ↔ RefusedBy23 j at
+judge-answers-23-exactly = judge-23
+
+pub comparing-answers-23-exactly : (j : Job) (at : ℕ)
+    → Is23 (comparisons j).number (comparisons j).second at ↔ RefusedBy23 j at
+comparing-answers-23-exactly = compare-23
+
+pub try-on-bytes-answers-23-exactly : (s : List ℕ) (at : ℕ) (o : List ℕ)
+    → Is23 (tried_sheet s o).number (tried_sheet s o).second at ↔ SheetRefusedBy23 s at
+try-on-bytes-answers-23-exactly = try-sheet-23
+
+-- "for print it is itself the listing, like one up to 13": `(refused 23 LINE)`, and no other sheet's begins so
+pub print-lists-23 : (s : List ℕ) (at : ℕ) → SheetRefusedBy23 s at → listing_of s ≡ refused_line 23 at
+print-lists-23 = lists-23
+
+pub print-lists-23-exactly : (s out : List ℕ) (work : ℕ) → 8192 ≤ work → length (listing_of s) ≤ length out
+    → BeginsWith "(refused 23 " (out_printed s work out) ↔ ((at : ℕ) × SheetRefusedBy23 s at)
+print-lists-23-exactly = print-begins-23
+
+-- "The shelf looks for it too": put, of the route that it is given, and judge between two editions, whatever was stored
+pub put-answers-23-exactly : (s : Shelf) (n : ℕ) (r : Route) (at : ℕ)
+    → Is23 (stored s n r).number (stored s n r).second at ↔ PutRefusedBy23 s n r at
+put-answers-23-exactly = put-23
+
+pub shelf-answers-23-exactly : (s : Shelf) (edition target : ℕ) (old new : Route)
+    → Later s edition target old new → (done : List ℕ) (room : ℕ) → 8192 ≤ room → (at : ℕ)
+    → Is23 (judged_between s edition target done room).number (judged_between s edition target done room).second at
+    ↔ RefusedBy23 (job_of old new done) at
+shelf-answers-23-exactly = shelf-23
+
+-- "the converter doesn't", and neither do read, into records or lent lists, and write
+pub reading-never-answers-23 : (s : List ℕ) → (read_of s).number ≡ 23 → ⊥
+reading-never-answers-23 = read-never
+
+pub reading-into-lists-never-answers-23 : (s : List ℕ) (old new : List Step) (done : List ℕ)
+    → (counts_read s old new done).number ≡ 23 → ⊥
+reading-into-lists-never-answers-23 = read-lists-never
+
+pub writing-never-answers-23 : (j : Job) (room : ℕ) → (wrote j room).number ≡ 23 → ⊥
+writing-never-answers-23 = write-never
+
+pub converting-never-answers-23 : (s : List ℕ) (room : ℕ) → ((raised s room).number ≡ 23 → ⊥)
+    × ((lowered s room).number ≡ 23 → ⊥) × ((converted s room).number ≡ 23 → ⊥)
+converting-never-answers-23 s room = (up-never s room, down-never s room, convert-never s room)
+
+-- a step that reads what it writes itself or what a later one writes; mistyped readings in the old route, in the new,
+-- in both, two of them, what the other route writes; rows that go before and after: such sheets from bytes to bytes
+pub every-unwritten : AllPrint unwritten
+every-unwritten = unwritten-print
+
 -- ---- 02, "Shelf of editions": "The shelf holds up to 8 editions of a route with rising numbers from 1 to 65,535."
 
 -- the empty shelf is good, and put keeps a good shelf good, with its eight entries, those not used 0
@@ -561,8 +633,8 @@ pub stored-editions-are-found : (s : Shelf) → good_shelf s ≡ true → (i : �
     → route_of (get_or (editions_of s) i no_edition).number (editions_of s) ≡ some (get_or (editions_of s) i no_edition).route
 stored-editions-are-found = edition-found
 
--- "A route put on the shelf meets rows 4, 2, 3, 5, 6 and 7 as an old route does." So every route that is found on a
--- shelf of puts meets them, and of a job between two such routes these rows refuse at most a done line
+-- "A route put on the shelf meets rows 4, 2, 3, 5, 6 and 7 as an old route does", and 23. So every route that is found
+-- on a shelf of puts meets them, and of a job between two such routes these rows refuse at most a done line
 pub put-stores-what-meets-the-rows : (s : Shelf) (n : ℕ) (r : Route) → Eight s → AllMeet (editions_of s)
     → AllMeet (editions_of (stored s n r).shelf)
 put-stores-what-meets-the-rows = stored-meets

@@ -1,7 +1,7 @@
 -- The shelf of editions: the value as the code holds it, and two editions that a job may be judged between.
 use Rattle.std.specs.Prelude.{◌≡◌, true, List, [], ◌∷◌, ℕ, ◌-◌, ◌<◌, length, drop, replicate}
 use Rattle.std.proofs.Math.Option.{some}
-use Rattle.refusal.specs.Rows.{first}
+use Rattle.refusal.specs.Rows.{AllPass}
 use Rattle.route.specs.Steps.{steps_of}
 use Rattle.route.specs.declared.Route.{Route}
 use Rattle.job.specs.Alone.{alone_rows}
@@ -24,9 +24,9 @@ pub record Later (s : Shelf) (edition target : ℕ) (old new : Route) : Type 0 w
   pub old-is : route_of edition (editions_of s) ≡ some old
   pub new_is : route_of target (editions_of s) ≡ some new
 
--- "A route put on the shelf meets rows 4, 2, 3, 5, 6 and 7 as an old route does."
+-- "A route put on the shelf meets rows 4, 2, 3, 5, 6 and 7 as an old route does." 23: "The shelf looks for it too"
 abbrev pub Meets : Route → Type 0
-Meets r = (first (alone_rows r.places (steps_of r))).number ≡ 0
+Meets r = AllPass (alone_rows r.places (steps_of r))
 
 abbrev pub AllMeet : List Edition → Type 0
 AllMeet [] = Unit {0}

@@ -7,3 +7,4 @@ pub mod Shows
 pub mod RoundTrip
 pub mod Editions
 pub mod BetweenEditions
+pub mod Unwritten

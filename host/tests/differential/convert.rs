@@ -14,17 +14,17 @@ use reference::sheet::form;
 use reference::version::Version;
 use std::collections::BTreeMap;
 
-const DOWN: Way = Way {
+pub const DOWN: Way = Way {
     engine: host::down,
     second_program: convert::down,
 };
-const UP: Way = Way {
+pub const UP: Way = Way {
     engine: host::up,
     second_program: convert::up,
 };
 
 /// More than any sheet needs.
-const FAR: usize = 40_000;
+pub const FAR: usize = 40_000;
 
 /// What down and up answer, 15 too; 0 where they write.
 const OF_DOWN: [u32; 10] = [0, 1, 2, 3, 4, 5, 6, 7, 15, 22];

@@ -4,6 +4,7 @@
 
 use reference::random::dice::Dice;
 use reference::random::{self, names::any_name, run_at_random, starts};
+use reference::reads::is_written;
 use reference::sheet::{Route, Sheet, Step};
 use std::collections::BTreeSet;
 
@@ -57,7 +58,19 @@ fn net_beside(facts: &Sheet, dice: &mut Dice) -> Route {
             cloth: dice.chance(2),
         });
     }
+    forget(&mut net, facts);
     net
+}
+
+/// What neither the net nor both routes write is read no more.
+fn forget(net: &mut Route, facts: &Sheet) {
+    let whole = net.clone();
+    let written = |&variable: &u64| {
+        let [net, old, new] = [&whole, &facts.old, &facts.new].map(|r| is_written(r, variable));
+        net || old && new
+    };
+    let steps = net.steps.iter_mut();
+    steps.for_each(|step| step.reads.retain(written));
 }
 
 /// Names that are in neither route, at most so many that 64 steps aren't passed.

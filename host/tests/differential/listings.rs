@@ -12,7 +12,7 @@ use reference::random::dice::Dice;
 use reference::sheet;
 
 /// What sheets that read come to, 0 for moved.
-const NUMBERS: [u32; 9] = [0, 6, 7, 8, 9, 10, 11, 12, 13];
+const NUMBERS: [u32; 10] = [0, 6, 7, 8, 9, 10, 11, 12, 13, 23];
 
 /// Compares the listing of a sheet, with room for it and at times some more.
 pub fn compare_listing(bytes: &[u8], tally: &mut Tally, dice: &mut Dice) {

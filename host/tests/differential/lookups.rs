@@ -9,8 +9,8 @@ const OPERATIONS: [u32; 2] = [24, 25];
 
 #[test]
 fn random_lookups() {
-    let met = compare_at_once(["lookups-1", "lookups-2"], 800, script);
-    let to_row_9: Vec<u32> = (2..=9).collect();
+    let met = compare_at_once(["lookups-1", "lookups-2"], 1_000, script);
+    let to_row_9: Vec<u32> = (2..=9).chain([23]).collect();
     met.operations
         .finish("operations of look-up scripts", "none", 5_000, &OPERATIONS);
     met.numbers

@@ -28,6 +28,8 @@ mod slices;
 mod some_order;
 mod table;
 mod tally;
+mod unwritten;
+mod unwritten_scripts;
 mod versions;
 mod wrong_scripts;
 mod wrong_shelves;

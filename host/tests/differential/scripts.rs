@@ -68,7 +68,7 @@ pub fn compare_at_once(names: [&'static str; 2], scripts: u64, script: Generator
 #[test]
 fn random_scripts() {
     let met = compare_at_once(["scripts-1", "scripts-2"], 10_000, script);
-    let all: Vec<u32> = (0..=18).collect();
+    let all: Vec<u32> = (0..=18).chain([23]).collect();
     met.operations
         .finish("operations of scripts", "none", 5_000, &OPERATIONS);
     met.numbers

@@ -10,7 +10,7 @@ const OPERATIONS: [u32; 3] = [20, 21, 22];
 #[test]
 fn random_shelves() {
     let met = compare_at_once(["shelves-1", "shelves-2"], 400, script);
-    let put_and_judge: Vec<u32> = (2..=14).chain(19..=21).collect();
+    let put_and_judge: Vec<u32> = (2..=14).chain(19..=21).chain([23]).collect();
     met.operations
         .finish("operations of shelf scripts", "none", 1_000, &OPERATIONS);
     met.numbers

@@ -227,7 +227,8 @@ fn masks() {
 }
 
 /// Example A with these names marked in the old route, in the new one or in both;
-/// without writes they are kept by their mark alone.
+/// without writes they are kept by their mark alone, and what only they wrote is read no
+/// more.
 fn with_marks(names: &[u32], [old, new]: [bool; 2], writes: bool) -> Facts {
     let mut facts = facts_a();
     for (route, mark) in [(&mut facts.old, old), (&mut facts.new, new)] {
@@ -236,6 +237,11 @@ fn with_marks(names: &[u32], [old, new]: [bool; 2], writes: bool) -> Facts {
             record.cloth = mark;
             record.writes *= u32::from(writes);
         }
+        let written = route.list.iter().fold(0, |all, record| all | record.writes);
+        route
+            .list
+            .iter_mut()
+            .for_each(|record| record.reads &= written);
     }
     facts
 }
@@ -247,6 +253,28 @@ fn marks() {
             let routes = [[true, false], [false, true], [true, true]];
             let all = routes.map(|marked| with_marks(names, marked, writes));
             compare_each("marks", &all);
+        }
+    }
+}
+
+/// What each record of example A reads: its own writing, each other's, and a variable that
+/// none writes, beside others or alone. 31 is written by a record past `len`, which is one
+/// of a lent list.
+#[test]
+fn readings() {
+    for at in 0..3 {
+        for reads in [0, 1, 2, 4, 3, 7, 8, 9, 15, 1 << 31, 1 << 31 | 7] {
+            let mut all = [facts_a(), facts_a()];
+            all.iter_mut()
+                .for_each(|facts| facts.old.list[at].reads = reads);
+            all[1].new.list[at].reads = reads;
+            let past = Record {
+                name: 40,
+                writes: 1 << 31,
+                ..all[0].old.list[at]
+            };
+            all[0].old.list.push(past);
+            compare_each("readings", &all);
         }
     }
 }

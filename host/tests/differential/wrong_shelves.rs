@@ -38,7 +38,7 @@ fn right() -> RouteByValue {
 }
 
 /// Routes that put refuses by each of the rows, and right ones at a limit, with another
-/// mark or start, or going round.
+/// mark, start or reading, or going round.
 fn routes() -> Vec<RouteByValue> {
     let mut all = vec![right(), chain(&[]), chain(&[10, 10]), chain(&[10, 0])];
     all.extend([65_536, 65_546, u32::MAX].map(|name| chain(&[10, name])));
@@ -55,6 +55,12 @@ fn routes() -> Vec<RouteByValue> {
     for at in [0, 1] {
         let mut route = right();
         route.records[at].cloth ^= true;
+        all.push(route);
+    }
+    // what 10, 20 itself and 30 write, and what only the record past `len` or none writes
+    for reads in [1 << 10, 1 << 20, 1 << 30, 1, 1 << 31, 1 << 10 | 1] {
+        let mut route = right();
+        route.records[1].reads = reads;
         all.push(route);
     }
     all

@@ -2,6 +2,7 @@
 //! their steps marked; many cuts write nothing.
 
 use super::dice::Dice;
+use super::reads;
 use super::records::any;
 use crate::sheet::Sheet;
 use std::collections::BTreeMap;
@@ -16,7 +17,8 @@ pub fn silent(dice: &mut Dice) -> bool {
     dice.chance(40)
 }
 
-/// The job with some steps marked, each in both routes; some of these write nothing.
+/// The job with some steps marked, each in both routes; some of these write nothing, and
+/// what only they wrote is read no more.
 pub fn marked(mut job: Sheet, dice: &mut Dice) -> Sheet {
     let share = share(dice);
     let mut marks: BTreeMap<u64, [bool; 2]> = BTreeMap::new();
@@ -28,6 +30,8 @@ pub fn marked(mut job: Sheet, dice: &mut Dice) -> Sheet {
             step.writes.clear();
         }
     }
+    reads::forget(&mut job.old);
+    reads::forget(&mut job.new);
     job
 }
 

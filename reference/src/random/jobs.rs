@@ -4,7 +4,7 @@
 
 use super::dice::Dice;
 use super::plan::Plan;
-use super::{cloth, names, redraw, run_at_random, spoil, starts};
+use super::{cloth, mistype, names, reads, redraw, run_at_random, spoil, starts};
 use crate::fit;
 use crate::job::Job;
 use crate::net;
@@ -28,6 +28,9 @@ pub fn job(dice: &mut Dice) -> Sheet {
     }
     if dice.chance(28) {
         twist(&mut job, dice);
+    }
+    if dice.chance(7) {
+        mistype::job(&mut job, dice);
     }
     job
 }
@@ -126,7 +129,7 @@ fn perhaps(bound: usize, dice: &mut Dice) -> Vec<u64> {
     }
 }
 
-/// Whether each place is in a step and the start isn't empty.
+/// Whether each place is in a step, the start isn't empty, and what is read is written.
 pub(super) fn opens(route: &Route) -> bool {
     let done = vec![];
     let (old, new) = (route.clone(), route.clone());
@@ -155,6 +158,7 @@ fn any_route(dice: &mut Dice) -> Route {
     if !implied.is_empty() && dice.chance(60) {
         route.start = implied.into_iter().collect();
     }
+    reads::mend_route(&mut route, dice);
     route
 }
 
@@ -383,13 +387,17 @@ fn share(route: &mut Route, order: &[usize], dice: &mut Dice) {
     }
 }
 
-/// Eight variables, rising.
-fn eight(dice: &mut Dice) -> Vec<u64> {
+/// All variables, in eights that rise.
+fn eights(dice: &mut Dice) -> Vec<Vec<u64>> {
     let mut all: Vec<u64> = (0..32).collect();
     dice.shuffle(&mut all);
-    all.truncate(8);
-    all.sort();
-    all
+    all.chunks_mut(8).for_each(<[u64]>::sort);
+    all.chunks(8).map(<[u64]>::to_vec).collect()
+}
+
+/// Eight variables, rising.
+fn eight(dice: &mut Dice) -> Vec<u64> {
+    eights(dice).swap_remove(0)
 }
 
 /// The at-th eight of 64 places.
@@ -398,16 +406,18 @@ fn layer(at: u64) -> Vec<u64> {
 }
 
 /// 64 places in layers of eight, up to 64 steps from each layer to the next and
-/// from the last back to the first or the second, with 8 entries in each list.
+/// from the last back to the first or the second, with 8 entries in each list. Four of
+/// the steps write all variables between them.
 fn crowded(dice: &mut Dice) -> Sheet {
     let count = [8, 9, 16, 64][dice.below(4)];
     let back = dice.below(2) as u64;
+    let mut writes = eights(dice);
     let step = |at: u64| Step {
         name: 65_535 - at,
         ins: layer(at % 8),
         outs: layer(if at % 8 == 7 { back } else { at % 8 + 1 }),
         reads: eight(dice),
-        writes: eight(dice),
+        writes: writes.pop().unwrap_or_else(|| eight(dice)),
         cloth: false,
     };
     let old = Route {
@@ -444,11 +454,12 @@ fn all_started(dice: &mut Dice) -> Sheet {
         }
     }
     let start = (0..64).collect();
-    let old = Route {
+    let mut old = Route {
         places: 64,
         start,
         steps,
     };
+    reads::mend_route(&mut old, dice);
     let length = [0, 1, 4, 9, 16, 64][dice.below(6)];
     let done = run_at_random(&old, length, dice);
     let mut new = old.clone();
@@ -465,7 +476,8 @@ fn all_started(dice: &mut Dice) -> Sheet {
     Sheet { old, new, done }
 }
 
-/// A change that most often leads to one of the rows 6 to 12.
+/// A change that most often leads to one of the rows 6 to 12; what is read is still
+/// written after it.
 fn twist(job: &mut Sheet, dice: &mut Dice) {
     let at = dice.below(job.new.steps.len());
     match dice.below(24) {
@@ -477,28 +489,34 @@ fn twist(job: &mut Sheet, dice: &mut Dice) {
             let name = &mut job.new.steps[at].name;
             *name = names::other(*name, dice);
         }
-        13 => job.new.steps[at].reads = perhaps(32, dice),
+        13 => {
+            job.new.steps[at].reads = perhaps(32, dice);
+            reads::mend_route(&mut job.new, dice);
+        }
         14 => without_data(job, at),
         15..=20 => change_mark(&mut job.new, dice),
         21 => {
             without_data(job, at);
             cloth::clear(job);
         }
-        _ => job.new.steps[at].writes = perhaps(32, dice),
+        _ => {
+            job.new.steps[at].writes = perhaps(32, dice);
+            reads::mend_route(&mut job.new, dice);
+        }
     }
 }
 
 /// One of the routes begins nowhere or elsewhere, or goes round.
 fn twist_start(job: &mut Sheet, dice: &mut Dice) {
-    let route = if dice.chance(50) {
+    let route = if dice.chance(60) {
         &mut job.old
     } else {
         &mut job.new
     };
     match dice.below(7) {
-        0..=1 => route.start.clear(),
-        2 => starts::take_away(route),
-        3..=5 => starts::change(route, dice),
+        0 => route.start.clear(),
+        1 => starts::take_away(route),
+        2..=5 => starts::change(route, dice),
         _ => close(route),
     }
 }

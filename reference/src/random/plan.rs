@@ -3,7 +3,7 @@
 
 use super::block::{Block, Kind};
 use super::dice::Dice;
-use super::{cloth, names};
+use super::{cloth, names, reads};
 use crate::sheet::{Route, Step};
 use std::collections::BTreeMap;
 
@@ -45,6 +45,7 @@ impl Plan {
         if dice.chance(50) {
             plan.tidy(dice);
         }
+        plan.mend(dice);
         plan
     }
 
@@ -87,6 +88,7 @@ impl Plan {
         }
         let kind = [Kind::Loop, Kind::Again][dice.below(2)];
         plan.begin(Block::of(kind, parts), dice);
+        plan.mend(dice);
         plan
     }
 
@@ -97,6 +99,7 @@ impl Plan {
         let parts = (0..count).map(|_| plan.panel(dice)).collect();
         let kind = [Kind::Sequence, Kind::Parallel][dice.below(2)];
         plan.begin(Block::of(kind, parts), dice);
+        plan.mend(dice);
         plan
     }
 
@@ -153,6 +156,7 @@ impl Plan {
         if dice.chance(70) {
             plan.tidy(dice);
         }
+        plan.mend(dice);
         plan
     }
 
@@ -168,6 +172,17 @@ impl Plan {
             tree = Block::of(Kind::Parallel, vec![tree, beside]);
         }
         self.tree = tree;
+    }
+
+    /// Lets the steps of the tree write all that they read.
+    pub fn mend(&mut self, dice: &mut Dice) {
+        let names = self.tree.names();
+        let drawn = self
+            .data
+            .iter_mut()
+            .filter(|(name, _)| names.contains(name));
+        let lists = drawn.map(|(_, data)| (&mut data.reads, &mut data.writes));
+        reads::mend(lists.collect(), dice);
     }
 
     /// A step with a name of its own, random data and at times a mark.

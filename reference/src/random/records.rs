@@ -148,14 +148,17 @@ fn some_len(records: u64, dice: &mut Dice) -> u64 {
     any(&lens, dice)
 }
 
-/// Records that stand past `len` and don't count in a route by value.
+/// Records that stand past `len` and don't count in a route by value; some of them write
+/// all that is read.
 pub(super) fn add_past_len(route: &mut Records, dice: &mut Dice) {
+    let read = route.list.iter().fold(0, |mask, one| mask | one.reads);
     for _ in 0..dice.from_to(1, 3) {
         if route.list.is_empty() || route.list.len() == 100 {
             return;
         }
         let mut record = any(&route.list, dice);
         record.name = any(&[record.name, 0, 7, 65_536, u32::MAX], dice);
+        record.writes = any(&[record.writes, read], dice);
         route.list.push(record);
     }
 }

@@ -14,7 +14,7 @@ pub fn reorder(plan: &mut Plan, dice: &mut Dice) {
     }
 }
 
-/// One small change of any kind.
+/// One small change of any kind; what is read is still written after it.
 pub fn redraw(plan: &mut Plan, dice: &mut Dice) {
     match dice.below(26) {
         0..=1 => swap(plan, &|_, _| true, dice),
@@ -28,6 +28,7 @@ pub fn redraw(plan: &mut Plan, dice: &mut Dice) {
         22..=23 => drop_silent(plan, dice),
         _ => change_mark(plan, dice),
     }
+    plan.mend(dice);
 }
 
 /// Applies a change to one random block of those that the test admits.

@@ -1,8 +1,8 @@
 //! Random scripts: some dozen operations, on right and wrong arguments.
 
 use super::dice::Dice;
-use super::records::Facts;
-use super::{cloth, damage, jobs, names, orders};
+use super::records::{add_past_len, Facts};
+use super::{cloth, damage, jobs, mistype, names, orders};
 use crate::judge::WORK;
 use crate::print::listing_of;
 use crate::record::Record;
@@ -171,11 +171,15 @@ fn fire(dice: &mut Dice) -> Vec<String> {
 /// The arguments of an operation on records, by value or lent.
 fn of_records(number: u64, dice: &mut Dice) -> Vec<String> {
     let job = jobs::job(dice);
-    let facts = if dice.chance(28) {
+    let mut facts = if dice.chance(28) {
         spoiled(&job, dice)
     } else {
         Facts::of(&job)
     };
+    if number < 10 && dice.chance(20) {
+        add_past_len(&mut facts.old, dice);
+        add_past_len(&mut facts.new, dice);
+    }
     let mut arguments = vec![facts.text(number > 10)];
     match number {
         4 | 14 => arguments.push(bytes(&orders::order(&job, dice))),
@@ -198,6 +202,9 @@ fn spoiled(job: &Sheet, dice: &mut Dice) -> Facts {
 /// The arguments of an operation on a sheet.
 fn of_sheet(number: u64, dice: &mut Dice) -> Vec<String> {
     let mut job = jobs::job(dice);
+    if matches!(number, 9 | 10) && dice.chance(5) {
+        mistype::job(&mut job, dice);
+    }
     if matches!(number, 6 | 23) && dice.chance(50) {
         names::shorten(&mut job, dice);
     }

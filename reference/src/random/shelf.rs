@@ -6,7 +6,7 @@ use super::dice::Dice;
 use super::plan::Plan;
 use super::records::{add_past_len, any, spoil_done, spoil_record, Records};
 use super::script::{self, ENDING, MOST_BYTES, PAST_A_LIMIT};
-use super::{jobs, names, redraw, run_at_random, spoil, starts};
+use super::{jobs, mistype, names, redraw, run_at_random, spoil, starts};
 use crate::record::RouteByValue;
 use crate::script::writing;
 use crate::sheet::{Route, Sheet};
@@ -123,7 +123,7 @@ impl Loft {
         for edition in &mut shelf.editions[..count] {
             last += if last > 60_000 { 1 } else { rise(dice) };
             edition.number = last;
-            edition.route = self.route(26, dice);
+            edition.route = self.route(31, dice);
         }
         let past = any(&[0, 0, 0, 1, count.min(3)], dice);
         shelf.len = (count - past) as u64;
@@ -162,7 +162,7 @@ impl Loft {
         } else {
             other_number(last, dice)
         };
-        let route = self.route(25, dice);
+        let route = self.route(30, dice);
         let _ = self.shelf.put(number, &route);
         writing::put(number, &route)
     }
@@ -244,10 +244,13 @@ fn other_number(last: u32, dice: &mut Dice) -> u32 {
     )
 }
 
-/// The route with a place in no step, with no start or another one, going round, or
-/// with one or two things spoiled.
+/// The route with a place in no step, with no start or another one, going round,
+/// mistyped, or with one or two things spoiled.
 fn wrong(mut route: Route, dice: &mut Dice) -> Records {
-    let kind = dice.below(15);
+    let kind = dice.below(18);
+    if matches!(kind, 15..=17) || dice.chance(20) {
+        mistype::route(&mut route, &[], dice);
+    }
     match kind {
         0..=1 => route.places = 64.min(route.places + 1),
         2 => route.start.clear(),
@@ -258,9 +261,9 @@ fn wrong(mut route: Route, dice: &mut Dice) -> Records {
     }
     let mut records = Records::of(&route);
     match kind {
-        0..=5 => {}
         6..=9 => (0..dice.from_to(1, 2)).for_each(|_| records.spoil(dice)),
-        _ => spoil_record(&mut records, dice),
+        10..=14 => spoil_record(&mut records, dice),
+        _ => {}
     }
     records
 }

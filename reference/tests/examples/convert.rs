@@ -419,3 +419,23 @@ fn a_start_line_that_is_second() {
     refused(up, &head, 1, 10);
     down_refused(&head, 2, 1);
 }
+
+/// A reading that nobody writes goes both ways, and doesn't hide a row that is looked for.
+#[test]
+fn a_reading_that_nobody_writes() {
+    let old = step(20, " 1", " 2", " 7", " 1");
+    let new = step(10, " 1", " 2", " 1 31", " 0");
+    let changes = [(4, &old[..]), (9, &new)];
+    let reads = |more: &[(usize, &str)]| with_lines(&[&changes, more].concat());
+    pair(&of_01(&reads(&[])), &reads(&[]));
+    for (line, wrong, row) in [
+        (6, "(new 5)\n", 6),
+        (7, "(start)\n", 7),
+        (7, "(start 1)\n", 22),
+        (13, "(done 65536)\n", 22),
+    ] {
+        down_refused(&reads(&[(line, wrong)]), row, line);
+    }
+    up_refused(&of_01(&reads(&[(6, "(new 5)\n")])), 6, 5);
+    up_refused(&of_01(&reads(&[(13, "(done 65536)\n")])), 2, 11);
+}

@@ -42,8 +42,8 @@ fn without_10(reads: &str) -> String {
 }
 
 #[test]
-fn e_lacks_a_kept_step() {
-    lists(OLD, &without_10(" 0 1"), &[10, 20], "(refused 11 11)\n");
+fn e_reads_what_nobody_writes() {
+    lists(OLD, &without_10(" 0 1"), &[10, 20], "(refused 23 9)\n");
 }
 
 #[test]

@@ -1,6 +1,6 @@
 //! 01's examples, the rows of its table, orders handed in, slips, 02's names,
-//! shelf, look-up, cloth and starts, 01's version of the layout, and sheets between
-//! editions.
+//! shelf, look-up, cloth and starts, 01's version of the layout, sheets between
+//! editions, and readings that nobody writes.
 
 mod cloth;
 mod cloth_text;
@@ -11,6 +11,7 @@ mod letters;
 mod lookup;
 mod names;
 mod orders;
+mod reads;
 mod row_1;
 mod rows_job;
 mod rows_sheet;

@@ -142,6 +142,7 @@ fn try_meets_the_rows_before() {
     assert_eq!(tried(with_line(12, "(done 20)\n")), Err(refusal(9, 12)));
     let lacks = step(11, " 1", " 2", "", " 0");
     assert_eq!(tried(with_line(9, &lacks)), Err(refusal(11, 12)));
-    let reads = step(10, " 1", " 2", " 7", " 0");
-    assert_eq!(tried(with_line(9, &reads)), Err(refusal(12, 12)));
+    let reads = |variable| step(10, " 1", " 2", variable, " 0");
+    assert_eq!(tried(with_line(9, &reads(" 1"))), Err(refusal(12, 12)));
+    assert_eq!(tried(with_line(9, &reads(" 7"))), Err(refusal(23, 9)));
 }

@@ -98,11 +98,11 @@ fn rows_11_and_12_go_by_occurrence() {
     let lacks_30 = step(31, " 2", " 3", "", " 2");
     refused(&with_line(9, &lacks_10), 11, 12);
     refused(&with_line(10, &lacks_30), 11, 14);
-    refused(&with_line(9, &step(10, " 1", " 2", " 7", " 0")), 12, 12);
+    refused(&with_line(9, &step(10, " 1", " 2", " 1", " 0")), 12, 12);
     refused(&with_line(8, &step(20, " 0", " 1", "", " 1 7")), 12, 13);
     refused(&with_line(10, &step(30, " 2", " 3", " 0", " 2")), 12, 14);
     // Kept in turn: occurrence 1's row 12 goes before occurrence 3's row 11.
-    let reads = step(10, " 1", " 2", " 7", " 0");
+    let reads = step(10, " 1", " 2", " 1", " 0");
     refused(&with_lines(&[(9, &reads), (10, &lacks_30)]), 12, 12);
 }
 
@@ -123,16 +123,19 @@ fn row_13_goes_last() {
     // The same job, by rows 11 and 12.
     let lacks = step(11, " 1", " 2", "", " 0");
     refused(&with_lines(&[(9, &lacks), (13, ""), (14, "")]), 11, 12);
-    let reads = step(10, " 1", " 2", " 7", " 0");
+    let reads = step(10, " 1", " 2", " 1", " 0");
     refused(&with_lines(&[(9, &reads), (13, ""), (14, "")]), 12, 12);
 }
 
 #[test]
 fn a_job_may_move_with_nothing_kept() {
-    // 10 has no data, and the new route lacks it.
+    // 10 has no data, and the new route lacks it; 30 writes what it wrote.
+    let thirty = step(30, " 2", " 3", " 0 1", " 0 2");
     let text = with_lines(&[
         (3, &step(10, " 0", " 1", "", "")),
+        (5, &thirty),
         (9, &step(11, " 1", " 2", "", "")),
+        (10, &thirty),
     ]);
     let text = text.replace("(done 20)\n(done 30)\n", "");
     let listing = "(moved (kept 0) (dropped 1))\n(order)\n(marking 0)\n";
@@ -153,19 +156,24 @@ fn row_14_goes_first_and_changes_nothing() {
 
 #[test]
 fn the_work_slice_changes_only_by_a_search() {
-    let no_data = with_lines(&[(3, &step(10, " 0", " 1", "", "")), (14, "")]);
+    let no_data = with_lines(&[
+        (3, &step(10, " 0", " 1", "", "")),
+        (5, &step(30, " 2", " 3", " 0 1", " 0 2")),
+        (14, ""),
+    ]);
     for (text, searched) in [
         (SHEET.to_string(), true),
         // 13, and nothing kept.
         (with_lines(&[(13, ""), (14, "")]), true),
         (no_data.replace("(done 20)\n", ""), true),
-        // Straight, 1, 7, 8, 11 and 12.
+        // Straight, 1, 7, 8, 11, 12 and 23.
         (with_lines(&[(12, ""), (13, ""), (14, "")]), false),
         (with_line(12, "\n"), false),
         (with_line(7, EMPTY), false),
         (with_line(12, "(done 40)\n"), false),
         (with_line(9, &step(11, " 1", " 2", "", " 0")), false),
         (with_line(9, &step(10, " 1", " 2", "", " 0 7")), false),
+        (with_line(9, &step(10, " 1", " 2", " 7", " 0")), false),
     ] {
         let mut work = vec![9; WORK + 1];
         let mut out = [7; 200];

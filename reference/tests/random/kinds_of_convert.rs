@@ -56,6 +56,7 @@ pub fn add(kinds: &mut Kinds, bytes: &[u8], version: &Version) {
         let mut of_way = Kinds::default();
         add_places(&mut of_way, &facts, version, answer.err());
         add_names(&mut of_way, &facts, answer.err());
+        add_readings(&mut of_way, &facts, answer.err());
         if version.start {
             add_departures(&mut of_way, &facts, answer.err());
             add_starts(&mut of_way, &facts, answer.err());
@@ -120,6 +121,24 @@ fn add_places(kinds: &mut Kinds, facts: &Sheet, version: &Version, refusal: Opti
     add(both && facts.done.len() == 64, "goes: 64 done");
 }
 
+/// Readings that nobody writes, which no way between editions looks for.
+fn add_readings(kinds: &mut Kinds, facts: &Sheet, refusal: Option<Refusal>) {
+    let [old, new] = [&facts.old, &facts.new].map(|route| {
+        let written = |variable: &u64| route.steps.iter().any(|s| s.writes.contains(variable));
+        let mut read = route.steps.iter().flat_map(|step| &step.reads);
+        read.any(|variable| !written(variable))
+    });
+    let row = refusal.map_or(0, |refusal| refusal.number);
+    let mut add = |met, kind: &str| kinds.add(met, &format!("{kind}, a reading nobody writes"));
+    add(row == 0 && old, "goes: old");
+    add(row == 0 && new, "goes: new");
+    add(row == 6 && (old || new), "6");
+    add(row == 7 && (old || new), "7");
+    if facts.done.iter().any(|&name| name > GREATEST) {
+        add(matches!(row, 2 | 22) && (old || new), "a long done name");
+    }
+}
+
 /// Names at and past 65,535, by where they stand.
 fn add_names(kinds: &mut Kinds, facts: &Sheet, refusal: Option<Refusal>) {
     let names = |route: &Route| route.steps.iter().map(|step| step.name).collect();
@@ -134,7 +153,7 @@ fn add_names(kinds: &mut Kinds, facts: &Sheet, refusal: Option<Refusal>) {
         add(row == 0 && list.contains(&GREATEST), "65,535 goes");
         let refused = matches!(row, 2 | 22);
         add(refused && list.contains(&(GREATEST + 1)), "65,536 refused");
-        let ends_as_one = |name: &u64| *name > GREATEST && name % 65_536 > 0;
+        let ends_as_one = |name: &u64| *name > GREATEST && !name.is_multiple_of(65_536);
         let met = refused && list.iter().any(ends_as_one);
         add(met, "over 65,536 refused");
     }

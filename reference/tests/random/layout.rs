@@ -146,7 +146,7 @@ fn swapped(version: &Version) -> Version {
 #[test]
 fn row_1_is_where_no_sheet_begins_so() {
     let seed = crate::seed();
-    println!("layout: seed {seed}, 1,000 sheets");
+    println!("layout: seed {seed}, 1,500 sheets");
     let start = then(list("start", 10), exactly("\n"));
     let present = (Version::PRESENT, 10, exactly(" (cloth)"), start);
     let of_01 = (Version::OF_01, 5, None, Empty);
@@ -154,7 +154,7 @@ fn row_1_is_where_no_sheet_begins_so() {
         let sheets = sheets(most, &mark, &start);
         let mut dice = Dice::new(seed);
         let mut counts = [0; 3];
-        for _ in 0..1_000 {
+        for _ in 0..1_500 {
             let mut facts = random::sheet(&mut dice);
             if dice.chance(50) {
                 shorten(&mut facts, &mut dice);

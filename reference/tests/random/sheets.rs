@@ -45,6 +45,7 @@ fn every_outcome_is_met() {
         ("refused 11", 100),
         ("refused 12", 100),
         ("refused 13", 600),
+        ("refused 23", 150),
     ] {
         assert!(
             counts.get(word).is_some_and(|&count| count >= least),
@@ -78,7 +79,7 @@ fn damaged_sheets_meet_every_row() {
         *counts.entry(number).or_default() += 1;
     });
     println!("refused by row, 0 for moved: {counts:?}");
-    for number in 0..=13 {
+    for number in (0..=13).chain([23]) {
         assert!(
             counts.get(&number).is_some_and(|&count| count >= 3),
             "{number}"

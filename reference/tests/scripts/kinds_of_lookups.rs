@@ -190,5 +190,5 @@ fn kinds_of_jobs() {
     }
     kinds.finish(LEAST);
     // Rows; findings of run and match; misses; the others.
-    assert_eq!(kinds.0.len(), 9 + 2 * 9 + 5 + 12);
+    assert_eq!(kinds.0.len(), 10 + 2 * 9 + 5 + 12);
 }

@@ -298,16 +298,7 @@ fn facts_without_10(reads: u64) -> Facts {
 
 #[test]
 fn e() {
-    Letter {
-        files: files!("E"),
-        facts: facts_without_10(3),
-        run: Ok(4),
-        slice: Ok((3, vec![])),
-        judge: Err([11, 11]),
-        searched: false,
-        tries: vec![(vec![1, 2], [11, 11, 0]), (vec![], [11, 11, 0])],
-    }
-    .check();
+    refused_early(files!("E"), facts_without_10(3), [23, 9]).check();
 }
 
 #[test]

@@ -85,7 +85,7 @@ fn example_a() {
 
 #[test]
 fn done_lists_of_example_a() {
-    // The new route is 20 10 30, or lacks 20 or 10.
+    // The new route is 20 10 30, or lacks 20 or 10; then the other one writes both.
     for (done, run, matched) in [
         (&[][..], 0, [0, 0, 0]),
         (&[10], 1, [2, 1, 2]),
@@ -96,7 +96,7 @@ fn done_lists_of_example_a() {
         facts.done = done.to_vec();
         let [all, without_20, without_10] = matched;
         answers(COMPARE, &facts.by_value(), &[0, 0, run, all]);
-        facts.new = records(3, &[[10, 1, 2, 0, 1, 0], [30, 2, 4, 3, 4, 0]]);
+        facts.new = records(3, &[[10, 1, 2, 0, 3, 0], [30, 2, 4, 3, 4, 0]]);
         answers(COMPARE, &facts.by_value(), &[0, 0, run, without_20]);
         facts.new.list[0][0] = 20;
         answers(COMPARE, &facts.by_value(), &[0, 0, run, without_10]);

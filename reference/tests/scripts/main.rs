@@ -1,6 +1,6 @@
 //! Scripts: worked answers for 01's examples, for wrong records, for shelves, for
-//! look-ups, for cloth, for starts and for sheets between editions, and random scripts
-//! held to a direct reading of 01's and 02's definitions.
+//! look-ups, for cloth, for starts, for sheets between editions and for readings, and
+//! random scripts held to a direct reading of 01's and 02's definitions.
 
 mod cloth;
 mod common;
@@ -13,6 +13,8 @@ mod kinds_of_cloth;
 #[path = "../random/kinds_of_convert.rs"]
 mod kinds_of_convert;
 mod kinds_of_lookups;
+#[path = "../random/kinds_of_reads.rs"]
+mod kinds_of_reads;
 #[path = "../random/kinds_of_starts.rs"]
 mod kinds_of_starts;
 mod letters;
@@ -21,8 +23,10 @@ mod names;
 mod random;
 mod random_cloth;
 mod random_lookups;
+mod random_reads;
 mod random_shelves;
 mod random_starts;
+mod reads;
 mod rows;
 mod shelf;
 mod starts;

@@ -107,7 +107,7 @@ impl Entry {
         }
     }
 
-    /// The first of the rows 4, 2, 3, 5, 6 and 7 that an old route meets: none
+    /// The first of the rows 4, 2, 3, 5, 6, 7 and 23 that an old route meets: none
     /// comes from the new one, and nothing is done.
     fn refused_as_old(&self) -> Option<Refusal> {
         let new = direct::Route {
@@ -222,6 +222,29 @@ pub fn puts() -> impl Iterator<Item = (direct::Route, &'static [u64])> {
     those.map(|(line, _, numbers)| (Entry::given(&mut arguments(line)).route(), numbers))
 }
 
+/// The jobs between two editions that are on a shelf, the target later, with the answers.
+pub fn between() -> Vec<(Job, &'static [u64])> {
+    let mut all = Vec::new();
+    for script in scripts() {
+        let mut shelf = Shelf::empty();
+        for (text, operation, numbers) in operations_of(std::slice::from_ref(script)) {
+            let mut words = arguments(text);
+            match operation {
+                HAND_IN => shelf = Shelf::given(&mut words),
+                PUT => shelf = Shelf::shown(&numbers[2..]),
+                JUDGE if !matches!(numbers[0], 14 | 19 | 21) => {
+                    let pair = [words.next(), words.next()];
+                    let [old, new] = pair.map(|number| shelf.find(number).unwrap().route());
+                    let done = words.many();
+                    all.push((Job { old, new, done }, numbers));
+                }
+                _ => {}
+            }
+        }
+    }
+    all
+}
+
 /// What an operation's answer says: its number, and its second one after a 21.
 fn row(operation: u64, numbers: &[u64]) -> Refusal {
     match (operation, numbers[0]) {
@@ -241,8 +264,8 @@ fn every_row_is_met_often() {
         }
     }
     let plain = |rows: &[u64]| rows.iter().map(|&row| [row, 0]).collect::<Vec<_>>();
-    let put = plain(&[0, 2, 3, 4, 5, 6, 7, 20]);
-    let judge = plain(&[0, 2, 3, 4, 5, 6, 7, 8, 9, 10, 11, 12, 13, 14, 19]);
+    let put = plain(&[0, 2, 3, 4, 5, 6, 7, 20, 23]);
+    let judge = plain(&[0, 2, 3, 4, 5, 6, 7, 8, 9, 10, 11, 12, 13, 14, 19, 23]);
     let all = [
         (PUT, [put, vec![FULL, BAD]].concat()),
         (JUDGE, [judge, vec![BAD]].concat()),

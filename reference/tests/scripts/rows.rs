@@ -102,13 +102,17 @@ fn for_each_line_the_rows_in_turn() {
 #[test]
 fn eight_entries_and_nine() {
     let mut facts = facts_a();
-    facts.old = records(9, &[[10, 1, 0x1fe, 0xff, 0xff00_0000, 0]]);
+    let (low, high) = (0xff, 0xff00_0000);
+    facts.old = records(
+        9,
+        &[[10, 1, 0x1fe, low, high, 0], [20, 0x1fe, 1, high, low, 0]],
+    );
     facts.new = facts.old.clone();
     facts.done = vec![10];
     answers(2, &facts.by_value(), &[0, 0, 0x1fe]);
     answers(12, &facts.lent(), &[0, 0, 0x1fe]);
     facts.new.list[0][2] = 0x1ff;
-    both_refused(&facts, [3, 6]);
+    both_refused(&facts, [3, 7]);
 }
 
 /// A route with so many right records, each from place 0 to place 1.

@@ -5,6 +5,7 @@ mod letters;
 mod marks;
 mod orders;
 mod random;
+mod reads;
 mod starts;
 
 use reference::judge::WORK;

@@ -25,7 +25,7 @@ fn same(sheet: &[u8], order: &[u8]) -> u32 {
 
 #[test]
 fn on_random_orders() {
-    let mut met = [0; 19];
+    let mut met = [0; 24];
     for number in 0..SHEETS {
         let mut dice = Dice::new(mix(number));
         let sheet = bytes(&mut dice);
@@ -35,7 +35,7 @@ fn on_random_orders() {
         };
         met[same(&sheet, &tried) as usize] += 1;
     }
-    for number in (0..=12).chain(16..=18) {
+    for number in (0..=12).chain(16..=18).chain([23]) {
         assert!(met[number] > 0, "{number} is never met");
     }
 }

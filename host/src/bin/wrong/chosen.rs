@@ -113,7 +113,8 @@ fn jobs() -> String {
     let ten = |writes: &[u64]| step(10, [&[0], &[1]], [&[], writes]);
     let twenty = step(20, [&[1], &[2]], [&[0], &[1]]);
     let old = route(2, &[ten(&[0])]);
-    let other_writes = job(&old, &route(3, &[ten(&[1]), twenty.clone()]), &[10]);
+    let before = step(20, [&[1], &[2]], [&[1], &[0]]);
+    let other_writes = job(&old, &route(3, &[ten(&[1]), before]), &[10]);
     let other_variables = job(
         &old,
         &route(2, &[step(30, [&[0], &[1]], [&[], &[1]])]),

@@ -49,7 +49,7 @@ fn numbers(word_and_number: &str, longer: &[u64]) -> String {
 
 /// A sheet that moves straight, with another number behind a word.
 fn with_number(word_and_number: &str, number: u64) -> String {
-    let route = "2)\n(start 0)\n(step 1 (in 0) (out 1) (read 0) (write))\n";
+    let route = "2)\n(start 0)\n(step 1 (in 0) (out 1) (read 0) (write 0))\n";
     let text = format!("(old {route}(new {route}(job)\n(done 1)\n");
     let word = word_and_number.trim_end_matches(|c: char| c.is_ascii_digit());
     text.replacen(word_and_number, &format!("{word}{number}"), 1)

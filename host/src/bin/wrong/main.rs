@@ -11,6 +11,7 @@ mod chosen_convert;
 mod chosen_lookups;
 mod chosen_marks;
 mod chosen_names;
+mod chosen_reads;
 mod chosen_shelves;
 mod chosen_starts;
 mod edit;

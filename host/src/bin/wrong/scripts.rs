@@ -2,7 +2,7 @@
 
 use crate::edit::root;
 use crate::{chosen, chosen_cloth, chosen_convert, chosen_lookups, chosen_marks};
-use crate::{chosen_names, chosen_shelves, chosen_starts};
+use crate::{chosen_names, chosen_reads, chosen_shelves, chosen_starts};
 use reference::random::dice::{mix, Dice};
 use reference::random::{convert, lookup, script, shelf};
 use reference::script::numbers::MOST_BYTES;
@@ -47,13 +47,14 @@ impl Script {
     }
 }
 
-/// Five by hand, drive's own script among them; then random ones.
+/// Six by hand, drive's own script among them; then random ones.
 pub fn all() -> Vec<Script> {
     let own = fs::read_to_string(root().join("crates/drive/stdin")).expect("no script of drive's");
     let by_hand = [
         own + &chosen::script() + &chosen_shelves::script(),
         chosen_lookups::script() + &chosen_names::script(),
         chosen_starts::script(),
+        chosen_reads::script(),
         chosen_convert::script(),
         chosen_cloth::script() + &chosen_marks::script() + TOO_LONG,
     ];

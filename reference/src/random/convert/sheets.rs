@@ -4,7 +4,7 @@
 use crate::net;
 use crate::random::dice::Dice;
 use crate::random::records::{any, Facts};
-use crate::random::{cloth, damage, jobs, names, starts};
+use crate::random::{cloth, damage, jobs, mistype, names, starts};
 use crate::sheet::{self, Route, Sheet, Step};
 use crate::version::Version;
 
@@ -95,11 +95,12 @@ fn overfill(facts: &mut Sheet, dice: &mut Dice) {
     }
 }
 
-/// One thing that 01's layout can't say, or nearly so, or that rows 6 and 7 refuse. By
-/// 01's version a route that goes round has no start, and few steps are marked. So many
-/// times in a hundred it is in the old route.
+/// One thing that 01's layout can't say, or nearly so, or that rows 6 and 7 refuse; or
+/// one that only 23 would, which goes both ways. By 01's version a route that goes round
+/// has no start, and few steps are marked. So many times in a hundred it is in the old
+/// route.
 fn depart(facts: &mut Sheet, version: &Version, share: usize, dice: &mut Dice) {
-    let kind = dice.below(20);
+    let kind = dice.below(22);
     let route = some_route(facts, share, dice);
     match kind {
         0..=3 if version.start => other_start(route, dice),
@@ -117,6 +118,7 @@ fn depart(facts: &mut Sheet, version: &Version, share: usize, dice: &mut Dice) {
             }
         }
         18 => route.start.clear(),
+        19..=20 => mistype::route(route, &[], dice),
         _ => {
             jobs::close(route);
             route.start.clear();
@@ -208,13 +210,15 @@ fn rename(route: &mut Route, from: u64, to: u64) {
         .for_each(|step| step.name = to);
 }
 
-/// A done name becomes a long one, or one more is done.
+/// One or two done names become long ones, or one more is done.
 fn lengthen_done(done: &mut Vec<u64>, version: &Version, dice: &mut Dice) {
     if done.is_empty() || done.len() < 64 && dice.chance(25) {
         done.push(1);
     }
-    let at = dice.below(done.len());
-    done[at] = long(done[at], version, dice);
+    for _ in 0..any(&[1, 1, 1, 2], dice) {
+        let at = dice.below(done.len());
+        done[at] = long(done[at], version, dice);
+    }
 }
 
 /// A name of the old route becomes a long one wherever it stands.

@@ -1,7 +1,7 @@
--- `opening::open_at`: the two tests in turn, on what the pass over the steps found.
+-- `opening::check_net`: the two tests in turn, on what a pass over the steps found.
 use borrow.Author.Rules.{rules}
 use Rattle.opening.proofs.NetRows.{net-six, net-seven, net-neither}
-use Rattle.opening.proofs.open_at.Goals as goal
+use Rattle.opening.proofs.check_net.Goals as goal
 
 pub returns-then-not-within-clause-outcome : goal.returns-then-not-within-clause-outcome
 returns-then-not-within-clause-outcome c = search (rules, net-six)
