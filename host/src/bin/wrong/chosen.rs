@@ -102,13 +102,15 @@ fn long_jobs() -> String {
         print(&long(64), 705),
         on_records(SLICE, &long(65), &[]),
         on_records(SLICE, &long(2), &[]),
+        on_records(SLICE + LENT, &job(&route(2, &many), &round, &[]), &[]),
         read(&sheet::text(&long(65))),
         read(&sheet::text(&job(&route(2, &many), &round, &[]))),
     ]
     .concat()
 }
 
-/// Short jobs: other writes, other variables, longer routes, other place counts.
+/// Short jobs: other writes, other variables, nine of them, longer routes, other
+/// place counts.
 fn jobs() -> String {
     let ten = |writes: &[u64]| step(10, [&[0], &[1]], [&[], writes]);
     let twenty = step(20, [&[1], &[2]], [&[0], &[1]]);
@@ -131,6 +133,7 @@ fn jobs() -> String {
         &[10, 20],
     );
     let plain = route(2, &[ten(&[])]);
+    let nine = route(2, &[ten(&[0, 1, 2, 3, 4, 5, 6, 7, 8])]);
     let last_variable = route(2, &[ten(&[31])]);
     [
         judge(&other_writes),
@@ -140,6 +143,7 @@ fn jobs() -> String {
         on_records(SLICE + LENT, &other_variables, &[]),
         print(&longer, 7_100),
         on_records(SLICE + LENT, &fewer_places, &[]),
+        on_records(SLICE, &job(&nine, &nine, &[10]), &[]),
         on_records(TRY, &longer, &[bytes(&[1, 1])]),
         on_records(TRY, &job(&plain, &plain, &[10]), &[bytes(&[1])]),
         print(&job(&last_variable, &last_variable, &[10]), 100),
