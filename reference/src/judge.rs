@@ -29,17 +29,21 @@ pub struct Moved {
 /// Judges the job of these facts: rows 14, 4, 2, 3 and 5, 6, 7 and 23, and 8 to 13.
 pub fn judge(sheet: &Sheet, work: &mut [u8]) -> Result<Moved, Refusal> {
     refuse_if(work.len() < WORK, 14, 0)?;
-    let job = Job::of(sheet)?;
-    fit::check_kept(&job)?;
+    judge_job(&Job::of(sheet)?, work)
+}
+
+/// The same for a job that no row to 9 refuses, as its needs and its precedence stand.
+pub fn judge_job(job: &Job, work: &mut [u8]) -> Result<Moved, Refusal> {
+    fit::check_kept(job)?;
     let whole = job.whole();
-    if let (true, Some(marking)) = (fit::straight(&job, &whole), fit::end(&job, &whole)) {
+    if let (true, Some(marking)) = (fit::straight(job, &whole), fit::end(job, &whole)) {
         let all = whole.iter().copied().collect();
-        return Ok(moved(&job, true, all, whole, marking));
+        return Ok(moved(job, true, all, whole, marking));
     }
     work[..WORK].fill(0);
-    match search::first(&job, &net::start(&sheet.new), &job.kept) {
-        Some((order, marking)) => Ok(moved(&job, false, job.kept.clone(), order, marking)),
-        None => refuse(13, sheet.job_line()),
+    match search::first(job, &net::start(&job.sheet.new), &job.kept) {
+        Some((order, marking)) => Ok(moved(job, false, job.kept.clone(), order, marking)),
+        None => refuse(13, job.sheet.job_line()),
     }
 }
 

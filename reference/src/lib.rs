@@ -22,5 +22,6 @@ pub mod search;
 pub mod sheet;
 pub mod shelf;
 pub mod slice;
+pub mod tokens;
 pub mod values;
 pub mod version;

@@ -6,11 +6,13 @@
 //! sheets that go between editions.
 
 pub mod block;
+pub mod branches;
 pub mod cloth;
 pub mod convert;
 pub mod damage;
 mod damage_start;
 pub mod dice;
+mod forks;
 pub mod jobs;
 pub mod lookup;
 pub mod mistype;
@@ -32,6 +34,23 @@ pub use script::script;
 
 /// The facts of a random sheet. Most of them reach judge.
 pub fn sheet(dice: &mut Dice) -> Sheet {
+    let mut sheet = match dice.below(100) {
+        0..=11 => branches::job(dice),
+        12..=16 => branches::handing(dice),
+        17..=19 => branches::all_the_way(dice),
+        _ => redrawn(dice),
+    };
+    match dice.below(100) {
+        0..=7 => spoil(&mut sheet.done, dice),
+        8..=10 => starts::change(&mut sheet.old, dice),
+        11..=17 => mistype::job(&mut sheet, dice),
+        _ => {}
+    }
+    sheet
+}
+
+/// A plan, redrawn in small ways.
+fn redrawn(dice: &mut Dice) -> Sheet {
     let (plan, length) = plan_and_length(dice);
     let mut old = plan.draw(dice);
     if dice.chance(4) {
@@ -55,14 +74,7 @@ pub fn sheet(dice: &mut Dice) -> Sheet {
         dice.below(length + 1)
     };
     let done = run_at_random(&old, length, dice);
-    let mut sheet = Sheet { old, new, done };
-    match dice.below(100) {
-        0..=7 => spoil(&mut sheet.done, dice),
-        8..=10 => starts::change(&mut sheet.old, dice),
-        11..=17 => mistype::job(&mut sheet, dice),
-        _ => {}
-    }
-    sheet
+    Sheet { old, new, done }
 }
 
 /// Some jobs have begun further on, and few routes have a start of another kind.
@@ -81,8 +93,10 @@ fn plan_and_length(dice: &mut Dice) -> (Plan, usize) {
     match dice.below(100) {
         0..=7 => (Plan::looping(dice), dice.from_to(12, 64)),
         8..=16 => (Plan::round(dice), dice.from_to(4, 20)),
-        17..=37 => (Plan::random(9, 14, dice), 14),
-        38..=46 => (Plan::cutting(dice), 16),
+        17..=35 => (Plan::random(9, 14, dice), 14),
+        36..=46 => (Plan::cutting(dice), 16),
+        47..=56 => (Plan::branching(dice), dice.from_to(3, 16)),
+        57..=60 => (Plan::ring(dice), dice.from_to(2, 30)),
         _ => (Plan::random(1, 7, dice), 9),
     }
 }

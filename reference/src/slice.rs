@@ -21,11 +21,13 @@ pub fn last_writer(done: &[&Step], variable: u64) -> Option<usize> {
     last_writer_before(done, done.len() + 1, variable)
 }
 
-/// What an occurrence needs: the last earlier writer of each variable it reads.
-pub fn needs(done: &[&Step], occurrence: usize) -> Occurrences {
+/// What an occurrence needs: the last earlier writer of each variable it reads, and
+/// those that put the tokens that it takes from shared places.
+pub fn needs(done: &[&Step], putters: &[Occurrences], occurrence: usize) -> Occurrences {
     let reads = &done[occurrence - 1].reads;
     let writer = |variable: &u64| last_writer_before(done, occurrence, *variable);
-    reads.iter().filter_map(writer).collect()
+    let writers = reads.iter().filter_map(writer);
+    writers.chain(putters[occurrence - 1].clone()).collect()
 }
 
 /// The route's variables: all that its steps read or write.
@@ -42,14 +44,14 @@ pub fn cloth(done: &[&Step]) -> Occurrences {
 
 /// Kept: the last writer of each new-route variable, every cloth occurrence, and
 /// all that these need, over and over, until nothing is added.
-pub fn kept(done: &[&Step], new: &Route) -> Occurrences {
+pub fn kept(done: &[&Step], putters: &[Occurrences], new: &Route) -> Occurrences {
     let writer = |variable| last_writer(done, variable);
     let mut kept: Occurrences = variables(new).into_iter().filter_map(writer).collect();
     kept.extend(cloth(done));
     loop {
         let mut more = kept.clone();
         for &occurrence in &kept {
-            more.extend(needs(done, occurrence));
+            more.extend(needs(done, putters, occurrence));
         }
         if more == kept {
             return kept;
@@ -59,8 +61,9 @@ pub fn kept(done: &[&Step], new: &Route) -> Occurrences {
 }
 
 /// The later comes after the earlier when one writes a variable that the other
-/// reads or writes, or when both are cloth occurrences.
-pub fn comes_after(done: &[&Step], later: usize, earlier: usize) -> bool {
+/// reads or writes, when both are cloth occurrences, or when the later took from a
+/// shared place the token that the earlier put there.
+pub fn comes_after(done: &[&Step], putters: &[Occurrences], later: usize, earlier: usize) -> bool {
     let touches = |writer: &Step, other: &Step| {
         let mut writes = writer.writes.iter();
         writes.any(|v| other.reads.contains(v) || other.writes.contains(v))
@@ -68,15 +71,16 @@ pub fn comes_after(done: &[&Step], later: usize, earlier: usize) -> bool {
     let valid = 1 <= earlier && earlier < later && later <= done.len();
     valid && {
         let (first, second) = (done[earlier - 1], done[later - 1]);
-        touches(first, second) || touches(second, first) || first.cloth && second.cloth
+        let related = touches(first, second) || touches(second, first);
+        related || first.cloth && second.cloth || putters[later - 1].contains(&earlier)
     }
 }
 
 /// Precedence: a row for each occurrence, holding those that it comes after.
-pub fn table(done: &[&Step]) -> Vec<Occurrences> {
+pub fn table(done: &[&Step], putters: &[Occurrences]) -> Vec<Occurrences> {
     let row = |later| {
         (1..later)
-            .filter(|&earlier| comes_after(done, later, earlier))
+            .filter(|&earlier| comes_after(done, putters, later, earlier))
             .collect()
     };
     (1..=done.len()).map(row).collect()
@@ -93,7 +97,7 @@ pub struct Slice {
 pub fn slice(sheet: &Sheet) -> Result<Slice, Refusal> {
     let job = Job::of(sheet)?;
     Ok(Slice {
-        table: table(&job.done),
+        table: table(&job.done, &job.putters),
         kept: job.kept,
     })
 }

@@ -16,14 +16,15 @@ pub enum Way {
 }
 
 /// What each occurrence reads and writes, which of them cut cloth, where their names
-/// stand in the new route, and how many names were compared to find them on the old
-/// route and the new.
+/// stand in the old route and the new, and how many names were compared to find them
+/// there.
 pub struct Uses {
     pub len: usize,
     pub reads: [u32; MOST],
     pub writes: [u32; MOST],
     cloth: u64,
-    places: [u8; MOST],
+    old: [u8; MOST],
+    new: [u8; MOST],
     compared: [usize; 2],
 }
 
@@ -37,7 +38,8 @@ impl Uses {
             reads: [0; MOST],
             writes: [0; MOST],
             cloth: 0,
-            places: [0; MOST],
+            old: [0; MOST],
+            new: [0; MOST],
             compared: [0; 2],
         }
     }
@@ -51,7 +53,24 @@ impl Uses {
     /// The new route's step of an occurrence.
     #[inline]
     pub fn step<'a>(&self, sheet: &'a Sheet, index: usize) -> Option<&'a Step> {
-        sheet.new.steps.get(usize::from(self.places[index]))
+        sheet.new.steps.get(usize::from(self.new[index]))
+    }
+
+    /// The shared places that an occurrence takes a token from.
+    #[inline]
+    pub fn takes(&self, sheet: &Sheet, index: usize) -> u64 {
+        self.old_step(sheet, index).ins & sheet.old.shared
+    }
+
+    /// The shared places that it puts a token on.
+    #[inline]
+    pub fn puts(&self, sheet: &Sheet, index: usize) -> u64 {
+        self.old_step(sheet, index).puts() & sheet.old.shared
+    }
+
+    #[inline]
+    fn old_step<'a>(&self, sheet: &'a Sheet, index: usize) -> &'a Step {
+        &sheet.old.steps[usize::from(self.old[index])]
     }
 }
 
@@ -70,7 +89,7 @@ pub fn way(sheet: &Sheet, uses: &mut Uses) -> Result<Way, Refusal> {
     if let Some(end) = straight(sheet, uses) {
         return Ok(Way::Straight(end));
     }
-    let kept = kept(uses, sheet.new.variables);
+    let kept = kept(sheet, uses);
     check_kept(sheet, kept, uses)?;
     Ok(Way::Search(kept))
 }
@@ -97,6 +116,7 @@ fn run(sheet: &Sheet, uses: &mut Uses) -> Result<(), Refusal> {
             return Err((9, sheet.done_line(index)));
         }
         marking ^= step.toggle();
+        uses.old[index] = place as u8;
         uses.reads[index] = step.reads;
         uses.writes[index] = step.writes;
         uses.cloth |= u64::from(step.cloth) << index;
@@ -109,7 +129,7 @@ fn run(sheet: &Sheet, uses: &mut Uses) -> Result<(), Refusal> {
 /// Finds the done names in the new route.
 fn place(sheet: &Sheet, uses: &mut Uses) {
     let mut lookup = Lookup::default();
-    for (place, &name) in uses.places.iter_mut().zip(&sheet.done[..sheet.done_len]) {
+    for (place, &name) in uses.new.iter_mut().zip(&sheet.done[..sheet.done_len]) {
         let found = lookup.find(sheet.new.all(), name);
         *place = found.map_or(NOWHERE, |place| place as u8);
     }
@@ -136,14 +156,19 @@ fn same_work(step: &Step, uses: &Uses, index: usize) -> bool {
         && step.cloth == uses.cuts(index)
 }
 
-/// One sweep from the last occurrence to the first: one is kept when it cuts cloth
-/// or writes a variable whose value is still wanted; then what it reads is wanted.
-pub fn kept(uses: &Uses, variables: u32) -> u64 {
-    let mut wanted = variables;
+/// One sweep from the last occurrence to the first: one is kept when it cuts cloth,
+/// writes a variable whose value is still wanted, or puts a token that is; then what it
+/// reads is wanted, and the tokens that it takes from shared places.
+pub fn kept(sheet: &Sheet, uses: &Uses) -> u64 {
+    let (mut wanted, mut tokens) = (sheet.new.variables, 0);
     let mut kept = 0;
     for index in (0..uses.len).rev() {
-        if uses.writes[index] & wanted != 0 || uses.cuts(index) {
+        let puts_wanted = tokens != 0 && uses.puts(sheet, index) & tokens != 0;
+        if uses.writes[index] & wanted != 0 || puts_wanted || uses.cuts(index) {
             wanted = wanted & !uses.writes[index] | uses.reads[index];
+            if sheet.old.shared != 0 {
+                tokens = tokens & !uses.puts(sheet, index) | uses.takes(sheet, index);
+            }
             kept |= 1 << index;
         }
     }

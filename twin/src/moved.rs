@@ -36,7 +36,7 @@ impl Moved {
 
     fn straight(marking: u64, sheet: &Sheet, uses: &Uses) -> Moved {
         let all = (1u128 << uses.len) - 1;
-        let precedence = Precedence::of(uses, all as u64);
+        let precedence = Precedence::of(sheet, uses, all as u64);
         Moved {
             done: uses.len,
             order: precedence.at,
@@ -47,7 +47,7 @@ impl Moved {
     }
 
     fn searched(kept: u64, sheet: &Sheet, uses: &Uses, work: &mut [u8; WORK]) -> Option<Moved> {
-        let precedence = Precedence::of(uses, kept);
+        let precedence = Precedence::of(sheet, uses, kept);
         let mut candidates = [Candidate::default(); 16];
         for (index, candidate) in candidates.iter_mut().enumerate().take(precedence.len) {
             let step = uses.step(sheet, usize::from(precedence.at[index]))?;

@@ -1,7 +1,9 @@
 //! Which of some occurrences come after which. Instead of pair by pair, the
-//! occurrences met so far are held by variable, and those that cut cloth as a mask.
+//! occurrences met so far are held by variable, those that cut cloth as a mask, and the
+//! last putter by shared place.
 
 use crate::job::Uses;
+use crate::reader::Sheet;
 use crate::route::MOST;
 
 /// Some of a job's occurrences, rising. Row i has a bit for each earlier one
@@ -16,7 +18,8 @@ pub struct Precedence {
 }
 
 impl Precedence {
-    pub fn of(uses: &Uses, occurrences: u64) -> Precedence {
+    /// All of a job's occurrences, or the kept: these have the putters that they need.
+    pub fn of(sheet: &Sheet, uses: &Uses, occurrences: u64) -> Precedence {
         let mut precedence = Precedence {
             len: 0,
             at: [0; MOST],
@@ -37,6 +40,9 @@ impl Precedence {
             precedence.at[precedence.len] = index as u8;
             precedence.rows[precedence.len] = row;
             precedence.len += 1;
+        }
+        if sheet.old.shared != 0 {
+            precedence.by_token(sheet, uses);
         }
         precedence
     }
@@ -60,6 +66,20 @@ impl Precedence {
         row
     }
 
+    /// The putter of each token that one takes from a shared place.
+    fn by_token(&mut self, sheet: &Sheet, uses: &Uses) {
+        let mut putters = [0; 64];
+        for (own, row) in self.rows[..self.len].iter_mut().enumerate() {
+            let index = usize::from(self.at[own]);
+            for place in members(uses.takes(sheet, index)) {
+                *row |= putters[place];
+            }
+            for place in members(uses.puts(sheet, index)) {
+                putters[place] = 1 << own;
+            }
+        }
+    }
+
     /// The last of them that writes the variable.
     pub fn last_writer(&self, variable: usize) -> Option<u8> {
         let last = self.writers[variable].checked_ilog2()?;
@@ -69,8 +89,8 @@ impl Precedence {
 
 /// The members of a mask, rising.
 #[inline(always)]
-pub fn members(mask: u32) -> impl Iterator<Item = usize> {
-    let mut left = mask;
+pub fn members(mask: impl Into<u64>) -> impl Iterator<Item = usize> {
+    let mut left: u64 = mask.into();
     std::iter::from_fn(move || {
         if left == 0 {
             return None;

@@ -27,6 +27,11 @@ impl Step {
     pub fn toggle(&self) -> u64 {
         self.ins ^ self.outs
     }
+
+    /// The places that firing fills: a token on a place both in and out stays the one it was.
+    pub fn puts(&self) -> u64 {
+        self.outs & !self.ins
+    }
 }
 
 pub struct Route {
@@ -40,6 +45,9 @@ pub struct Route {
     used: u64,
     pub variables: u32,
     written: u32,
+    /// The places that a step has among its in-places, and those that two or more have.
+    taken: u64,
+    pub shared: u64,
 }
 
 impl Route {
@@ -53,6 +61,8 @@ impl Route {
             used: 0,
             variables: 0,
             written: 0,
+            taken: 0,
+            shared: 0,
         }
     }
 
@@ -66,6 +76,8 @@ impl Route {
         self.used |= step.ins | step.outs;
         self.variables |= step.reads | step.writes;
         self.written |= step.writes;
+        self.shared |= self.taken & step.ins;
+        self.taken |= step.ins;
         true
     }
 

@@ -22,7 +22,7 @@ fn tried(bytes: &[u8], order: &[u8]) -> Result<u64, Refusal> {
     let mut uses = Uses::new();
     let kept = match job::way(&sheet, &mut uses)? {
         Way::Straight(end) if in_turn(order, uses.len) => return Ok(end),
-        Way::Straight(_) => job::kept(&uses, sheet.new.variables),
+        Way::Straight(_) => job::kept(&sheet, &uses),
         Way::Search(kept) => kept,
     };
     check_list(order, kept)?;
@@ -56,7 +56,7 @@ fn check_list(order: &[u8], kept: u64) -> Result<(), Refusal> {
 
 /// Rows 17 and 18 for each entry. Every kept occurrence is there once.
 fn fire_list(sheet: &Sheet, uses: &Uses, kept: u64, order: &[u8]) -> Result<u64, Refusal> {
-    let precedence = Precedence::of(uses, kept);
+    let precedence = Precedence::of(sheet, uses, kept);
     let (mut placed, mut marking) = (0, sheet.new.start);
     for (entry, at) in order.iter().zip(1..) {
         let position = usize::from(*entry) - 1;

@@ -13,7 +13,8 @@ use Rattle.job.specs.Lines.{places_fit, start_fits, step_fits, variable_list, pl
 use Rattle.job.specs.Lines.{step_rows, head_rows, route_rows, done_row, done_rows, line_rows, checked}
 use Rattle.running.specs.Run.{run_from, ran, performed}
 use Rattle.precedence.specs.Order.{in_turn}
-use Rattle.precedence.specs.Precedence.{clash, tied, comes_after, row}
+use Rattle.precedence.specs.Precedence.{clash, tied, puts_until, put_for, comes_after, row}
+use Rattle.occurrences.specs.Occurrences.{shared, occurrence, occurrences_of}
 use Rattle.slice.specs.Slice.{variables, keeps, sweep_step, sweep, kept_mask}
 use Rattle.search.specs.Search.{is_some, or_else, onwards, try_each, search}
 use Rattle.matching.specs.Straight.{same_mark, same_data, same_step, all_of, fire_all, steps_on, runs_straight}
@@ -41,6 +42,7 @@ use Rattle.examples.specs.LongNames.{long_names}
 use Rattle.examples.specs.Cuts.{cuts}
 use Rattle.examples.specs.Starts.{rounds, misplaced, wrong_places, empty_starts, starts}
 use Rattle.examples.specs.Unwritten.{nobody_writes, in_its_place, unwritten}
+use Rattle.examples.specs.Branches.{branches}
 
 -- The definitions on the way, a name for each stage: to open the name opens all on its line.
 
@@ -70,7 +72,8 @@ unfolding name_fits places_fit start_fits step_fits variable_list place_list lis
 the-run = tt
 
 unfoldable the-slice : Unit {0}
-unfolding in_turn clash tied comes_after row performed variables keeps sweep_step sweep kept_mask kept_of
+unfolding performed shared occurrence occurrences_of in_turn clash tied puts_until put_for comes_after row variables
+    keeps sweep_step sweep kept_mask kept_of
 the-slice = tt
 
 unfoldable the-judge : Unit {0}
@@ -133,3 +136,46 @@ in-its-place-print = (refl, (refl, (refl, (refl, (refl, (refl, (refl, (refl, (re
 
 pub unwritten-print : AllPrint unwritten
 unwritten-print = print-both nobody_writes in_its_place nobody-writes-print in-its-place-print
+
+pub branches-print : AllPrint branches
+unfolding codes bytes the-layout the_facts the-masks the-routes the-run the-slice the-judge the-listing
+branches-print = (
+  refl,
+  (
+    refl,
+    (
+      refl,
+      (
+        refl,
+        (
+          refl,
+          (
+            refl,
+            (
+              refl,
+              (
+                refl,
+                (
+                  refl,
+                  (
+                    refl,
+                    (
+                      refl,
+                      (
+                        refl,
+                        (
+                          refl,
+                          (refl, tt),
+                        ),
+                      ),
+                    ),
+                  ),
+                ),
+              ),
+            ),
+          ),
+        ),
+      ),
+    ),
+  ),
+)

@@ -20,7 +20,8 @@ use Rattle.job.specs.Lines.{places_fit, start_fits, step_fits, variable_list, pl
 use Rattle.job.specs.Lines.{step_rows, head_rows, route_rows, done_row, done_rows, line_rows, LinesPass, checked}
 use Rattle.running.specs.Run.{run_from, ran, performed}
 use Rattle.precedence.specs.Order.{in_turn}
-use Rattle.precedence.specs.Precedence.{clash, tied, comes_after, row}
+use Rattle.precedence.specs.Precedence.{clash, tied, puts_until, put_for, comes_after, row}
+use Rattle.occurrences.specs.Occurrences.{shared, occurrence, occurrences_of}
 use Rattle.slice.specs.Slice.{variables, keeps, sweep_step, sweep, kept_mask}
 use Rattle.search.specs.Search.{is_some}
 use Rattle.matching.specs.Straight.{same_mark, same_data, same_step, all_of, fire_all, steps_on, runs_straight}
@@ -76,9 +77,10 @@ longest-passes = refl
 pub longest-judged : length (listing (judged longest_job 8192)) ≡ 7053
 unfolding longest_job has members_from members collect count union names lookup can_fire fire if_fires unless first
     each_line net_row_at unwritten_rows open_row name_fits places_fit start_fits step_fits variable_list place_list
-    lists_fit among step_row step_rows head_rows route_rows done_row done_rows line_rows checked run_from ran in_turn
-    clash tied comes_after row performed is_some variables keeps sweep_step sweep kept_mask kept_of same_mark same_data
-    same_step all_of fire_all steps_on runs_straight kept_row kept_lines kept_rows padded last_writer after_of
-    writer_of answer judge_found judge_rows judged listing moved_text moved_line after_line after_lines order_line
-    marking_line value_line value_lines line over entry decimal digits
+    lists_fit among step_row step_rows head_rows route_rows done_row done_rows line_rows checked run_from ran
+    performed shared occurrence occurrences_of in_turn clash tied puts_until put_for comes_after row is_some variables
+    keeps sweep_step sweep kept_mask kept_of same_mark same_data same_step all_of fire_all steps_on runs_straight
+    kept_row kept_lines kept_rows padded last_writer after_of writer_of answer judge_found judge_rows judged listing
+    moved_text moved_line after_line after_lines order_line marking_line value_line value_lines line over entry
+    decimal digits
 longest-judged = refl

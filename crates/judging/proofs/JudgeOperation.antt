@@ -15,7 +15,8 @@ use Rattle.refusal.proofs.Answered.{number-some}
 use Rattle.route.specs.declared.Step.{Step}
 use Rattle.job.specs.Job.{Job, job_line, new_start}
 use Rattle.job.specs.Lines.{line_rows}
-use Rattle.running.specs.Run.{ran, performed}
+use Rattle.running.specs.Run.{ran}
+use Rattle.occurrences.specs.Occurrences.{occurrences_of}
 use Rattle.matching.specs.Straight.{runs_straight}
 use Rattle.matching.specs.Fit.{kept_of}
 use Rattle.matching.specs.KeptRows.{kept_rows, rows_to12}
@@ -43,7 +44,7 @@ rows-refused line from new l e = cond_no _ _ refl e
 
 module _ (j : Job) where
   abbrev done : List Step
-  done = performed j.old j.done
+  done = occurrences_of j
 
   abbrev kept : Outcome
   kept = kept_rows (job_line j) (new_start j) j.new done

@@ -5,7 +5,8 @@ use Rattle.std.proofs.Math.Option.{Option, none, some}
 use Rattle.mask.specs.Mask.{below}
 use Rattle.route.specs.declared.Step.{Step}
 use Rattle.job.specs.Job.{Job, job_line, new_start}
-use Rattle.running.specs.Run.{ran, performed}
+use Rattle.running.specs.Run.{ran}
+use Rattle.occurrences.specs.Occurrences.{occurrences_of}
 use Rattle.precedence.specs.Order.{in_turn}
 use Rattle.matching.specs.Straight.{runs_straight}
 use Rattle.matching.specs.Fit.{kept_of}
@@ -33,7 +34,7 @@ unfoldable pub judged : Job → ℕ → Judged
 judged j room =
     cond (leb 8192 room)
     (cond (eqb (ran j).number 0)
-    (judge_rows (job_line j) (new_start j) j.new (performed j.old j.done))
+    (judge_rows (job_line j) (new_start j) j.new (occurrences_of j))
     (judge_stopped (ran j).number (ran j).second))
     (judge_stopped 14 0)
 
@@ -42,8 +43,8 @@ unfoldable pub searched : Job → ℕ → Bool
 searched j room =
     leb 8192 room
     && (eqb (ran j).number 0
-    && (eqb (kept_rows (job_line j) (new_start j) j.new (performed j.old j.done)).number 0
-    && not (runs_straight (new_start j) j.new (performed j.old j.done))))
+    && (eqb (kept_rows (job_line j) (new_start j) j.new (occurrences_of j)).number 0
+    && not (runs_straight (new_start j) j.new (occurrences_of j))))
 
 -- "the first 8,192 bytes of the work slice are 0", or it is unchanged
 unfoldable pub work_after : Job → List ℕ → List ℕ

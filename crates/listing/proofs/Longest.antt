@@ -23,12 +23,13 @@ use Rattle.emit.proofs.Decimals.{entry_length}
 use Rattle.emit.proofs.Over.{over-map}
 use Rattle.route.specs.declared.Step.{Step}
 use Rattle.job.specs.Job.{Job, job_line, new_start}
-use Rattle.running.specs.Run.{ran, performed}
+use Rattle.running.specs.Run.{ran}
+use Rattle.occurrences.specs.Occurrences.{occurrences_of}
 use Rattle.running.proofs.RunLine.{ran-fits}
 use Rattle.slice.specs.Slice.{variables}
 use Rattle.precedence.specs.Precedence.{row, comes_after}
 use Rattle.precedence.specs.Order.{in_turn}
-use Rattle.running.proofs.Performed.{length-performed}
+use Rattle.occurrences.proofs.DoneOccurrences.{length-occurrences}
 use Rattle.precedence.proofs.InTurn.{get_or-map-in_turn}
 use Rattle.precedence.proofs.Rows.{row-exact, not_after}
 use Rattle.matching.specs.Straight.{fire_all, steps_on, runs_straight}
@@ -321,9 +322,9 @@ longest j room =
     (λ e. split (λ (t : Bool). length (listing (cond t (judge_rows (job_line j) (new_start j) j.new done)
     (judge_stopped (ran j).number (ran j).second))) ≤ 7053) (eqb (ran j).number 0)
     (λ r. rows_short (new_start j) j.new done (job_line j)
-    (omega (arith, length-performed j.old j.done, (ran-fits j (eqb-true (ran j).number 0 r)).done-fit)))
+    (omega (arith, length-occurrences j, (ran-fits j (eqb-true (ran j).number 0 r)).done-fit)))
     (λ r. stopped-short _ _))
     (λ e. stopped-short 14 0)
   where
     done : List Step
-    done = performed j.old j.done
+    done = occurrences_of j

@@ -6,7 +6,8 @@ use Rattle.refusal.specs.Rows.{refuse, unless, first}
 use Rattle.route.specs.declared.Step.{Step}
 use Rattle.refusal.specs.declared.Outcome.{Outcome}
 use Rattle.job.specs.Job.{Job, job_line, new_start}
-use Rattle.running.specs.Run.{ran, performed}
+use Rattle.running.specs.Run.{ran}
+use Rattle.occurrences.specs.Occurrences.{occurrences_of}
 use Rattle.search.specs.Search.{is_some}
 use Rattle.matching.specs.Straight.{same_step, runs_straight}
 use Rattle.matching.specs.Fit.{kept_of}
@@ -31,5 +32,5 @@ kept_rows line from new l =
 unfoldable pub rows_to12 : Job → Outcome
 rows_to12 j =
     cond (eqb (ran j).number 0)
-    (kept_rows (job_line j) (new_start j) j.new (performed j.old j.done))
+    (kept_rows (job_line j) (new_start j) j.new (occurrences_of j))
     (refuse (ran j).number (ran j).second)

@@ -1,4 +1,4 @@
--- Straight replay: the whole done list in its own order on the new route. `l` is the list of the steps done, `new` the
+-- Straight replay: the whole done list in its own order on the new route. `l` is the list of the occurrences, `new` the
 -- new route's steps, `from` the new start.
 use Rattle.std.specs.Prelude.{◌≡◌, Bool, true, false, not, cond, ◌&&◌, List, [], ◌∷◌, map, ℕ, eqb, length, get_or}
 use Rattle.std.proofs.Math.Option.{Option, none, some}

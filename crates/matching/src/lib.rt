@@ -8,7 +8,7 @@ pub mod rows;
 pub mod same;
 pub mod straight;
 
-// The steps done, and the new route's steps for them.
+// The occurrences, and the new route's steps for them.
 #[derive(Clone, Copy)]
 pub struct Pairs<'a> {
     pub occurrences: &'a [u64],

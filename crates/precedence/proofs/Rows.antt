@@ -14,23 +14,27 @@ use Rattle.mask.proofs.Laws.{has-collect, collect-none}
 use Rattle.mask.proofs.Truth.{or-fails}
 use Rattle.route.specs.Steps.{blank}
 use Rattle.route.specs.declared.Step.{Step}
-use Rattle.precedence.specs.Precedence.{clash, tied, comes_after, row}
+use Rattle.precedence.specs.Precedence.{clash, tied, puts_until, put_for, comes_after, row}
 
 -- a row of the table is exactly "comes after"
 pub row-exact : (l : List Step) (i j : ℕ) → has (row l i) j ≡ comes_after l i j
 unfolding row comes_after
-row-exact l i j = has-collect (comes_after l i) i j ∙ and_self_left (ltb j i) (tied (get_or l i blank) (get_or l j blank))
+row-exact l i j = has-collect (comes_after l i) i j
+    ∙ and_self_left (ltb j i) (tied (get_or l i blank) (get_or l j blank) || put_for l i j)
 
 -- past the last occurrence there is nothing to come after
 pub row-past : (l : List Step) (i : ℕ) → length l ≤ i → row l i ≡ 0
-unfolding row comes_after tied clash
+unfolding row comes_after tied clash put_for
 row-past l i h = collect-none (comes_after l i) i (λ j b.
-    ap (λ (s : Step). ltb j i && tied s (get_or l j blank)) (get_or-eq_default l blank h)
-    ∙ ap (λ (t : Bool). ltb j i && t) (quiet (get_or l j blank)) ∙ and-false (ltb j i))
+    ap (λ (s : Step). ltb j i && (tied s (get_or l j blank) || meets s.ins (puts_until l i j)))
+    (get_or-eq_default l blank h)
+    ∙ ap (λ (t : Bool). ltb j i && t) (quiet (get_or l j blank) (puts_until l i j)) ∙ and-false (ltb j i))
   where
-    quiet : (s : Step) → tied blank s ≡ false
-    quiet s = ap₂ (λ (a b : ℕ). (not (eqb a 0) || not (eqb b 0)) || false)
-        (and_zero_l (bit_or s.reads s.writes)) (and_zero_r s.writes)
+    quiet : (s : Step) (m : ℕ) → (tied blank s || meets 0 m) ≡ false
+    quiet s m = ap₂ (λ (t u : Bool). t || u)
+        (ap₂ (λ (a b : ℕ). (not (eqb a 0) || not (eqb b 0)) || false)
+        (and_zero_l (bit_or s.reads s.writes)) (and_zero_r s.writes))
+        (ap (λ (a : ℕ). not (eqb a 0)) (and_zero_l m))
 
 -- an occurrence comes after none that isn't earlier
 pub not_after : (l : List Step) (i j : ℕ) → i ≤ j → comes_after l i j ≡ false
@@ -63,9 +67,11 @@ apart l i j p q = go (ltb j i) (ltb i j) refl refl p q
       or-fails both-marked (clash (get_or l i blank) (get_or l j blank)) (or_comm both-marked _ ∙ e),
     )
 
-    go : (a b : Bool) → ltb j i ≡ a → ltb i j ≡ b → (a && tied (get_or l i blank) (get_or l j blank)) ≡ false
-        → (b && tied (get_or l j blank) (get_or l i blank)) ≡ false
+    go : (a b : Bool) → ltb j i ≡ a → ltb i j ≡ b
+        → (a && (tied (get_or l i blank) (get_or l j blank) || put_for l i j)) ≡ false
+        → (b && (tied (get_or l j blank) (get_or l i blank) || put_for l j i)) ≡ false
         → (i ≡ j) ⊎ ((clash (get_or l i blank) (get_or l j blank) ≡ false) × (both-marked ≡ false))
-    go true b d e p q = inr (free p)
-    go false true d e p q = inr (free (tied-comm (get_or l i blank) (get_or l j blank) ∙ q))
+    go true b d e p q = inr (free (or-fails (tied (get_or l i blank) (get_or l j blank)) (put_for l i j) p))
+    go false true d e p q = inr (free (tied-comm (get_or l i blank) (get_or l j blank)
+        ∙ or-fails (tied (get_or l j blank) (get_or l i blank)) (put_for l j i) q))
     go false false d e p q = inl (omega (arith, ltb-false j i d, ltb-false i j e))

@@ -1,19 +1,20 @@
-// The precedence table: by variable, the earlier writers and the earlier readers of each; and the earlier cuts.
+// The precedence table: by variable, the earlier writers and the earlier readers of each; the earlier cuts; by place,
+// the last putter.
 #![tactic(auto)]
 
 ghost use Rattle.std.specs.Prelude.{◌≡◌, cond, ℕ, ◌≤◌, length};
 ghost use Rattle.std.specs.Int.Bits.{bit_or};
 ghost use Rattle.flat.specs.Flat.{steps_in};
-ghost use Rattle.precedence.specs.inner.ByVariable.{ByVariable, meeting, Gathers, Joins};
+ghost use Rattle.precedence.specs.inner.ByItem.{ByItem, meeting, Gathers, Joins, Puts};
 ghost use Rattle.precedence.specs.Table.{table};
 
 use mask::Mask;
 
 // One more occurrence that writes the variables: the earlier readers and writers of these.
 fn after_writes(readers: &[u64; 32], writers: &mut [u64; 32], vars: u32, own: u64) -> u64
-    ensures by_index { (f g : ℕ → ℕ) (n : ℕ) → ByVariable f n readers.now
-        → ByVariable g n writers.old → result ≡ bit_or (meeting f vars n) (meeting g vars n) }
-    ensures joins { Joins writers.old vars own writers.new }
+    ensures by_index { (f g : ℕ → ℕ) (n : ℕ) → ByItem 32 f n readers.now
+        → ByItem 32 g n writers.old → result ≡ bit_or (meeting f vars n) (meeting g vars n) }
+    ensures joins { Joins 32 writers.old vars own writers.new }
 {
     let mut read = 0u64;
     let mut wrote = 0u64;
@@ -27,8 +28,8 @@ fn after_writes(readers: &[u64; 32], writers: &mut [u64; 32], vars: u32, own: u6
 
 // One more occurrence that reads the variables: the writers of these.
 fn after_reads(writers: &[u64; 32], readers: &mut [u64; 32], vars: u32, own: u64) -> u64
-    ensures gathers { Gathers writers.now vars result }
-    ensures joins { Joins readers.old vars own readers.new }
+    ensures gathers { Gathers 32 writers.now vars result }
+    ensures joins { Joins 32 readers.old vars own readers.new }
 {
     let mut wrote = 0u64;
     for v in vars.members() {
@@ -36,6 +37,21 @@ fn after_reads(writers: &[u64; 32], readers: &mut [u64; 32], vars: u32, own: u64
         readers[v] |= own;
     }
     wrote
+}
+
+// One more occurrence that took tokens from places and put tokens on places: the last putters of those that it took.
+fn after_takes(putters: &mut [u64; 64], taken: u64, put: u64, own: u64) -> u64
+    ensures gathers { Gathers 64 putters.old taken result }
+    ensures puts { Puts putters.old put own putters.new }
+{
+    let mut from = 0u64;
+    for p in taken.members() {
+        from |= putters[p];
+    }
+    for p in put.members() {
+        putters[p] = own;
+    }
+    from
 }
 
 // The mask where the step is marked, else the empty one.
@@ -55,6 +71,7 @@ pub fn table_of(occurrences: &[u64]) -> [u64; 64]
     let mut rows = [0u64; 64];
     let mut writers = [0u64; 32];
     let mut readers = [0u64; 32];
+    let mut putters = [0u64; 64];
     let mut cut = 0u64;
     for (i, s) in flat::steps(occurrences).enumerate() {
         let own = u64::bit(i);
@@ -62,7 +79,8 @@ pub fn table_of(occurrences: &[u64]) -> [u64; 64]
         let sources = after_reads(&writers, &mut readers, s.reads, own);
         let cuts = only(s.cloth, cut);
         cut |= only(s.cloth, own);
-        rows[i] = (users | sources | cuts) & (own - 1);
+        let from = after_takes(&mut putters, s.ins, s.outs, own);
+        rows[i] = (users | sources | cuts | from) & (own - 1);
     }
     rows
 }

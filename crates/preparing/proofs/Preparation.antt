@@ -1,7 +1,7 @@
 -- A job after the rows to 12, by whether the done list has run.
 use mathlib.Core.Path.{◌≡◌, refl, sym, ap, ◌∙◌}
 use mathlib.Core.Bool.{true}
-use mathlib.Core.List.{List}
+use mathlib.Core.List.{List, map}
 use Prim.Native.Nat.{ℕ, ◌≤◌, ◌<◌}
 use native.Mathlib.Omega.{arith}
 use lib.ListN.{length}
@@ -21,7 +21,10 @@ use Rattle.finding.specs.inner.Gathering.{Gathers}
 use Rattle.finding.specs.declared.Gathered.{Gathered}
 use Rattle.job.proofs.Rows.{pass_fits}
 use Rattle.running.proofs.AfterRun.{line-ends, run_ends, run-passes, run-answers}
-use Rattle.running.proofs.Performed.{length-performed}
+use Rattle.route.specs.Steps.{names}
+use Rattle.flat.specs.Flat.{Holds}
+use Rattle.occurrences.specs.Occurrences.{shared, occurrence, occurrences_of}
+use Rattle.occurrences.proofs.DoneOccurrences.{length-occurrences, names-occurrences, holds-narrowed}
 use Rattle.running.proofs.DoneNames.{performed-names}
 use Rattle.slice.specs.Slice.{variables}
 use Rattle.slice.proofs.Sweep.{kept-below}
@@ -37,13 +40,9 @@ use Rattle.preparing.specs.declared.Prepared.{Prepared}
 use Rattle.matching.proofs.Matched.{length-matched}
 
 module _ (j : Job) where
-  -- the steps done
-  abbrev pub done_steps : List Step
-  done_steps = performed j.old j.done
-
   -- rows 10 to 12 of the job
   abbrev pub job_rows : Outcome
-  job_rows = kept_rows (job_line j) (new_start j) j.new done_steps
+  job_rows = kept_rows (job_line j) (new_start j) j.new (occurrences_of j)
 
   -- a line is refused
   pub lines-refused : (e : Refusal) → refuse (number_of e.row) e.second ≡ first (line_rows j)
@@ -56,14 +55,19 @@ module _ (j : Job) where
   unfolding rows_to12
   run-refused e is = run_ends refuse job_rows j e is
 
-  matched-is : (ran j).number ≡ 0 → matched j.new done_steps ≡ performed j.new j.done
+  names-done : (ran j).number ≡ 0 → names (occurrences_of j) ≡ j.done
+  names-done runs = names-occurrences j ∙ performed-names j runs
+
+  matched-is : (ran j).number ≡ 0 → matched j.new (occurrences_of j) ≡ performed j.new j.done
   unfolding matched
-  matched-is runs = ap (performed j.new) (performed-names j runs)
+  matched-is runs = ap (performed j.new) (names-done runs)
 
   -- the done list has run; `line` is that of `(job)`
   module _
-      (g : Gathered) (is : fired_of (Ok g.begun.marking) ≡ ran j) (occurrences matches : List ℕ)
-      (gathers : Gathers j g occurrences matches) (lines : LinesPass j) where
+      (g : Gathered) (is : fired_of (Ok g.begun.marking) ≡ ran j) (steps occurrences matches : List ℕ)
+      (gathers : Gathers j g steps matches) (lines : LinesPass j)
+      (narrowed : (l : List Step) → length l ≡ length j.done → Holds l steps
+      → Holds (map (occurrence (shared j.old)) l) occurrences) where
     runs : (ran j).number ≡ 0
     runs = run-passes j _ is
 
@@ -71,7 +75,7 @@ module _ (j : Job) where
     gathers-filled =
         record {
           few = (pass_fits j lines).done-fit;
-          done-are = gathers.begins.done-are;
+          done-are = holds-narrowed j steps occurrences gathers.begins.done-are narrowed;
           matches-are = gathers.matches-are;
         }
 
@@ -80,7 +84,7 @@ module _ (j : Job) where
       matches-of =
           rw pairs.done-are
           (record {
-            named = rw (performed-names j runs) (pass_fits j lines).done-names;
+            named = rw (names-done runs) (pass_fits j lines).done-names;
             steps-are = pairs.matches-are ∙ sym (matched-is runs);
           })
 
@@ -115,19 +119,19 @@ module _ (j : Job) where
         in
         ap (λ (o : Outcome). o.number) (sym runs.1 ∙ sym rows)
 
-    pub steps-few : length done_steps ≤ 64
-    steps-few = omega (arith, length-performed j.old j.done, is.filled.few)
+    pub steps-few : length (occurrences_of j) ≤ 64
+    steps-few = omega (arith, length-occurrences j, is.filled.few)
 
-    pub kept-has : (i : ℕ) → has p.kept i ≡ true → has (kept_of j.new done_steps) i ≡ true
+    pub kept-has : (i : ℕ) → has p.kept i ≡ true → has (kept_of j.new (occurrences_of j)) i ≡ true
     kept-has i h = ap (λ (n : ℕ). has n i) (sym is.weighed.kept-is) ∙ h
 
-    pub kept-done : (i : ℕ) → has p.kept i ≡ true → i < length done_steps
+    pub kept-done : (i : ℕ) → has p.kept i ≡ true → i < length (occurrences_of j)
     unfolding kept_of
-    kept-done i h = kept-below done_steps (variables j.new) i (kept-has i h)
+    kept-done i h = kept-below (occurrences_of j) (variables j.new) i (kept-has i h)
 
     module _ (x : Pairs) (pairs : PairsOf j x) where
-      pub pairs-matched : matched_in x ≡ matched j.new done_steps
+      pub pairs-matched : matched_in x ≡ matched j.new (occurrences_of j)
       pairs-matched = pairs.matches-are ∙ sym (matched-is is.ran-passes)
 
       pub kept-matched : (i : ℕ) → has p.kept i ≡ true → i < length (matched_in x)
-      kept-matched i h = rw pairs-matched (omega (arith, length-matched j.new done_steps, kept-done i h))
+      kept-matched i h = rw pairs-matched (omega (arith, length-matched j.new (occurrences_of j), kept-done i h))

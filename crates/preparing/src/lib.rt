@@ -19,6 +19,7 @@ use matching::Pairs;
 use matching::rows::kept_rows;
 use matching::same::same_mask;
 use matching::straight::straight_end;
+use occurrences::narrow;
 use refusal::Refusal;
 use route::Marking;
 use slice::sweeping::keep;
@@ -57,7 +58,7 @@ fn weigh(new: &[u64], pairs: Pairs, start: Marking, line: u64) -> Result<Prepare
     })
 }
 
-// The lists' beginnings, which are both routes' steps for the done names.
+// The lists' beginnings, which are the occurrences and the new route's steps for them.
 pub fn pairs_of<'a>(job: FlatJob, occurrences: &'a [u64], matches: &'a [u64]) -> Pairs<'a>
     requires in_bounds { (256 ≤ length occurrences.now) × (256 ≤ length matches.now) }
     requires filled { Filled (job_in job) occurrences.now matches.now }
@@ -70,7 +71,7 @@ pub fn pairs_of<'a>(job: FlatJob, occurrences: &'a [u64], matches: &'a [u64]) ->
     }
 }
 
-// The steps done and the new route's steps for them go into the lent lists.
+// The occurrences and the new route's steps for them go into the lent lists.
 pub fn prepare(
     job: FlatJob,
     occurrences: &mut [u64],
@@ -84,6 +85,7 @@ pub fn prepare(
 {
     let line = job_line(job);
     let g = gather(job, occurrences, matches)?;
+    narrow(job.old, job.done.len(), occurrences);
     let b = g.begun;
     let pairs = pairs_of(job, occurrences, matches);
     weigh(job.new, pairs, b.start, line)

@@ -1,5 +1,5 @@
-// Prints the slices and tables of 01's examples and of a looped job: a line with the number, the second number and the
-// kept occurrences as a mask, then a line for each row of the table that isn't empty.
+// Prints the slices and tables of 01's examples, of looped jobs and of jobs with a silent test: a line with the number,
+// the second number and the kept occurrences as a mask, then a line for each row of the table that isn't empty.
 #![tactic(auto)]
 
 use job::laying::RouteJob;
@@ -49,6 +49,18 @@ fn show_loops(rt: &impl Print) -> io::Result<()> {
     say_same(rt, b"a step that writes nothing", silent, &[10, 20, 20])
 }
 
+// A test that writes nothing is kept where two branches begin behind it, though one alone was taken; else dropped.
+fn show_branch(rt: &impl Print) -> io::Result<()> {
+    let done = &[10, 20, 410];
+    let choice = step(10, 1, 2, 0, 1);
+    let test = step(20, 2, 4, 1, 0);
+    let racing = step(410, 4, 8, 1, 4);
+    let two = &route_of(4, 1, [choice, test, racing, step(420, 4, 8, 1, 4)]);
+    say_same(rt, b"a silent test, two branches behind it", two, done)?;
+    let one = &route_of(4, 1, [choice, test, racing]);
+    say_same(rt, b"a silent test, one way on", one, done)
+}
+
 fn main(rt: HostRuntime) -> io::Result<()> {
     say(&rt, b"A", letters::a().job())?;
     say(&rt, b"D", letters::d().job())?;
@@ -57,6 +69,7 @@ fn main(rt: HostRuntime) -> io::Result<()> {
     say(&rt, b"F", letters::f().job())?;
     say(&rt, b"K", letters::k().job())?;
     show_loops(&rt)?;
+    show_branch(&rt)?;
     say(&rt, b"twice round", letters::round().job())?;
     say(&rt, b"refused", letters::h().job())
 }

@@ -1,25 +1,28 @@
 -- The sweep finds exactly what 01 and 02 keep. Sound: the last writer of a live item is kept, since by going on to the
 -- end one comes to a kept reader of that item or, at the end, to the new route. Complete: what the new route or a kept
 -- occurrence reads stays live back to its last writer.
-use mathlib.Core.Path.{◌≡◌, sym, ◌∙◌}
+use mathlib.Core.Path.{◌≡◌, refl, sym, ap, ◌∙◌}
 use mathlib.Core.Logic.{◌↔◌, ⊎_elim}
-use mathlib.Core.Bool.{true, false}
+use mathlib.Core.Bool.{Bool, true, false}
 use mathlib.Core.List.{List}
 use Prim.Native.Nat.{ℕ, zero, suc, ◌+◌, ◌-◌, ◌≤◌, ◌<◌}
 use native.Mathlib.Omega.{arith}
 use native.Mathlib.Decide.{dec_lt}
-use lib.ListN.{length}
+use lib.ListN.{length, get_or}
 use Rattle.mask.specs.Mask.{has}
+use Rattle.mask.proofs.Laws.{has-zero}
+use Rattle.route.specs.Steps.{blank}
 use Rattle.route.specs.declared.Step.{Step}
-use Rattle.slice.specs.Slice.{Item, variable, writes_at, LastWriter, Kept, final, cut, needed, kept_mask}
-use Rattle.slice.proofs.Sweep.{live_at, written_below, live_end, live-stays, live-read, live-cases, kept_writer}
-use Rattle.slice.proofs.Sweep.{cut-kept, kept-cases}
+use Rattle.slice.specs.Slice.{Item, variable, token, makes, reads_at, writes_at, cuts_at, LastWriter}
+use Rattle.slice.specs.Slice.{Kept, final, cut, needed, kept_mask}
+use Rattle.slice.proofs.Sweep.{live_at, written_below, live_end, none-taken, live-stays, live-read, live-cases}
+use Rattle.slice.proofs.Sweep.{kept_writer, cut-kept, kept-cases}
 
 -- a writer is the last one before the next position, and stays the last one where the next position does not write
 own-last : (l : List Step) (i : ℕ) (x : Item) → writes_at l i x ≡ true → LastWriter l (suc i) x i
 own-last l i x w = record { earlier = omega arith; writer = w; last = λ k a b. absurd (omega arith) }
 
-still-last : (l : List Step) (i : ℕ) (x : Item) (j : ℕ) → writes_at l i x ≡ false → LastWriter l i x j
+pub still-last : (l : List Step) (i : ℕ) (x : Item) (j : ℕ) → writes_at l i x ≡ false → LastWriter l i x j
     → LastWriter l (suc i) x j
 still-last l i x j w p = record { earlier = omega arith; writer = p.writer; last = λ k a b. go k a b (dec_lt k i) }
   where
@@ -37,6 +40,8 @@ module _ (l : List Step) (vars : ℕ) where
         writer = p.writer;
         last = λ k a b. p.last k a (omega arith);
       })
+  live-source zero i (token q) j end h p =
+      absurd (let z : false ≡ true = sym (none-taken l vars i q (omega arith)) ∙ h in cc)
   live-source (suc n) i x j end h p =
       ⊎_elim
       (λ s. live-source n (suc i) x j (omega arith) s.0 (still-last l i x j s.1 p))
@@ -73,3 +78,26 @@ module _ (l : List Step) (vars : ℕ) where
 
 pub kept-iff : (l : List Step) (vars i : ℕ) → (has (kept_mask l vars) i ≡ true) ↔ Kept l vars i
 kept-iff l vars i = (kept-sound l vars i, kept-complete l vars i)
+
+-- an unmarked occurrence that writes nothing, and puts no token that a kept one took, is never kept
+pub silent-not-kept : (l : List Step) (vars i : ℕ) → cuts_at l i ≡ false → (get_or l i blank).writes ≡ 0
+    → ((k p : ℕ) → has (kept_mask l vars) k ≡ true → reads_at l k (token p) ≡ true → LastWriter l k (token p) i → ⊥)
+    → has (kept_mask l vars) i ≡ false
+unfolding writes_at makes
+silent-not-kept l vars i unmarked silent none = go (has (kept_mask l vars) i) refl
+  where
+    unwritten : (v : ℕ) → writes_at l i (variable v) ≡ true → ⊥
+    unwritten v w = let z : false ≡ true = sym (has-zero v) ∙ ap (λ (m : ℕ). has m v) (sym silent) ∙ w in cc
+
+    needless : (k : ℕ) → Kept l vars k → (x : Item) → reads_at l k x ≡ true → LastWriter l k x i → ⊥
+    needless k r (variable v) a p = unwritten v p.writer
+    needless k r (token q) a p = none k q (kept-complete l vars k r) a p
+
+    why : Kept l vars i → ⊥
+    why (final v h p) = unwritten v p.writer
+    why (cut h) = let z : false ≡ true = sym unmarked ∙ h in cc
+    why (needed {i = k} r n) = needless k r n.item n.reader n.source
+
+    go : (t : Bool) → has (kept_mask l vars) i ≡ t → t ≡ false
+    go true h = absurd (why (kept-sound l vars i h))
+    go false h = refl

@@ -3,7 +3,7 @@
 -- this one need.
 use mathlib.Core.Path.{◌≡◌, refl, sym, ap, ap₂, ◌∙◌}
 use mathlib.Core.Logic.{◌⊎◌, inl, inr, ⊎_elim}
-use mathlib.Core.Bool.{Bool, true, false, not, cond, ◌&&◌, ◌||◌, or-false, or-true, or_comm, and-true, and-false}
+use mathlib.Core.Bool.{Bool, true, false, not, cond, ◌&&◌, ◌||◌, or-false, or-true, and-true, and-false}
 use mathlib.Core.List.{List, [], ◌∷◌}
 use Prim.Native.Nat.{ℕ, zero, suc, ◌≤◌, ◌<◌}
 use native.Mathlib.Omega.{arith}
@@ -15,11 +15,11 @@ use lib.Bits.{bit_or}
 use borrow.Author.Tests.{eq-eqb, ne_eqb}
 use Rattle.mask.specs.Mask.{has, bit, without, meets}
 use Rattle.mask.proofs.Laws.{has-or, has-without, has-bit, has-zero, meets-some, meets-none}
-use Rattle.mask.proofs.Truth.{both, or-fails}
+use Rattle.mask.proofs.Truth.{both}
 use Rattle.route.specs.Steps.{blank}
 use Rattle.route.specs.declared.Step.{Step}
-use Rattle.slice.specs.Slice.{Item, variable, wants, makes, reads_at, writes_at, cuts_at, Sweep, keeps, sweep_step}
-use Rattle.slice.specs.Slice.{sweep, kept_mask}
+use Rattle.slice.specs.Slice.{Item, variable, token, wants, makes, reads_at, writes_at, cuts_at, Sweep, keeps}
+use Rattle.slice.specs.Slice.{sweep_step, sweep, kept_mask}
 
 -- the sweep from position i on
 abbrev pub sweep_from : List Step → ℕ → ℕ → Sweep
@@ -28,6 +28,7 @@ sweep_from l vars i = sweep vars i (drop i l)
 -- an item is live
 is_live : Sweep → Item → Bool
 is_live w (variable v) = has w.live v
+is_live w (token p) = has w.tokens p
 
 -- an item is live before position i
 pub live_at : List Step → ℕ → ℕ → Item → Bool
@@ -40,6 +41,7 @@ blank-past l i h = get_or-eq_default l blank h
 blank-makes : (x : Item) → makes blank x ≡ false
 unfolding makes
 blank-makes (variable v) = has-zero v
+blank-makes (token p) = has-zero p
 
 -- what a blank step doesn't have, only occurrences have
 below : (P : Step → Bool) → P blank ≡ false → (l : List Step) (i : ℕ) → P (get_or l i blank) ≡ true → i < length l
@@ -59,7 +61,8 @@ cut_below : (l : List Step) (i : ℕ) → cuts_at l i ≡ true → i < length l
 unfolding cuts_at
 cut_below l i w = below (λ s. s.cloth) refl l i w
 
-pub sweep-end : (l : List Step) (vars i : ℕ) → length l ≤ i → sweep_from l vars i ≡ record { live = vars; kept = 0 }
+pub sweep-end : (l : List Step) (vars i : ℕ) → length l ≤ i
+    → sweep_from l vars i ≡ record { live = vars; tokens = 0; kept = 0 }
 unfolding sweep
 sweep-end l vars i h = ap (λ (k : List Step). sweep vars i k) (drop_of_length-le l h)
 
@@ -80,7 +83,12 @@ sweep-on l vars i = go (dec_lt i (length l))
 
 -- what a kept step makes of the sweep
 abbrev taken : ℕ → Step → Sweep → Sweep
-taken i s w = record { live = bit_or (without w.live s.writes) s.reads; kept = bit_or w.kept (bit i) }
+taken i s w =
+    record {
+      live = bit_or (without w.live s.writes) s.reads;
+      tokens = bit_or (without w.tokens s.outs) s.ins;
+      kept = bit_or w.kept (bit i);
+    }
 
 -- one step of the sweep: the kept, and the live
 kept_step : (i k : ℕ) (s : Step) (w : Sweep) → has (sweep_step i s w).kept k
@@ -92,11 +100,20 @@ kept_step i k s w = go (keeps s w)
     go true = has-or w.kept (bit i) k ∙ ap (λ (t : Bool). has w.kept k || t) (has-bit i k)
     go false = sym (or-false (has w.kept k))
 
--- what is not kept writes nothing that is live, so what writes something live is kept
+-- what is not kept makes nothing that is live, so what makes something live is kept
 spares : (s : Step) (w : Sweep) (x : Item) → keeps s w ≡ false → (makes s x && is_live w x) ≡ false
 unfolding keeps makes is_live
-spares s w (variable v) e = meets-none s.writes w.live
-    (or-fails (meets s.writes w.live) s.cloth (or_comm (meets s.writes w.live) s.cloth ∙ e)) v
+spares s w x e = of x (none s.cloth (meets s.writes w.live) (meets s.outs w.tokens) e)
+  where
+    none : (c m n : Bool) → (c || (m || n)) ≡ false → (m ≡ false) × (n ≡ false)
+    none false false n e = (refl, e)
+    none false true n e = cc
+    none true m n e = cc
+
+    of : (x : Item) → (meets s.writes w.live ≡ false) × (meets s.outs w.tokens ≡ false)
+        → (makes s x && is_live w x) ≡ false
+    of (variable v) h = meets-none s.writes w.live h.0 v
+    of (token p) h = meets-none s.outs w.tokens h.1 p
 
 kept_for : (s : Step) (w : Sweep) (x : Item) → makes s x ≡ true → is_live w x ≡ true → keeps s w ≡ true
 kept_for s w x m h = go (keeps s w) refl
@@ -109,12 +126,13 @@ kept_for s w x m h = go (keeps s w) refl
 why : (s : Step) (w : Sweep) → keeps s w ≡ true
     → (s.cloth ≡ true) ⊎ ((x : Item) × (makes s x ≡ true) × (is_live w x ≡ true))
 unfolding keeps makes is_live
-why s w e = go s.cloth e
+why s w e = go s.cloth (meets s.writes w.live) refl e
   where
-    go : (c : Bool) → (c || meets s.writes w.live) ≡ true
+    go : (c m : Bool) → meets s.writes w.live ≡ m → (c || (m || meets s.outs w.tokens)) ≡ true
         → (c ≡ true) ⊎ ((x : Item) × (makes s x ≡ true) × (is_live w x ≡ true))
-    go true e = inl refl
-    go false e = let (v, a, b) = meets-some s.writes w.live e in inr (variable v, a, b)
+    go true m h e = inl refl
+    go false true h e = let (v, a, b) = meets-some s.writes w.live h in inr (variable v, a, b)
+    go false false h e = let (p, a, b) = meets-some s.outs w.tokens e in inr (token p, a, b)
 
 live-step : (i : ℕ) (x : Item) (s : Step) (w : Sweep) → is_live (sweep_step i s w) x
     ≡ (is_live w x && not (makes s x) || (keeps s w && wants s x))
@@ -131,6 +149,9 @@ live-step i x s w = go (keeps s w) refl
     kept (variable v) = unfold makes wants is_live in
         has-or (without w.live s.writes) s.reads v
         ∙ ap (λ (t : Bool). t || has s.reads v) (has-without w.live s.writes v)
+    kept (token p) = unfold makes wants is_live in
+        has-or (without w.tokens s.outs) s.ins p
+        ∙ ap (λ (t : Bool). t || has s.ins p) (has-without w.tokens s.outs p)
 
     go : (t : Bool) → keeps s w ≡ t
         → is_live (cond t (taken i s w) w) x ≡ (is_live w x && not (makes s x) || (t && wants s x))
@@ -176,8 +197,8 @@ module _ (l : List Step) (vars : ℕ) where
       (none_before (drop (suc i) l) vars (suc i) i (omega arith)) (eq-eqb i i refl)
       ∙ and-true (keeps (get_or l i blank) (sweep_from l vars (suc i)))
 
-  -- an item is live before an occurrence when it is live after it and not written there, or when the occurrence is kept
-  -- and reads it
+  -- an item is live before an occurrence when it is live after it and not made there, or when the occurrence is kept
+  -- and wants it
   pub live_on : (i : ℕ) (x : Item) → live_at l vars i x
       ≡ (live_at l vars (suc i) x && not (writes_at l i x) || (has (kept_mask l vars) i && reads_at l i x))
   unfolding live_at reads_at writes_at
@@ -186,10 +207,14 @@ module _ (l : List Step) (vars : ℕ) where
       ∙ live-step i x (get_or l i blank) (sweep_from l vars (suc i))
       ∙ ap (λ (t : Bool). live_at l vars (suc i) x && not (writes_at l i x) || (t && reads_at l i x)) (sym (kept-is i))
 
-  -- at the end the new route's variables are live
+  -- at the end the new route's variables are live, and no token
   pub live_end : (i v : ℕ) → length l ≤ i → live_at l vars i (variable v) ≡ has vars v
   unfolding live_at is_live
   live_end i v h = ap (λ (w : Sweep). has w.live v) (sweep-end l vars i h)
+
+  pub none-taken : (i p : ℕ) → length l ≤ i → live_at l vars i (token p) ≡ false
+  unfolding live_at is_live
+  none-taken i p h = ap (λ (w : Sweep). has w.tokens p) (sweep-end l vars i h) ∙ has-zero p
 
   pub live-stays : (i : ℕ) (x : Item) → live_at l vars (suc i) x ≡ true → writes_at l i x ≡ false
       → live_at l vars i x ≡ true
@@ -225,12 +250,6 @@ module _ (l : List Step) (vars : ℕ) where
       → (cuts_at l i ≡ true) ⊎ ((x : Item) × (writes_at l i x ≡ true) × (live_at l vars (suc i) x ≡ true))
   unfolding writes_at cuts_at live_at
   kept-cases i h = why (get_or l i blank) (sweep_from l vars (suc i)) (sym (kept-is i) ∙ h)
-
--- an unmarked occurrence that writes nothing is never kept
-pub silent-not-kept : (l : List Step) (vars i : ℕ) → cuts_at l i ≡ false → (get_or l i blank).writes ≡ 0
-    → has (kept_mask l vars) i ≡ false
-unfolding cuts_at keeps
-silent-not-kept l vars i u h = kept-is l vars i ∙ rw (u, h)
 
 -- only occurrences are kept
 pub kept-below : (l : List Step) (vars i : ℕ) → has (kept_mask l vars) i ≡ true → i < length l

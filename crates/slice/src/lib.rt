@@ -1,4 +1,4 @@
-// The slice: what is kept of the steps done.
+// The slice: which occurrences are kept.
 #![tactic(auto)]
 
 pub mod sweeping;

@@ -3,7 +3,8 @@ use Rattle.std.specs.Prelude.{cond, ℕ, eqb, replicate, Result, Ok, Err}
 use Rattle.refusal.specs.Refusal.{number_of}
 use Rattle.refusal.specs.declared.Refusal.{Refusal}
 use Rattle.job.specs.Job.{Job}
-use Rattle.running.specs.Run.{ran, performed}
+use Rattle.running.specs.Run.{ran}
+use Rattle.occurrences.specs.Occurrences.{occurrences_of}
 use Rattle.precedence.specs.Table.{table}
 use Rattle.slice.specs.Slice.{variables, kept_mask}
 use Rattle.slicing.specs.declared.Sliced.{Sliced}
@@ -25,7 +26,7 @@ sliced j =
     (record {
       number = 0;
       second = 0;
-      kept = kept_mask (performed j.old j.done) (variables j.new);
-      table = table (performed j.old j.done);
+      kept = kept_mask (occurrences_of j) (variables j.new);
+      table = table (occurrences_of j);
     })
     (sliced_stopped (ran j).number (ran j).second)

@@ -8,6 +8,7 @@ ghost use Rattle.slicing.specs.Slicing.{sliced, sliced_of};
 use job::FlatJob;
 use job::checks::check_lines;
 use job::laying::Lay;
+use occurrences::narrow;
 use precedence::table_of;
 use refusal::Refusal;
 use running::lists::begin;
@@ -61,6 +62,7 @@ pub fn slice_lists(job: FlatJob) -> Result<Slicing, Refusal>
     check_lines(job)?;
     let mut occurrences = [0u64; 256];
     begin(job, &mut occurrences)?;
+    narrow(job.old, job.done.len(), &mut occurrences);
     let end = 4 * job.done.len();
     let kept = keep(&occurrences[..end], variables_of(job.new));
     let table = table_of(&occurrences[..end]);

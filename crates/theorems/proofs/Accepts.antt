@@ -23,7 +23,8 @@ use Rattle.order_entries.specs.Entries.{list_row, try_from, try_entries}
 use Rattle.route.specs.Firing.{stopped, reached}
 use Rattle.trying.specs.Try.{same_list, try_list, try_rows, tried}
 use Rattle.route.specs.declared.Fired.{Fired}
-use Rattle.theorems.specs.Demand3.{Runs, steps_done, positions, FitFor}
+use Rattle.occurrences.specs.Occurrences.{occurrences_of}
+use Rattle.theorems.specs.Demand3.{Runs, positions, FitFor}
 use Rattle.refusal.proofs.Rows.{cond-zero, cond-zero-elim}
 use Rattle.theorems.proofs.Runs.{steps-short}
 use Rattle.precedence.proofs.Times.{each_once-has}
@@ -156,15 +157,15 @@ module _ (from : ℕ) (new l : List Step) (o : List ℕ) where
 
 module _ (j : Job) (ok : Runs j) (o : List ℕ) where
   rest : Fired
-  rest = try_rows (job_line j) (new_start j) j.new (steps_done j) o
+  rest = try_rows (job_line j) (new_start j) j.new (occurrences_of j) o
 
   tried-rest : tried j o ≡ rest
   unfolding tried rest
   tried-rest = cond-zero (ran j).number rest (stopped (ran j).number (ran j).second) ok
 
-  taken : (tried j o).number ≡ 0 → Taken (new_start j) j.new (steps_done j) o (tried j o)
+  taken : (tried j o).number ≡ 0 → Taken (new_start j) j.new (occurrences_of j) o (tried j o)
   unfolding rest
-  taken e = rw tried-rest (try-taken (new_start j) j.new (steps_done j) o (steps-short j ok) (job_line j)
+  taken e = rw tried-rest (try-taken (new_start j) j.new (occurrences_of j) o (steps-short j ok) (job_line j)
       (rw tried-rest at e))
 
   pub try-fit : ((tried j o).number ≡ 0) ↔ FitFor j o
@@ -172,12 +173,12 @@ module _ (j : Job) (ok : Runs j) (o : List ℕ) where
   try-fit = (
     λ e. (taken e).fits,
     λ f. rw tried-rest
-        (taken-try (new_start j) j.new (steps_done j) o (steps-short j ok) (job_line j) f),
+        (taken-try (new_start j) j.new (occurrences_of j) o (steps-short j ok) (job_line j) f),
   )
 
   pub try-second : (tried j o).number ≡ 0 → (tried j o).second ≡ 0
   try-second e = (taken e).second
 
   pub try-marking : (tried j o).number ≡ 0
-      → fire_all j.new (new_start j) (steps_on (steps_done j) (positions o)) ≡ some (tried j o).marking.tokens
+      → fire_all j.new (new_start j) (steps_on (occurrences_of j) (positions o)) ≡ some (tried j o).marking.tokens
   try-marking e = (taken e).fires

@@ -13,7 +13,8 @@ use Rattle.precedence.specs.Order.{times}
 use Rattle.matching.specs.Straight.{fire_all, steps_on}
 use Rattle.trying.specs.Try.{tried}
 use Rattle.judging.specs.Judge.{judged}
-use Rattle.theorems.specs.Demand3.{Runs, steps_done, name_at, positions, Accepted, FitFor, ordered, Own, Demand3}
+use Rattle.occurrences.specs.Occurrences.{occurrences_of}
+use Rattle.theorems.specs.Demand3.{Runs, name_at, positions, Accepted, FitFor, ordered, Own, Demand3}
 use Rattle.theorems.proofs.Runs.{done-named}
 use Rattle.theorems.proofs.Accepts.{try-fit, try-second, try-marking}
 use Rattle.theorems.proofs.Judge.{judge-given, judge-marking}
@@ -27,7 +28,7 @@ accepted-fit j o ok = (
 )
 
 -- the names of a list's steps are those of its occurrences
-names-on : (j : Job) (ok : Runs j) (p : List ℕ) → names (steps_on (steps_done j) p) ≡ map (name_at j) p
+names-on : (j : Job) (ok : Runs j) (p : List ℕ) → names (steps_on (occurrences_of j) p) ≡ map (name_at j) p
 unfolding names steps_on
 names-on j ok [] = refl
 names-on j ok (i ∷ p) = ap₂ (λ (n : ℕ) (l : List ℕ). n ∷ l) (done-named j ok i) (names-on j ok p)
@@ -38,9 +39,9 @@ same-places : (j j' : Job) (o o' : List ℕ) → j.new_places ≡ j'.new_places 
     → (tried j o).marking.tokens ≡ (tried j' o').marking.tokens
 same-places j j' o o' places new ok ok' a a' c =
     same-marking j.new (new_start j) (tried j o).marking.tokens (tried j' o').marking.tokens
-    (steps_on (steps_done j) (positions o)) (steps_on (steps_done j') (positions o'))
+    (steps_on (occurrences_of j) (positions o)) (steps_on (occurrences_of j') (positions o'))
     (try-marking j ok o a.0)
-    (ap₂ (λ (p : Places) (s : List Step). fire_all s p.start (steps_on (steps_done j') (positions o'))) places new
+    (ap₂ (λ (p : Places) (s : List Step). fire_all s p.start (steps_on (occurrences_of j') (positions o'))) places new
     ∙ try-marking j' ok' o' a'.0)
     (λ n. ap (times n) (names-on j ok (positions o)) ∙ c n ∙ sym (ap (times n) (names-on j' ok' (positions o'))))
 

@@ -27,11 +27,13 @@ use Rattle.answering.specs.Answer.{padded, judge_stopped, answer}
 use Rattle.candidates.specs.FirstFit.{first_fit}
 use Rattle.judging.specs.Judge.{judge_found, judge_rows, judged}
 use Rattle.answering.specs.declared.Judged.{Judged}
-use Rattle.theorems.specs.Demand3.{Runs, steps_done, positions, FitFor, ordered}
+use Rattle.occurrences.specs.Occurrences.{occurrences_of}
+use Rattle.theorems.specs.Demand3.{Runs, positions, FitFor, ordered}
 use Rattle.theorems.specs.Given.{Given}
 use Rattle.refusal.proofs.Rows.{cond-zero}
 use Rattle.precedence.proofs.InTurn.{length-in_turn}
-use Rattle.theorems.proofs.Runs.{done-length, steps-short}
+use Rattle.theorems.proofs.Runs.{steps-short}
+use Rattle.occurrences.proofs.DoneOccurrences.{length-occurrences}
 use Rattle.mask.proofs.Count.{count_most}
 use Rattle.precedence.proofs.EachOnce.{length-each_once}
 use Rattle.theorems.proofs.Dictionary.{not_after-suc, not_after-antisym}
@@ -166,12 +168,12 @@ module _ (from : ℕ) (new l : List Step) where
 
 -- 01 leaves no choice of what to give
 pub given-one : (j : Job) (o q : List ℕ) → Given j o → Given j q → o ≡ q
-given-one j o q a b = split (λ _. o ≡ q) (runs_straight (new_start j) j.new (steps_done j))
+given-one j o q a b = split (λ _. o ≡ q) (runs_straight (new_start j) j.new (occurrences_of j))
     (λ s. a.straight s ∙ sym (b.straight s)) (λ s. not_after-antisym (a.first s q b.fit) (b.first s o a.fit))
 
 module _ (j : Job) (room : ℕ) (ok : Runs j) where
   abbrev rows : Judged
-  rows = judge_rows (job_line j) (new_start j) j.new (steps_done j)
+  rows = judge_rows (job_line j) (new_start j) j.new (occurrences_of j)
 
   judged-rows : 8192 ≤ room → judged j room ≡ rows
   unfolding judged
@@ -190,10 +192,10 @@ module _ (j : Job) (room : ℕ) (ok : Runs j) where
       go true h e = leb-true 8192 room h
       go false h e = absurd (omega arith)
 
-  pub gives : (judged j room).number ≡ 0 → Gives (new_start j) j.new (steps_done j) (judged j room)
+  pub gives : (judged j room).number ≡ 0 → Gives (new_start j) j.new (occurrences_of j) (judged j room)
   gives e =
       let is = judged-rows (roomy e) in
-      rw is (rows-give (new_start j) j.new (steps_done j) (steps-short j ok) (job_line j) (rw is at e))
+      rw is (rows-give (new_start j) j.new (occurrences_of j) (steps-short j ok) (job_line j) (rw is at e))
 
   pub judge-second : (judged j room).number ≡ 0 → (judged j room).second ≡ 0
   unfolding answer
@@ -204,30 +206,30 @@ module _ (j : Job) (room : ℕ) (ok : Runs j) where
       let g = gives e in
       record {
         fit = record { positions = g.list; numbered = g.order; fits = g.fits };
-        straight = λ s. g.order ∙ ap (map suc) (g.straight s ∙ ap (in_turn 0) (done-length j));
+        straight = λ s. g.order ∙ ap (map suc) (g.straight s ∙ ap (in_turn 0) (length-occurrences j));
         first = λ s q f. rw (g.order, f.numbered) (not_after-suc (g.least s f.positions f.fits));
       }
 
   pub judge-marking : (judged j room).number ≡ 0
-      → fire_all j.new (new_start j) (steps_on (steps_done j) (positions (ordered j room)))
+      → fire_all j.new (new_start j) (steps_on (occurrences_of j) (positions (ordered j room)))
       ≡ some (judged j room).marking.tokens
   judge-marking e =
       let g = gives e in
-      ap (λ (p : List ℕ). fire_all j.new (new_start j) (steps_on (steps_done j) p))
+      ap (λ (p : List ℕ). fire_all j.new (new_start j) (steps_on (occurrences_of j) p))
       (ap positions g.order ∙ positions-suc g.list) ∙ g.marking
 
   module _ (h : 8192 ≤ room) where
     pub judge-moves : ((judged j room).number ≡ 0) ↔ ((o : List ℕ) × FitFor j o)
     judge-moves = (
       λ e. (ordered j room, (judge-given e).fit),
-      λ f. rw (judged-rows h) (rows-find (new_start j) j.new (steps_done j) (steps-short j ok) (job_line j)
+      λ f. rw (judged-rows h) (rows-find (new_start j) j.new (occurrences_of j) (steps-short j ok) (job_line j)
           f.1.positions f.1.fits),
     )
 
     pub judge-refuses : ((judged j room).number ≡ 13) ↔
-        ((kept_rows (job_line j) (new_start j) j.new (steps_done j)).number ≡ 0) × ((o : List ℕ) → FitFor j o → ⊥)
+        ((kept_rows (job_line j) (new_start j) j.new (occurrences_of j)).number ≡ 0) × ((o : List ℕ) → FitFor j o → ⊥)
     judge-refuses =
-        let e = rows_none (new_start j) j.new (steps_done j) (steps-short j ok) (job_line j) in (
+        let e = rows_none (new_start j) j.new (occurrences_of j) (steps-short j ok) (job_line j) in (
           λ n. let (k, no-fit) = e.0 (rw (judged-rows h) at n) in (k, λ o f. no-fit f.positions f.fits),
           λ r. rw (judged-rows h) (e.1 (
             r.0,

@@ -64,7 +64,7 @@ some-from v i (s ∷ l) j e = go (eqb later 0) (has s.writes v) refl refl e (som
     go true false p h e ih = absurd (omega arith)
     go false w p h e ih = let (d, a, r) = ih e in (suc d, omega arith, onwards d r)
 
-one_last : (l : List Step) (n : ℕ) (x : Item) (i j : ℕ) → LastWriter l n x i → LastWriter l n x j → i ≡ j
+pub one_last : (l : List Step) (n : ℕ) (x : Item) (i j : ℕ) → LastWriter l n x i → LastWriter l n x j → i ≡ j
 one_last l n x i j a b = go (dec_lt i j) (dec_lt j i)
   where
     go : Dec (i < j) → Dec (j < i) → i ≡ j

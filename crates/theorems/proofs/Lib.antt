@@ -3,6 +3,7 @@
 pub mod Perform
 pub mod Drop
 pub mod Entries
+pub mod LastPut
 pub mod ComesAfter
 pub mod Insertion
 pub mod Reorder
@@ -11,6 +12,7 @@ pub mod MembersOrder
 pub mod KeptValues
 pub mod Replayed
 pub mod Fires
+pub mod NarrowedReplay
 pub mod Runs
 pub mod FitList
 pub mod Dictionary
@@ -27,6 +29,7 @@ pub mod Markings
 pub mod AcceptedReplay
 pub mod Demand3
 pub mod LastWriter
+pub mod Holders
 pub mod Shown
 pub mod Printed
 pub mod RoundTrip

@@ -1,7 +1,8 @@
 -- The whole promise on one page, in 01's order: the sheet, its bytes both ways, the start lines, the converter and the
--- longer names of 02, its look-up, slice and precedence with 02's cloth, fit orders, what judge gives and its listing
--- shows, readings that nobody writes, the shelf of 02, and demand 3. Each is proved in the file that its name is cited
--- from. Code meets it through the contracts, which are equalities with the definitions that these theorems speak of.
+-- longer names of 02, its look-up, slice and precedence with 02's cloth and branches, fit orders, what judge gives and
+-- its listing shows, readings that nobody writes, the shelf of 02, and demand 3. Each is proved in the file that its
+-- name is cited from. Code meets it through the contracts, which are equalities with the definitions that these
+-- theorems speak of.
 use mathlib.Core.Path.{◌≡◌, refl}
 use mathlib.Core.Logic.{◌↔◌, ◌⊎◌}
 use mathlib.Core.Bool.{true, false, not, ◌&&◌}
@@ -27,16 +28,18 @@ use Rattle.lookup.specs.Follows.{Follows}
 use Rattle.lookup.proofs.Around.{count-below, count-above, count-nowhere}
 use Rattle.lookup.proofs.Unique.{looked-found, found-lookup, missed-lookup}
 use Rattle.lookup.proofs.Totals.{looked-next, total-round, total-follows, total-least, total-most}
-use Rattle.running.specs.Run.{ran}
+use Rattle.running.specs.Run.{ran, performed}
+use Rattle.occurrences.specs.Occurrences.{shared, occurrences_of}
+use Rattle.occurrences.proofs.SharedPlaces.{shared-iff}
 use Rattle.slicing.specs.Slicing.{sliced}
 use Rattle.finding.specs.Comparisons.{comparisons}
-use Rattle.slice.specs.Slice.{Kept, cuts_at, kept_mask}
+use Rattle.slice.specs.Slice.{token, LastWriter, Kept, reads_at, writes_at, cuts_at, kept_mask}
 use Rattle.precedence.specs.Precedence.{clash, comes_after, row}
 use Rattle.precedence.specs.Order.{in_turn, EachOnce, in_order}
-use Rattle.slice.proofs.Closure.{kept-iff}
+use Rattle.slice.proofs.Closure.{kept-iff, silent-not-kept}
 use Rattle.precedence.proofs.Rows.{row-exact}
-use Rattle.slice.proofs.Sweep.{cut-kept, silent-not-kept}
-use Rattle.matching.specs.Straight.{fire_all, steps_on}
+use Rattle.slice.proofs.Sweep.{cut-kept}
+use Rattle.matching.specs.Straight.{fire_all, steps_on, runs_straight}
 use Rattle.matching.specs.KeptRows.{kept_rows}
 use Rattle.trying.specs.Try.{tried}
 use Rattle.judging.specs.Judge.{judged, work_after}
@@ -82,11 +85,12 @@ use Rattle.examples.specs.LongNames.{long_names}
 use Rattle.examples.specs.Cuts.{cuts}
 use Rattle.examples.specs.Starts.{starts}
 use Rattle.examples.specs.Unwritten.{unwritten}
+use Rattle.examples.specs.Branches.{branches}
 use Rattle.examples.specs.Converted.{AllRaised, scope_letters, LRefused, AllLowered, lowerings}
 use Rattle.examples.proofs.Converted.{letters-raised, l-refused, all-lowered}
-use Rattle.examples.proofs.Examples.{examples, long-names, cuts-print, starts-print, unwritten-print}
+use Rattle.examples.proofs.Examples.{examples, long-names, cuts-print, starts-print, unwritten-print, branches-print}
 use Rattle.theorems.specs.Values.{Work, all_blank, perform_all, cut_all}
-use Rattle.theorems.specs.Demand3.{Runs, steps_done, positions, Accepted, FitFor, ordered, moved, whole_job}
+use Rattle.theorems.specs.Demand3.{Runs, positions, Accepted, FitFor, ordered, moved, whole_job}
 use Rattle.theorems.specs.Demand3.{Demand3}
 use Rattle.theorems.specs.Given.{Given}
 use Rattle.theorems.specs.Sheets.{job_on, SheetRuns, Movable, Moved, Refused, BeginsWith}
@@ -95,7 +99,11 @@ use Rattle.theorems.specs.RoundTrip.{bytes_written, WritesBytes, counts_read, jo
 use Rattle.theorems.specs.Editions.{Eight, UnusedBlank, Later, Meets, AllMeet}
 use Rattle.theorems.specs.Unwritten.{RefusedBy23, SheetRefusedBy23, PutRefusedBy23, Is23}
 use Rattle.theorems.proofs.KeptValues.{kept-values, kept-cuts}
+use Rattle.theorems.specs.Holders.{nothing, from_start, put_by, fills, held, marking_before}
 use Rattle.theorems.proofs.ComesAfter.{comes_after-iff, cut-after}
+use Rattle.theorems.proofs.Holders.{occurrence-takes, occurrence-puts, putter-iff, start-iff, nothing-iff}
+use Rattle.theorems.proofs.Holders.{needs-its-putter}
+use Rattle.theorems.proofs.NarrowedReplay.{straight-unaltered}
 use Rattle.theorems.proofs.Accepts.{try-fit, try-second, try-marking}
 use Rattle.theorems.proofs.Judge.{judge-moves, judge-second, judge-given, judge-marking, judge-refuses}
 use Rattle.theorems.proofs.Judge.{given-one}
@@ -406,8 +414,10 @@ kept-is-the-closure = kept-iff
 pub every-cut-is-kept : (l : List Step) (vars i : ℕ) → cuts_at l i ≡ true → has (kept_mask l vars) i ≡ true
 every-cut-is-kept = cut-kept
 
--- "An occurrence that writes nothing is never kept", which "holds for unmarked ones only"
+-- "An occurrence that writes nothing is never kept", which "holds for unmarked ones only", and for those that put no
+-- token that a kept one took from a shared place
 pub silent-is-not-kept : (l : List Step) (vars i : ℕ) → cuts_at l i ≡ false → (get_or l i blank).writes ≡ 0
+    → ((k p : ℕ) → has (kept_mask l vars) k ≡ true → reads_at l k (token p) ≡ true → LastWriter l k (token p) i → ⊥)
     → has (kept_mask l vars) i ≡ false
 silent-is-not-kept = silent-not-kept
 
@@ -415,11 +425,14 @@ silent-is-not-kept = silent-not-kept
 pub table-is-precedence : (l : List Step) (i j : ℕ) → has (row l i) j ≡ comes_after l i j
 table-is-precedence = row-exact
 
--- an earlier one is in a row exactly when they clash or both cut cloth: "of two cloth occurrences the later comes after
--- the earlier"
+-- an earlier one is in a row exactly when they clash, both cut cloth, "of two cloth occurrences the later comes after
+-- the earlier", or it put a token that the later took from a shared place
 pub comes-after-exactly : (l : List Step) (i j : ℕ)
     → (comes_after l i j ≡ true)
-    ↔ (j < i) × ((clash (get_or l i blank) (get_or l j blank) ≡ true) ⊎ ((cuts_at l i ≡ true) × (cuts_at l j ≡ true)))
+    ↔ (j < i)
+    × ((clash (get_or l i blank) (get_or l j blank) ≡ true)
+    ⊎ (((cuts_at l i ≡ true) × (cuts_at l j ≡ true))
+    ⊎ ((p : ℕ) × (reads_at l i (token p) ≡ true) × LastWriter l i (token p) j)))
 comes-after-exactly = comes_after-iff
 
 pub the-later-cut-comes-after : (l : List Step) (i j : ℕ) → j < i → cuts_at l i ≡ true → cuts_at l j ≡ true
@@ -442,6 +455,61 @@ kept-carry-the-cloth = kept-cuts
 pub every-cut : AllPrint cuts
 every-cut = cuts-print
 
+-- ---- 02, "Branches taken": "Where an occurrence took a token from a place that two or more steps of the old route
+-- take from, it needs the occurrence that put the token there, and comes after it."
+
+pub shared-is-where-two-take : (p : ℕ) (l : List Step)
+    → (has (shared l) p ≡ true)
+    ↔ ((i : ℕ) × (k : ℕ) × ((i < k) × (k < length l))
+    × ((has (get_or l i blank).ins p ≡ true) × (has (get_or l k blank).ins p ≡ true)))
+shared-is-where-two-take = shared-iff
+
+-- "To take from a place is to have it among the in-places"; what is both in and out isn't put
+pub an-occurrence-takes-from : (j : Job) (i p : ℕ)
+    → reads_at (occurrences_of j) i (token p)
+    ≡ (has (get_or (performed j.old j.done) i blank).ins p && has (shared j.old) p)
+an-occurrence-takes-from = occurrence-takes
+
+pub an-occurrence-puts-on : (j : Job) (i p : ℕ)
+    → writes_at (occurrences_of j) i (token p)
+    ≡ (fills (get_or (performed j.old j.done) i blank) p && has (shared j.old) p)
+an-occurrence-puts-on = occurrence-puts
+
+-- of a job that runs, the last earlier one that puts on the place is "the occurrence that put the token there": that of
+-- a run whose places carry who filled them. "Start tokens have none"
+pub the-last-putter-put-the-token : (j : Job) → Runs j → (i p : ℕ) → i < length j.done
+    → reads_at (occurrences_of j) i (token p) ≡ true → (k : ℕ)
+    → LastWriter (occurrences_of j) i (token p) k ↔ (held j i p ≡ put_by k)
+the-last-putter-put-the-token = putter-iff
+
+pub start-tokens-have-none : (j : Job) → Runs j → (i p : ℕ) → i < length j.done
+    → reads_at (occurrences_of j) i (token p) ≡ true
+    → ((k : ℕ) → LastWriter (occurrences_of j) i (token p) k → ⊥) ↔ (held j i p ≡ from_start)
+start-tokens-have-none = start-iff
+
+-- (that run's places are free exactly where 01's marking has no token)
+pub places-are-free-where-no-token-is : (j : Job) (i p : ℕ)
+    → (has (marking_before j i) p ≡ false) ↔ (held j i p ≡ nothing)
+places-are-free-where-no-token-is = nothing-iff
+
+-- so who took a token from a shared place comes after the occurrence that put it there, which is kept with it, "even if
+-- it writes nothing"
+pub an-occurrence-needs-its-putter : (j : Job) → Runs j → (i p k : ℕ) → i < length j.done
+    → has (get_or (performed j.old j.done) i blank).ins p ≡ true → has (shared j.old) p ≡ true → held j i p ≡ put_by k
+    → (comes_after (occurrences_of j) i k ≡ true)
+    × ((vars : ℕ) → has (kept_mask (occurrences_of j) vars) i ≡ true → has (kept_mask (occurrences_of j) vars) k ≡ true)
+an-occurrence-needs-its-putter = needs-its-putter
+
+-- "straight replay is unaltered": it is that of the steps done
+pub straight-replay-is-unaltered : (j : Job)
+    → runs_straight (new_start j) j.new (occurrences_of j) ≡ runs_straight (new_start j) j.new (performed j.old j.done)
+straight-replay-is-unaltered = straight-unaltered
+
+-- a branch behind its test against routes that have the test and that lack it; one step that takes, and two; a step
+-- with the place both in and out; start tokens, loops, and pairs that are free: such sheets from bytes to bytes
+pub every-branch : AllPrint branches
+every-branch = branches-print
+
 -- ---- "Accepted: try answers it with 0, 0."
 
 -- try answers 0, 0 exactly when the list is fit, and gives the marking at the end of its firing
@@ -452,7 +520,7 @@ pub try-accepts-with-0 : (j : Job) → Runs j → (o : List ℕ) → (tried j o)
 try-accepts-with-0 = try-second
 
 pub try-gives-the-end : (j : Job) → Runs j → (o : List ℕ) → (tried j o).number ≡ 0
-    → fire_all j.new (new_start j) (steps_on (steps_done j) (positions o)) ≡ some (tried j o).marking.tokens
+    → fire_all j.new (new_start j) (steps_on (occurrences_of j) (positions o)) ≡ some (tried j o).marking.tokens
 try-gives-the-end = try-marking
 
 -- "the C form of try" takes sheet bytes, and accepts exactly the fit orders of the sheet's job
@@ -469,7 +537,7 @@ pub judge-moves-where-one-fits : (j : Job) (room : ℕ) → Runs j → 8192 ≤ 
 judge-moves-where-one-fits = judge-moves
 
 pub judge-refuses-where-none-fits : (j : Job) (room : ℕ) → Runs j → 8192 ≤ room
-    → ((judged j room).number ≡ 13) ↔ ((kept_rows (job_line j) (new_start j) j.new (steps_done j)).number ≡ 0)
+    → ((judged j room).number ≡ 13) ↔ ((kept_rows (job_line j) (new_start j) j.new (occurrences_of j)).number ≡ 0)
     × ((o : List ℕ) → FitFor j o → ⊥)
 judge-refuses-where-none-fits = judge-refuses
 
@@ -484,7 +552,7 @@ judge-gives-the-only = given-one
 
 -- with the marking at the end of its firing
 pub judge-gives-the-end : (j : Job) (room : ℕ) → Runs j → (judged j room).number ≡ 0
-    → fire_all j.new (new_start j) (steps_on (steps_done j) (positions (ordered j room)))
+    → fire_all j.new (new_start j) (steps_on (occurrences_of j) (positions (ordered j room)))
     ≡ some (judged j room).marking.tokens
 judge-gives-the-end = judge-marking
 
@@ -707,5 +775,5 @@ accepted-orders-cut-as-the-whole-job j o ok a T f = (demand3.values j o ok a T f
 
 -- these are all occurrences of the done list that cut cloth, in its own order
 pub accepted-orders-cut-in-turn : (j : Job) (o : List ℕ) → Runs j → Accepted j o → (T : Type 0) (f : Work T)
-    → (moved f j o).cut ≡ cut_all (λ i. get_or (steps_done j) i blank) (in_turn 0 (length j.done))
+    → (moved f j o).cut ≡ cut_all (λ i. get_or (occurrences_of j) i blank) (in_turn 0 (length j.done))
 accepted-orders-cut-in-turn j o ok a T f = moved-cuts j ok o a.0 f

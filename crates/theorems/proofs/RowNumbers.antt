@@ -21,7 +21,8 @@ use Rattle.opening.specs.Unwritten.{reads_written, unwritten_rows}
 use Rattle.version.specs.Limits.{present}
 use Rattle.job.specs.Job.{Job, after_steps, new_line, job_line, old_start, new_start}
 use Rattle.job.specs.Lines.{step_row, step_rows, head_rows, route_rows, done_row, done_rows, line_rows, checked}
-use Rattle.running.specs.Run.{run_from, ran, performed}
+use Rattle.running.specs.Run.{run_from, ran}
+use Rattle.occurrences.specs.Occurrences.{occurrences_of}
 use Rattle.precedence.specs.Precedence.{comes_after}
 use Rattle.precedence.specs.Order.{none_of, in_turn}
 use Rattle.matching.specs.Straight.{fire_all, runs_straight}
@@ -233,10 +234,10 @@ unfolding judged
 judged-most j room = go (leb 8192 room)
   where
     rows : Judged
-    rows = judge_rows (job_line j) (new_start j) j.new (performed j.old j.done)
+    rows = judge_rows (job_line j) (new_start j) j.new (occurrences_of j)
 
     go : (t : Bool) → Most (cond t (cond (eqb (ran j).number 0) rows (judge_stopped (ran j).number (ran j).second))
         (judge_stopped 14 0)).number
     go true = past-number Most (λ (r : Judged). r.number) (ran j).number _ _
-        (omega (arith, judge-below (job_line j) (new_start j) j.new (performed j.old j.done))) (ran-most j)
+        (omega (arith, judge-below (job_line j) (new_start j) j.new (occurrences_of j))) (ran-most j)
     go false = omega arith

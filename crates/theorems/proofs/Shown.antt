@@ -27,9 +27,11 @@ use Rattle.matching.specs.Fit.{kept_of}
 use Rattle.answering.specs.Answer.{last_writer, after_of, writer_of, answer}
 use Rattle.judging.specs.Judge.{judged}
 use Rattle.answering.specs.declared.Judged.{Judged}
-use Rattle.theorems.specs.Demand3.{Runs, steps_done}
+use Rattle.occurrences.specs.Occurrences.{occurrences_of}
+use Rattle.theorems.specs.Demand3.{Runs}
 use Rattle.theorems.specs.Shows.{Shows}
-use Rattle.theorems.proofs.Runs.{done-length, steps-short}
+use Rattle.theorems.proofs.Runs.{steps-short}
+use Rattle.occurrences.proofs.DoneOccurrences.{length-occurrences}
 use Rattle.theorems.proofs.KeptRows.{kept-short}
 use Rattle.theorems.proofs.Judge.{Gives, gives, judge-given, judge-marking}
 use Rattle.theorems.proofs.LastWriter.{last_writer-elim, last_writer-none-elim, last_writer-intro}
@@ -118,7 +120,7 @@ module _ (new l : List Step) where
 
 module _ (j : Job) (room : ℕ) (ok : Runs j) (moves : (judged j room).number ≡ 0) where
   abbrev l : List Step
-  l = steps_done j
+  l = occurrences_of j
 
   abbrev given : Gives (new_start j) j.new l (judged j room)
   given = gives j room ok moves
@@ -140,7 +142,7 @@ module _ (j : Job) (room : ℕ) (ok : Runs j) (moves : (judged j room).number �
   unfolding answer kept_of
   judge-shows =
       let is = given.is in
-      let long = done-length j in
+      let long = length-occurrences j in
       record {
         all = λ s i.
             let e = ap (λ (m : ℕ). has m i) (kept-is ∙ given.all s) ∙ has-below (length l) i in

@@ -3,7 +3,7 @@
 -- step's writes, and the first step that fails it tells the line.
 use mathlib.Core.Path.{◌≡◌, refl, sym, ap, ◌∙◌}
 use mathlib.Core.Logic.{◌↔◌, ◌⊎◌, inl, inr}
-use mathlib.Core.Bool.{Bool, true, false, not, ◌||◌}
+use mathlib.Core.Bool.{Bool, true, false, not}
 use mathlib.Core.List.{List, [], ◌∷◌, ◌++◌}
 use Prim.Native.Nat.{ℕ, zero, suc, ◌+◌, ◌<◌}
 use native.Mathlib.Omega.{arith}
@@ -11,7 +11,7 @@ use lib.Dec.{eqb}
 use lib.ListN.{length, get_or}
 use borrow.Author.Tests.{eqb-true, eqb-false, eq-eqb, not-true}
 use Rattle.mask.specs.Mask.{has, without}
-use Rattle.mask.proofs.Laws.{has-zero, has-or, has-without, within_all, member_of}
+use Rattle.mask.proofs.Laws.{has-without, within_all, member_of}
 use Rattle.mask.proofs.Sets.{without-none}
 use Rattle.mask.proofs.Truth.{both, split}
 use Rattle.refusal.specs.Rows.{refuse, first, AllPass, each_line}
@@ -22,6 +22,7 @@ use Rattle.route.specs.Steps.{blank, steps_of, union}
 use Rattle.route.specs.declared.Places.{Places}
 use Rattle.route.specs.declared.Route.{Route}
 use Rattle.route.specs.declared.Step.{Step}
+use Rattle.occurrences.proofs.Union.{union-iff}
 use Rattle.opening.specs.Unwritten.{reads_written, unwritten_rows}
 use Rattle.opening.specs.Net.{net_row, open_row}
 use Rattle.job.specs.Job.{Job, new_line}
@@ -37,52 +38,30 @@ writes s = s.writes
 
 -- ---- what is written is what some step writes
 
-union-written : (l : List Step) (v : ℕ) → has (union writes l) v ≡ true → Written l v
-unfolding union
-union-written [] v e = absurd (let z : false ≡ true = sym (has-zero v) ∙ e in cc)
-union-written (s ∷ l) v e =
-    go (has s.writes v) refl (sym (has-or s.writes (union writes l) v) ∙ e) (union-written l v)
-  where
-    go : (t : Bool) → has s.writes v ≡ t → (t || has (union writes l) v) ≡ true
-        → (has (union writes l) v ≡ true → Written l v) → Written (s ∷ l) v
-    go true own h ih = (0, omega arith, own)
-    go false own h ih = let (k, inside, is) = ih h in (suc k, omega (arith, inside), is)
-
-written-union : (l : List Step) (v k : ℕ) → k < length l → has (get_or l k blank).writes v ≡ true
-    → has (union writes l) v ≡ true
-unfolding union
-written-union [] v k h e = absurd (omega (arith, h))
-written-union (s ∷ l) v zero h e =
-    has-or s.writes (union writes l) v ∙ ap (λ (t : Bool). t || has (union writes l) v) e
-written-union (s ∷ l) v (suc k) h e =
-    has-or s.writes (union writes l) v
-    ∙ ap (λ (t : Bool). has s.writes v || t) (written-union l v k (omega (arith, h)) e)
-    ∙ or-true (has s.writes v)
-  where
-    or-true : (t : Bool) → (t || true) ≡ true
-    or-true true = refl
-    or-true false = refl
+in-union : (l : List Step) (v : ℕ) → (has (union writes l) v ≡ true) ↔ Written l v
+in-union l v = union-iff writes v l
 
 -- a step fails the test exactly where it reads a variable that no step writes
 test-fails : (l : List Step) (s : Step)
     → (reads_written l s ≡ false) ↔ ((v : ℕ) × (has s.reads v ≡ true) × (Written l v → ⊥))
 test-fails l s = (to, from)
   where
-    write : (v : ℕ) → Written l v → has (union writes l) v ≡ true
-    write v (k, inside, is) = written-union l v k inside is
-
     to : reads_written l s ≡ false → (v : ℕ) × (has s.reads v ≡ true) × (Written l v → ⊥)
     to e =
         let (v, is) = member_of (without s.reads (union writes l))
         (eqb-false _ 0 (without-none s.reads (union writes l) ∙ e)) in
         let (read, off) = both (has s.reads v) (not (has (union writes l) v))
-        (sym (has-without s.reads (union writes l) v) ∙ is) in
-        (v, read, λ w. absurd (let z : true ≡ false = sym (write v w) ∙ not-true (has (union writes l) v) off in cc))
+        (sym (has-without s.reads (union writes l) v) ∙ is) in (
+          v,
+          read,
+          λ w. absurd (let z : true ≡ false = sym ((in-union l v).1 w)
+              ∙ not-true (has (union writes l) v) off in cc),
+        )
 
     from : (v : ℕ) × (has s.reads v ≡ true) × (Written l v → ⊥) → reads_written l s ≡ false
     from (v, read, none) =
         split (λ (t : Bool). t ≡ false) (reads_written l s)
-        (λ e. absurd (none (union-written l v (within_all s.reads (union writes l) e v read)))) (λ e. refl)
+        (λ e. absurd (none ((in-union l v).0 (within_all s.reads (union writes l) e v read)))) (λ e. refl)
 
 -- ---- the first line that fails a test
 

@@ -19,7 +19,8 @@ use Rattle.route.specs.declared.Route.{Route}
 use Rattle.route.specs.declared.Step.{Step}
 use Rattle.job.specs.Job.{Job, job_of, job_line, old_start, new_start}
 use Rattle.job.specs.Lines.{line_rows, checked}
-use Rattle.running.specs.Run.{ran, run_from, performed}
+use Rattle.running.specs.Run.{ran, run_from}
+use Rattle.occurrences.specs.Occurrences.{occurrences_of}
 use Rattle.finding.specs.Comparisons.{comparisons, compared_stopped}
 use Rattle.finding.specs.declared.Compared.{Compared}
 use Rattle.slicing.specs.Slicing.{sliced, sliced_stopped}
@@ -146,7 +147,7 @@ module _ (j : Job) (at : ℕ) where
   try-23 o =
       chain
       (refused-23 (λ (t : Fired). t.number) (λ (t : Fired). t.second) stopped (λ n k. (refl, refl)) _
-      (ran j).number (ran j).second at (try-below (job_line j) (new_start j) j.new (performed j.old j.done) o))
+      (ran j).number (ran j).second at (try-below (job_line j) (new_start j) j.new (occurrences_of j) o))
       run-23
 
   pub judge-23 : (room : ℕ) → 8192 ≤ room → Is23 (judged j room).number (judged j room).second at ↔ RefusedBy23 j at
@@ -154,7 +155,7 @@ module _ (j : Job) (at : ℕ) where
   judge-23 room h =
       rw (le-leb 8192 room h) (chain
       (refused-23 (λ (t : Judged). t.number) (λ (t : Judged). t.second) judge_stopped (λ n k. (refl, refl)) _
-      (ran j).number (ran j).second at (judge-below (job_line j) (new_start j) j.new (performed j.old j.done)))
+      (ran j).number (ran j).second at (judge-below (job_line j) (new_start j) j.new (occurrences_of j)))
       run-23)
 
 -- ---- sheets

@@ -6,7 +6,8 @@ use Rattle.route.specs.Firing.{fire_next}
 use Rattle.route.specs.Steps.{lookup}
 use Rattle.route.specs.declared.Step.{Step}
 use Rattle.job.specs.Job.{Job, old_start, new_start}
-use Rattle.running.specs.Run.{ran, performed}
+use Rattle.running.specs.Run.{ran}
+use Rattle.occurrences.specs.Occurrences.{occurrences_of}
 use Rattle.slice.specs.Slice.{variables}
 use Rattle.precedence.specs.Order.{in_turn, times}
 use Rattle.matching.specs.Fit.{Fit}
@@ -17,10 +18,6 @@ use Rattle.theorems.specs.Values.{Work, End, replay}
 -- "In demand 3 such a job is one that no row to 9 refuses"
 abbrev pub Runs : Job → Type 0
 Runs j = (ran j).number ≡ 0
-
--- the steps done, one for each occurrence
-abbrev pub steps_done : Job → List Step
-steps_done j = performed j.old j.done
 
 -- the name of the occurrence at a position
 abbrev pub name_at : Job → ℕ → ℕ
@@ -36,7 +33,7 @@ Accepted j o = ((tried j o).number ≡ 0) × ((tried j o).second ≡ 0)
 
 -- an order is fit for a job
 abbrev pub FitFor : Job → List ℕ → Type 0
-FitFor j o = Fit (new_start j) j.new (steps_done j) o
+FitFor j o = Fit (new_start j) j.new (occurrences_of j) o
 
 -- the order that judge gives; `room` is the length of the work slice
 abbrev pub ordered : Job → ℕ → List ℕ

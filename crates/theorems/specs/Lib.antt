@@ -8,3 +8,4 @@ pub mod RoundTrip
 pub mod Editions
 pub mod BetweenEditions
 pub mod Unwritten
+pub mod Holders

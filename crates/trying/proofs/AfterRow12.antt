@@ -8,7 +8,8 @@ use Rattle.route.specs.declared.Step.{Step}
 use Rattle.job.specs.Job.{Job, job_line, new_start}
 use Rattle.preparing.specs.inner.Preparing.{PairsOf, PreparedOf}
 use Rattle.preparing.specs.declared.Prepared.{Prepared}
-use Rattle.preparing.proofs.Preparation.{done_steps, prepared-rows, steps-few, kept-has, kept-done}
+use Rattle.occurrences.specs.Occurrences.{occurrences_of}
+use Rattle.preparing.proofs.Preparation.{prepared-rows, steps-few, kept-has, kept-done}
 use Rattle.preparing.proofs.Preparation.{pairs-matched}
 use Rattle.matching.specs.KeptRows.{rows_to12}
 use Rattle.matching.specs.inner.Pairs.{done_in, matched_in}
@@ -21,7 +22,7 @@ use Rattle.trying.proofs.TryRows.{tried-list}
 
 module _ (j : Job) (p : Prepared) (rows : pass ≡ rows_to12 j) (occurrences matches : List ℕ)
     (is : PreparedOf j p occurrences matches) (x : Pairs) (pairs : PairsOf j x) where
-  try-prepared : TryPrepared (new_start j) j.new (done_steps j) p (matched_in x)
+  try-prepared : TryPrepared (new_start j) j.new (occurrences_of j) p (matched_in x)
   try-prepared =
       record {
         start_is = is.weighed.start_is;
@@ -31,7 +32,7 @@ module _ (j : Job) (p : Prepared) (rows : pass ≡ rows_to12 j) (occurrences mat
               kept-is = is.weighed.kept-is;
               matches-are = pairs-matched j p rows occurrences matches is x pairs;
               all_same = λ i h.
-                  kept_same (job_line j) (new_start j) j.new (done_steps j)
+                  kept_same (job_line j) (new_start j) j.new (occurrences_of j)
                   (prepared-rows j p rows occurrences matches is) i
                   (omega (
                     arith,

@@ -16,7 +16,8 @@ use Rattle.route.specs.declared.Marking.{Marking}
 use Rattle.refusal.specs.declared.Outcome.{Outcome}
 use Rattle.job.specs.Job.{Job, cut, job_line, new_start}
 use Rattle.job.specs.Lines.{line_rows}
-use Rattle.running.specs.Run.{ran, performed}
+use Rattle.running.specs.Run.{ran}
+use Rattle.occurrences.specs.Occurrences.{occurrences_of}
 use Rattle.job.proofs.LongLists.{Refused, laid-alike}
 use Rattle.running.proofs.LongLists.{ran-alike, ran-off}
 use Rattle.precedence.specs.Order.{in_turn}
@@ -85,10 +86,10 @@ module _ (l : List Step) (p : Prepared) (matches : List Step) (o : List ℕ) (n 
 
 module _ (j : Job) (o : List ℕ) where
   abbrev list : Fired
-  list = try_list (new_start j) j.new (performed j.old j.done) o
+  list = try_list (new_start j) j.new (occurrences_of j) o
 
   abbrev kept_outcome : Outcome
-  kept_outcome = kept_rows (job_line j) (new_start j) j.new (performed j.old j.done)
+  kept_outcome = kept_rows (job_line j) (new_start j) j.new (occurrences_of j)
 
   -- try by the outcome of the rows to 12
   by-outcome : tried j o ≡ cond (eqb (rows_to12 j).number 0) list (stopped (rows_to12 j).number (rows_to12 j).second)
@@ -99,7 +100,7 @@ module _ (j : Job) (o : List ℕ) where
       rows_by t = cond t kept_outcome (refuse (ran j).number (ran j).second)
 
       go : (t : Bool) → eqb (ran j).number 0 ≡ t
-          → cond t (try_rows (job_line j) (new_start j) j.new (performed j.old j.done) o)
+          → cond t (try_rows (job_line j) (new_start j) j.new (occurrences_of j) o)
           (stopped (ran j).number (ran j).second)
           ≡ cond (eqb (rows_by t).number 0) list (stopped (rows_by t).number (rows_by t).second)
       go true e = refl

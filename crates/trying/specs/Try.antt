@@ -3,7 +3,8 @@ use Rattle.std.specs.Prelude.{Bool, true, false, cond, ◌&&◌, List, [], ◌�
 use Rattle.std.proofs.Math.Option.{get_or}
 use Rattle.route.specs.declared.Step.{Step}
 use Rattle.job.specs.Job.{Job, job_line, new_start}
-use Rattle.running.specs.Run.{ran, performed}
+use Rattle.running.specs.Run.{ran}
+use Rattle.occurrences.specs.Occurrences.{occurrences_of}
 use Rattle.precedence.specs.Order.{in_turn}
 use Rattle.matching.specs.Straight.{fire_all, runs_straight}
 use Rattle.matching.specs.KeptRows.{kept_rows}
@@ -36,5 +37,5 @@ try_rows line from new l o =
 unfoldable pub tried : Job → List ℕ → Fired
 tried j o =
     cond (eqb (ran j).number 0)
-    (try_rows (job_line j) (new_start j) j.new (performed j.old j.done) o)
+    (try_rows (job_line j) (new_start j) j.new (occurrences_of j) o)
     (stopped (ran j).number (ran j).second)

@@ -4,6 +4,7 @@
 //!
 //! The seed is fixed; the variable SEED gives another.
 
+mod branches;
 mod compare;
 mod conversions;
 mod convert;

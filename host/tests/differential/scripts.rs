@@ -27,7 +27,7 @@ pub struct Met {
 }
 
 impl Met {
-    fn compare(&mut self, name: &str, script: &str) {
+    pub fn compare(&mut self, name: &str, script: &str) {
         for (operation, answer) in compare_script(name, script) {
             self.operations.add(operation as u32);
             if !WITHOUT_NUMBER.contains(&operation) {

@@ -27,7 +27,7 @@ const HAND_IN: u64 = 20;
 /// More than a sheet has here.
 const ROOM: usize = 20_500;
 
-fn over_records(facts: &Facts, order: &[u8]) -> String {
+pub fn over_records(facts: &Facts, order: &[u8]) -> String {
     let mut script = operation(25, &[facts.text(false)]);
     for (more, text) in [(0, facts.text(false)), (10, facts.text(true))] {
         let mut add = |number: u64, last: &[String]| {

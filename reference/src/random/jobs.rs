@@ -4,7 +4,7 @@
 
 use super::dice::Dice;
 use super::plan::Plan;
-use super::{cloth, mistype, names, reads, redraw, run_at_random, spoil, starts};
+use super::{branches, cloth, mistype, names, reads, redraw, run_at_random, spoil, starts};
 use crate::fit;
 use crate::job::Job;
 use crate::net;
@@ -12,12 +12,15 @@ use crate::sheet::{Route, Sheet, Step};
 
 /// A job: right by the rows to 5, nearly always.
 pub fn job(dice: &mut Dice) -> Sheet {
-    let mut job = match dice.below(23) {
+    let mut job = match dice.below(29) {
         0..=2 => super::sheet(dice),
         3..=6 => searched(dice),
         7 => unchanged(super::sheet(dice)),
-        8..=9 => cutting(dice),
-        10..=12 => round(dice),
+        8..=10 => cutting(dice),
+        11..=13 => round(dice),
+        14..=15 => branches::job(dice),
+        16..=17 => branches::handing(dice),
+        18 => branches::all_the_way(dice),
         _ => {
             let job = of_a_kind(dice);
             cloth::marked(job, dice)
@@ -29,7 +32,7 @@ pub fn job(dice: &mut Dice) -> Sheet {
     if dice.chance(28) {
         twist(&mut job, dice);
     }
-    if dice.chance(7) {
+    if dice.chance(9) {
         mistype::job(&mut job, dice);
     }
     job
@@ -318,7 +321,7 @@ fn beside(dice: &mut Dice) -> Sheet {
 }
 
 /// The step takes a token from this place too, and puts it back.
-fn waits(step: &mut Step, place: u64) {
+pub(super) fn waits(step: &mut Step, place: u64) {
     if step.outs.contains(&place) || step.ins.len() == 8 || step.outs.len() == 8 {
         return;
     }

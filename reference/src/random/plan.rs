@@ -132,7 +132,7 @@ impl Plan {
         Block::of(Kind::Sequence, steps)
     }
 
-    fn empty(dice: &mut Dice) -> Plan {
+    pub(super) fn empty(dice: &mut Dice) -> Plan {
         let mut pool: Vec<u64> = (0..32).collect();
         dice.shuffle(&mut pool);
         pool.truncate(dice.from_to(2, 16));

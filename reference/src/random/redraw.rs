@@ -1,5 +1,5 @@
 //! Small changes to a plan: steps reordered, dropped and added, data and marks
-//! changed, branches made sequential and back.
+//! changed, branches dropped, made sequential and back.
 
 use super::block::{Block, Kind};
 use super::cloth;
@@ -16,16 +16,17 @@ pub fn reorder(plan: &mut Plan, dice: &mut Dice) {
 
 /// One small change of any kind; what is read is still written after it.
 pub fn redraw(plan: &mut Plan, dice: &mut Dice) {
-    match dice.below(26) {
+    match dice.below(29) {
         0..=1 => swap(plan, &|_, _| true, dice),
         2..=7 => swap_unrelated(plan, dice),
-        8..=9 => make(plan, Kind::Sequence, Kind::Parallel, dice),
+        8..=9 => part(plan, dice),
         10..=12 => make(plan, Kind::Parallel, Kind::Sequence, dice),
         13..=15 => drop_step(plan, &|_| true, dice),
         16..=17 => add_step(plan, dice),
         18..=19 => change_data(plan, dice),
         20..=21 => swap_cuts(plan, dice),
         22..=23 => drop_silent(plan, dice),
+        24..=26 => change_branches(plan, dice),
         _ => change_mark(plan, dice),
     }
     plan.mend(dice);
@@ -112,6 +113,11 @@ fn make(plan: &mut Plan, from: Kind, to: Kind, dice: &mut Dice) {
     change_one(&mut plan.tree, dice, &admits, &mut |block| block.kind = to);
 }
 
+/// What stood one after the other stands side by side.
+pub fn part(plan: &mut Plan, dice: &mut Dice) {
+    make(plan, Kind::Sequence, Kind::Parallel, dice);
+}
+
 /// A step that is a part of a sequence, branch or choice goes, if the test admits it.
 fn drop_step(plan: &mut Plan, admits: &dyn Fn(u64) -> bool, dice: &mut Dice) {
     let mut other = Dice::new(dice.roll());
@@ -125,6 +131,27 @@ fn drop_step(plan: &mut Plan, admits: &dyn Fn(u64) -> bool, dice: &mut Dice) {
             .filter(|&part| goes(&block.parts[part]))
             .collect();
         block.parts.remove(steps[other.below(steps.len())]);
+    });
+}
+
+/// A branch goes, or two steps become branches or branches something else.
+pub fn change_branches(plan: &mut Plan, dice: &mut Dice) {
+    let [from, to] = match dice.below(6) {
+        0 => [Kind::Sequence, Kind::Choice],
+        1 => [Kind::Parallel, Kind::Choice],
+        2 => [Kind::Choice, Kind::Sequence],
+        3 => [Kind::Choice, Kind::Parallel],
+        _ => return drop_branch(plan, dice),
+    };
+    make(plan, from, to, dice);
+}
+
+/// A branch goes; of two the other one stays.
+fn drop_branch(plan: &mut Plan, dice: &mut Dice) {
+    let mut other = Dice::new(dice.roll());
+    let branches = |block: &Block| block.kind == Kind::Choice && block.parts.len() > 1;
+    change_one(&mut plan.tree, dice, &branches, &mut |block| {
+        block.parts.remove(other.below(block.parts.len()));
     });
 }
 
@@ -160,6 +187,22 @@ fn change_data(plan: &mut Plan, dice: &mut Dice) {
         data.writes = plan.some_variables(&[10, 50, 30, 10], dice);
     }
     plan.data.insert(name, data);
+}
+
+/// A step that isn't marked and writes nothing reads other variables, or writes one.
+pub fn change_silent(plan: &mut Plan, dice: &mut Dice) {
+    let mut names: Vec<u64> = plan.data.keys().copied().collect();
+    names.retain(|name| !plan.data[name].cloth && plan.data[name].writes.is_empty());
+    let Some(name) = names.get(dice.below(names.len().max(1))) else {
+        return;
+    };
+    let writes = plan.some_variables(&[60, 40], dice);
+    let data = Data {
+        reads: plan.some_variables(&[20, 60, 20], dice),
+        writes,
+        cloth: false,
+    };
+    plan.data.insert(*name, data);
 }
 
 /// A step is marked that wasn't, or isn't any more.

@@ -1,7 +1,9 @@
 //! 01's examples, the rows of its table, orders handed in, slips, 02's names,
 //! shelf, look-up, cloth and starts, 01's version of the layout, sheets between
-//! editions, and readings that nobody writes.
+//! editions, readings that nobody writes, and branches taken.
 
+mod branch_orders;
+mod branches;
 mod cloth;
 mod cloth_text;
 mod common;

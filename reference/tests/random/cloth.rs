@@ -8,7 +8,7 @@ use reference::fit::try_order;
 use reference::job::Job;
 use reference::random::{cloth, damage::damage, orders};
 use reference::sheet::{self, read, MARK};
-use reference::slice;
+use reference::slice::{self, Occurrences};
 
 #[test]
 fn sheets_meet_marks() {
@@ -35,7 +35,8 @@ fn orders_meet_marks() {
     kinds.finish(100);
 }
 
-/// Every cut is kept, and of those that write nothing no other.
+/// Every cut is kept, and of those that write nothing no other, but for one that put a
+/// token which a kept one took.
 #[test]
 fn cuts_are_kept() {
     for_each_sheet("kept cuts", &mut |facts, _| {
@@ -43,11 +44,13 @@ fn cuts_are_kept() {
         let silent = |&o: &usize| job.done[o - 1].writes.is_empty();
         let cuts = slice::cloth(&job.done);
         assert!(cuts.is_subset(&job.kept));
+        let putters = job.kept.iter().flat_map(|&o| job.putters[o - 1].clone());
+        let kept: Occurrences = cuts.iter().copied().chain(putters).collect();
         assert!(job
             .kept
             .iter()
             .filter(|o| silent(o))
-            .all(|o| cuts.contains(o)));
+            .all(|o| kept.contains(o)));
     });
 }
 

@@ -9,7 +9,7 @@ use reference::random::cloth;
 use reference::refusal::Refusal;
 use reference::search;
 use reference::sheet::{Sheet, Step};
-use reference::slice::{self, needs, Occurrences};
+use reference::slice::{self, Occurrences};
 
 /// A job that no row to 9 refuses, beside itself without marks.
 struct Marked<'a> {
@@ -48,14 +48,11 @@ impl Marked<'_> {
 
     /// Whether the same kept have an order when two cuts may change places.
     fn has_an_order_without_marks(&self) -> bool {
-        let Job { sheet, done, .. } = &self.bare;
-        let kept = self.job.kept.clone();
         let job = Job {
-            sheet,
-            done: done.clone(),
-            kept,
+            kept: self.job.kept.clone(),
+            ..self.bare.clone()
         };
-        search::first(&job, &net::start(&sheet.new), &job.kept).is_some()
+        search::first(&job, &net::start(&job.sheet.new), &job.kept).is_some()
     }
 
     /// The unmarked ones that are kept since a cut needs them, at last.
@@ -124,8 +121,8 @@ fn add_kept(kinds: &mut Kinds, marked: &Marked) {
     kinds.add(overwritten, "kept: a cut whose writes nobody needs");
     kinds.add(marked.kept_for_a_cut(), "kept: what a cut needs");
     let chained = any(&|o| {
-        let deep = |n: &usize| !needs(&marked.job.done, *n).is_empty();
-        marked.is_cut(o) && needs(&marked.job.done, o).iter().any(deep)
+        let deep = |n: &usize| !marked.job.needs(*n).is_empty();
+        marked.is_cut(o) && marked.job.needs(o).iter().any(deep)
     });
     kinds.add(chained, "kept: what a cut needs, over and over");
     kinds.add(

@@ -1,8 +1,10 @@
 //! Random sheets, and lists of names: what 01 and 02 say must hold of each of them.
 
+mod branches;
 mod cloth;
 mod convert;
 mod kinds;
+mod kinds_of_branches;
 mod kinds_of_cloth;
 mod kinds_of_convert;
 mod kinds_of_reads;
@@ -17,6 +19,7 @@ mod shelf;
 mod starts;
 mod values;
 mod version;
+mod wrong_branches;
 
 use reference::judge::{judge, Moved, WORK};
 use reference::random::{self, dice::mix, dice::Dice};

@@ -1,13 +1,17 @@
 //! Scripts: worked answers for 01's examples, for wrong records, for shelves, for
-//! look-ups, for cloth, for starts, for sheets between editions and for readings, and
-//! random scripts held to a direct reading of 01's and 02's definitions.
+//! look-ups, for cloth, for starts, for sheets between editions, for readings and for
+//! branches taken, and random scripts held to a direct reading of 01's and 02's
+//! definitions.
 
+mod branches;
 mod cloth;
 mod common;
 mod convert;
 mod direct;
 #[path = "../random/kinds.rs"]
 mod kinds;
+#[path = "../random/kinds_of_branches.rs"]
+mod kinds_of_branches;
 #[path = "../random/kinds_of_cloth.rs"]
 mod kinds_of_cloth;
 #[path = "../random/kinds_of_convert.rs"]
@@ -21,6 +25,7 @@ mod letters;
 mod lookup;
 mod names;
 mod random;
+mod random_branches;
 mod random_cloth;
 mod random_lookups;
 mod random_reads;

@@ -9,7 +9,7 @@ use reference::script::{answer, answers};
 use std::collections::BTreeMap;
 use std::sync::OnceLock;
 
-const SCRIPTS: u64 = 2_000;
+const SCRIPTS: u64 = 2_500;
 
 /// The seed of the random scripts; the variable REFERENCE_SEED gives another.
 fn seed() -> u64 {

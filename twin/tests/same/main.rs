@@ -1,5 +1,6 @@
 //! The twin gives what the second program gives.
 
+mod branches;
 mod convert;
 mod letters;
 mod marks;

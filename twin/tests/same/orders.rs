@@ -9,7 +9,7 @@ const SHEETS: u64 = 20_000;
 
 /// Both answer the order alike.
 #[track_caller]
-fn same(sheet: &[u8], order: &[u8]) -> u32 {
+pub fn same(sheet: &[u8], order: &[u8]) -> u32 {
     let answer = match try_sheet(sheet, order) {
         Ok(marking) => (0, 0, mask(marking)),
         Err(refusal) => (refusal.number, refusal.second as u64, 0),

@@ -1,5 +1,5 @@
--- An inner promise: what the functions of judge say to each other of an answer r. The steps done are l, and t the new
--- route's steps for them.
+-- An inner promise: what the functions of judge say to each other of an answer r. The occurrences are l, and t the
+-- new route's steps for them.
 use Rattle.std.specs.Prelude.{◌≡◌, cond, List, ℕ, length}
 use Rattle.std.proofs.Math.Option.{get_or}
 use Rattle.mask.specs.Mask.{below}

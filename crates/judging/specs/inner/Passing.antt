@@ -7,7 +7,7 @@ use Rattle.matching.specs.KeptRows.{kept_rows}
 use Rattle.matching.specs.inner.Matched.{matched, straight_end}
 use Rattle.preparing.specs.declared.Prepared.{Prepared}
 
--- the steps done are l, and t the new route's steps for them
+-- the occurrences are l, and t the new route's steps for them
 pub record Passing (p : Prepared) (l t : List Step) : Type 0 where
   pub new : List Step
   pub matches-are : t ≡ matched new l

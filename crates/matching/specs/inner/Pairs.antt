@@ -1,4 +1,4 @@
--- The steps done, and the new route's steps for them, as they are handed on.
+-- The occurrences, and the new route's steps for them, as they are handed on.
 use Rattle.std.specs.Prelude.{List}
 use Rattle.flat.specs.Flat.{steps_in}
 use Rattle.route.specs.declared.Step.{Step}

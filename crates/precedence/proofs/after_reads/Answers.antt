@@ -1,7 +1,8 @@
 -- `precedence::after_reads`: what is gathered, and the entries at the variables that are left lack the occurrence.
 use borrow.Author.Rules.{rules}
-use Rattle.precedence.proofs.ByVariable.{gathering-init, gathering-step, gathering-done}
-use Rattle.precedence.proofs.ByVariable.{joining-init, joining-step, joining-done}
+use Rattle.precedence.proofs.ByItem.{gathering-init, gathering-step, gathering-done}
+use Rattle.precedence.proofs.ByItem.{joining-done}
+use Rattle.precedence.proofs.Changing.{joining-init, joining-step}
 use Rattle.precedence.proofs.after_reads.Goals as goal
 
 pub loop-v-init : goal.loop-v-init

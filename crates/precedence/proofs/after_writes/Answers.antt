@@ -2,8 +2,9 @@
 -- occurrence.
 use mathlib.Core.Path.{refl}
 use borrow.Author.Rules.{rules}
-use Rattle.precedence.proofs.ByVariable.{gathering-init, gathering-step, gathering-joined, gathering-both}
-use Rattle.precedence.proofs.ByVariable.{untouched-step, joining-init, joining-step, joining-done}
+use Rattle.precedence.proofs.ByItem.{gathering-init, gathering-step, gathering-joined, gathering-both}
+use Rattle.precedence.proofs.ByItem.{joining-done}
+use Rattle.precedence.proofs.Changing.{untouched-step, joining-init, joining-step}
 use Rattle.precedence.proofs.after_writes.Goals as goal
 
 pub loop-v-init : goal.loop-v-init

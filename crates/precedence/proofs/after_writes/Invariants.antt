@@ -2,13 +2,14 @@
 -- occurrence.
 use mathlib.Core.Path.{◌≡◌}
 use lib.ListN.{length}
-use Rattle.precedence.proofs.ByVariable.{Gathering, Joining, Untouched}
+use Rattle.precedence.proofs.ByItem.{Gathering}
+use Rattle.precedence.proofs.Changing.{Joining, Untouched}
 use Rattle.precedence.proofs.after_writes.Given as goal
 
 abbrev pub invariant-loop-v : goal.invariant-loop-v
 invariant-loop-v l =
     (length l.writers ≡ length l.initial.writers)
-    × (Gathering l.readers l.vars l.v-iterator.left l.read
-    × (Gathering l.initial.writers l.vars l.v-iterator.left l.wrote
+    × (Gathering 32 l.readers l.vars l.v-iterator.left l.read
+    × (Gathering 32 l.initial.writers l.vars l.v-iterator.left l.wrote
     × (Untouched l.v-iterator.left l.initial.writers l.writers
-    × Joining l.initial.writers l.vars l.own l.v-iterator.left l.writers)))
+    × Joining 32 l.initial.writers l.vars l.own l.v-iterator.left l.writers)))

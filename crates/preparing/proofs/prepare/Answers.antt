@@ -17,11 +17,14 @@ pub returns-in_err-g-clause-filled : goal.returns-in_err-g-clause-filled
 returns-in_err-g-clause-filled c = λ passes.
     absurd (run-stops (job_in c.args.job) c.in_err-g.field-0.0 c.in_err-g.ensures.ran passes)
 
+pub narrow-requires : goal.narrow-requires
+narrow-requires c = record { in_bounds = (search lists-fit, search rules) }
+
 pub pairs_of-pairs-requires : goal.pairs_of-pairs-requires
 pairs_of-pairs-requires c = record {
   in_bounds = search rules;
-  filled = gathers-filled (job_in c.args.job) c.in_ok-g.g c.in_ok-g.ensures.ran _ _ c.in_ok-g.ensures.gathers
-      c.requires.lines_pass;
+  filled = gathers-filled (job_in c.args.job) c.in_ok-g.g c.in_ok-g.ensures.ran _ _ _ c.in_ok-g.ensures.gathers
+      c.requires.lines_pass c.narrow.ensures.holds;
 }
 
 pub returns : goal.returns
@@ -32,11 +35,12 @@ returns c =
     let gathers = c.in_ok-g.ensures.gathers in
     let lines = c.requires.lines_pass in
     let line = c.job_line-line.ensures.value in
+    let narrowed = c.narrow.ensures.holds in
     let pairs = c.pairs_of-pairs.ensures in
     record {
-      filled = λ passes. gathers-filled j g ran _ _ gathers lines;
-      rows = rows-weighed j g ran _ _ gathers lines _ line _ pairs _ c.weigh.ensures.rows;
+      filled = λ passes. gathers-filled j g ran _ _ _ gathers lines narrowed;
+      rows = rows-weighed j g ran _ _ _ gathers lines narrowed _ line _ pairs _ c.weigh.ensures.rows;
       prepared =
-          IfOk-weaker c.weigh.result _ _ (prepared-weighed j g ran _ _ gathers lines _ line _ pairs)
+          IfOk-weaker c.weigh.result _ _ (prepared-weighed j g ran _ _ _ gathers lines narrowed _ line _ pairs)
           c.weigh.ensures.weighed;
     }

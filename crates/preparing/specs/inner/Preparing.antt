@@ -4,6 +4,7 @@ use Rattle.flat.specs.Flat.{Holds}
 use Rattle.route.specs.declared.Step.{Step}
 use Rattle.job.specs.Job.{Job, job_line, new_start}
 use Rattle.running.specs.Run.{performed, ran}
+use Rattle.occurrences.specs.Occurrences.{occurrences_of}
 use Rattle.slice.specs.Slice.{variables}
 use Rattle.matching.specs.Fit.{kept_of}
 use Rattle.matching.specs.inner.Matched.{straight_end}
@@ -19,19 +20,19 @@ pub record Weighed (line from : ℕ) (new l : List Step) (p : Prepared) : Type 0
   pub kept-is : p.kept ≡ kept_of new l
   pub vars-are : p.vars ≡ variables new
 
--- the numbers begin with both routes' steps for the done names, at most 64
+-- the numbers begin with the occurrences and the new route's steps for them, at most 64
 pub record Filled (j : Job) (occurrences matches : List ℕ) : Type 0 where
   pub few : length j.done ≤ 64
-  pub done-are : Holds (performed j.old j.done) occurrences
+  pub done-are : Holds (occurrences_of j) occurrences
   pub matches-are : Holds (performed j.new j.done) matches
 
--- both routes' steps for the done names
+-- the occurrences and the new route's steps for them
 pub record PairsOf (j : Job) (x : Pairs) : Type 0 where
-  pub done-are : done_in x ≡ performed j.old j.done
+  pub done-are : done_in x ≡ occurrences_of j
   pub matches-are : matched_in x ≡ performed j.new j.done
 
 -- a job that no row to 12 refuses
 pub record PreparedOf (j : Job) (p : Prepared) (occurrences matches : List ℕ) : Type 0 where
   pub ran-passes : (ran j).number ≡ 0
   pub filled : Filled j occurrences matches
-  pub weighed : Weighed (job_line j) (new_start j) j.new (performed j.old j.done) p
+  pub weighed : Weighed (job_line j) (new_start j) j.new (occurrences_of j) p

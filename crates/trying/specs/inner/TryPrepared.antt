@@ -5,7 +5,7 @@ use Rattle.matching.specs.inner.Matched.{straight_end}
 use Rattle.preparing.specs.declared.Prepared.{Prepared}
 use Rattle.order_entries.specs.inner.Replayable.{Replayable}
 
--- what stands of a job that no row to 12 refuses: l are the steps done, from the new start
+-- what stands of a job that no row to 12 refuses: l are its occurrences, from the new start
 pub record TryPrepared (from : ℕ) (new l : List Step) (p : Prepared) (matches : List Step) : Type 0 where
   pub start_is : p.start.tokens ≡ from
   pub straight-is : p.straight ≡ straight_end from new l

@@ -62,6 +62,7 @@ pub fn cases() -> Vec<Case> {
         case("refused by row 12, last done", changed(), false),
         case("done list follows the route", full(rising), true),
         case("done list in falling order", full(falling), true),
+        case("branches at all places", branches(), false),
         case("long listing, straight", looped(), false),
         case("worst search, no order", worst(), false),
         case("longest sheet", longest(), false),
@@ -154,6 +155,18 @@ fn full(order: fn(Vec<String>) -> String) -> String {
     };
     let done: Vec<u32> = (1_000..1_064).collect();
     both(64, " 0", &order((0..64).map(line).collect()), &done)
+}
+
+/// 64 places in layers of eight. Each step takes from all of a layer and puts to all of the
+/// next, eight steps from each; all are done in turn, round and round.
+fn branches() -> String {
+    let layer = |i: u32| (0..8).map(|at| entry(i % 8 * 8 + at)).collect::<String>();
+    let line = |i: u32| {
+        let (reads, writes) = (entry((i + 31) % 32), entry(i % 32));
+        step(1_000 + i, &layer(i), &layer(i + 1), &reads, &writes)
+    };
+    let done: Vec<u32> = (1_000..1_064).collect();
+    both(64, &layer(0), &(0..64).map(line).collect::<String>(), &done)
 }
 
 /// A step that loops on its place, done 63 times, each after all before.

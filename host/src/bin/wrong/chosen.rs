@@ -83,6 +83,22 @@ pub fn judge(job: &Sheet) -> String {
     on_records(JUDGE, job, &[fill(WORK, 7)])
 }
 
+/// Slice, judge, and try with some orders, by value and lent.
+pub fn every(job: &Sheet, orders: &[&[u8]]) -> String {
+    let tried = orders.iter().map(|order| {
+        let order = [bytes(order)];
+        on_records(TRY, job, &order) + &on_records(TRY + LENT, job, &order)
+    });
+    let parts = [
+        on_records(SLICE, job, &[]),
+        on_records(SLICE + LENT, job, &[]),
+        judge(job),
+        on_records(JUDGE + LENT, job, &[fill(WORK, 7)]),
+        tried.collect(),
+    ];
+    parts.concat()
+}
+
 /// Every operation of this file, as one script.
 pub fn script() -> String {
     [long_jobs(), jobs(), searches(), rows(), sheets()].concat()

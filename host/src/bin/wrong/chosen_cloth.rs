@@ -1,9 +1,7 @@
 //! Jobs with steps that cut cloth: one of these operations tells each edit of what is
 //! kept, of what comes after what or of the marks compared from the right program.
 
-use crate::chosen::{job, judge, on_records, print, route, step, JUDGE, LENT, SLICE, TRY};
-use reference::judge::WORK;
-use reference::script::writing::{bytes, fill};
+use crate::chosen::{every, job, judge, print, route, step};
 use reference::sheet::{Route, Sheet, Step};
 
 /// A step's name, what it reads and writes, and its mark.
@@ -42,22 +40,6 @@ fn chain(steps: &[Work]) -> Route {
 fn all_done(old: &Route, new: &Route) -> Sheet {
     let done: Vec<u64> = old.steps.iter().map(|step| step.name).collect();
     job(old, new, &done)
-}
-
-/// Slice, judge, and try with some orders, by value and lent.
-fn every(job: &Sheet, orders: &[&[u8]]) -> String {
-    let tried = orders.iter().map(|order| {
-        let order = [bytes(order)];
-        on_records(TRY, job, &order) + &on_records(TRY + LENT, job, &order)
-    });
-    let parts = [
-        on_records(SLICE, job, &[]),
-        on_records(SLICE + LENT, job, &[]),
-        judge(job),
-        on_records(JUDGE + LENT, job, &[fill(WORK, 7)]),
-        tried.collect(),
-    ];
-    parts.concat()
 }
 
 /// Cuts that write nothing, straight, with one between them dropped, turned round, on

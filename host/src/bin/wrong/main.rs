@@ -6,6 +6,7 @@
 //! Arguments: names of crates whose edits are run; none means all.
 
 mod chosen;
+mod chosen_branches;
 mod chosen_cloth;
 mod chosen_convert;
 mod chosen_lookups;

@@ -1,8 +1,8 @@
 //! Scripts and the second program's answers to them.
 
 use crate::edit::root;
-use crate::{chosen, chosen_cloth, chosen_convert, chosen_lookups, chosen_marks};
-use crate::{chosen_names, chosen_reads, chosen_shelves, chosen_starts};
+use crate::{chosen, chosen_branches, chosen_cloth, chosen_convert, chosen_lookups};
+use crate::{chosen_marks, chosen_names, chosen_reads, chosen_shelves, chosen_starts};
 use reference::random::dice::{mix, Dice};
 use reference::random::{convert, lookup, script, shelf};
 use reference::script::numbers::MOST_BYTES;
@@ -47,7 +47,7 @@ impl Script {
     }
 }
 
-/// Six by hand, drive's own script among them; then random ones.
+/// Seven by hand, drive's own script among them; then random ones.
 pub fn all() -> Vec<Script> {
     let own = fs::read_to_string(root().join("crates/drive/stdin")).expect("no script of drive's");
     let by_hand = [
@@ -56,6 +56,7 @@ pub fn all() -> Vec<Script> {
         chosen_starts::script(),
         chosen_reads::script(),
         chosen_convert::script(),
+        chosen_branches::script(),
         chosen_cloth::script() + &chosen_marks::script() + TOO_LONG,
     ];
     assert!(by_hand.iter().all(|text| text.len() <= MOST_BYTES));

@@ -14,42 +14,54 @@ use Rattle.slice.specs.Slice.{Sweep, keeps, sweep_step, kept_mask}
 use Rattle.slice.proofs.Sweep.{sweep_from, sweep-end, sweep-on}
 use Rattle.slice.proofs.sweeping.keep.Goals as goal
 
-at-the-end : (l : List Step) (vars i : ℕ) → i ≡ length l → sweep_from l vars i ≡ record { live = vars; kept = 0 }
+at-the-end : (l : List Step) (vars i : ℕ) → i ≡ length l
+    → sweep_from l vars i ≡ record { live = vars; tokens = 0; kept = 0 }
 at-the-end l vars i h = sweep-end l vars i (omega arith)
 
-module _ (l : List Step) (vars i live kept : ℕ) where
+module _ (l : List Step) (vars i live tokens kept : ℕ) where
   abbrev before : Step → Bool → Sweep
   before s t =
       cond t
-      (record { live = bit_or (without live s.writes) s.reads; kept = bit_or kept (bit (i - 1)) })
-      (record { live = live; kept = kept })
+      (record {
+        live = bit_or (without live s.writes) s.reads;
+        tokens = bit_or (without tokens s.outs) s.ins;
+        kept = bit_or kept (bit (i - 1));
+      })
+      (record { live = live; tokens = tokens; kept = kept })
 
   module _
       (some : 0 < i)
-      (inv : sweep_from l vars i ≡ record { live = live; kept = kept })
+      (inv : sweep_from l vars i ≡ record { live = live; tokens = tokens; kept = kept })
       (s : Step)
       (is : s ≡ get_or l (i - 1) blank)
       (t : Bool)
-      (test : (w : Sweep) → w.live ≡ live → t ≡ keeps s w) where
+      (test : (w : Sweep) → w.live ≡ live → w.tokens ≡ tokens → t ≡ keeps s w) where
     one-back : sweep_from l vars (i - 1) ≡ before s t
     unfolding sweep_step
     one-back =
         sweep-on l vars (i - 1)
         ∙ ap₂ (λ (x : Step) (w : Sweep). sweep_step (i - 1) x w) (sym is) (ap (sweep_from l vars) next ∙ inv)
-        ∙ ap (before s) (sym (test (record { live = live; kept = kept }) refl))
+        ∙ ap (before s) (sym (test (record { live = live; tokens = tokens; kept = kept }) refl refl))
       where
         next : suc (i - 1) ≡ i
         next = omega arith
 
-    taken-along : (left b : ℕ) → t ≡ true → left ≡ without live s.writes → b ≡ bit (i - 1)
-        → sweep_from l vars (i - 1) ≡ record { live = bit_or left s.reads; kept = bit_or kept b }
-    taken-along left b yes-kept gone placed = rw (one-back, yes-kept)
-        (sym (λ n. record { live = bit_or (gone n) s.reads; kept = bit_or kept (placed n) }))
+    taken-along : (left put b : ℕ) → t ≡ true → left ≡ without live s.writes → put ≡ without tokens s.outs
+        → b ≡ bit (i - 1)
+        → sweep_from l vars (i - 1)
+        ≡ record { live = bit_or left s.reads; tokens = bit_or put s.ins; kept = bit_or kept b }
+    taken-along left put b yes-kept gone lifted placed = rw (one-back, yes-kept)
+        (sym (λ n. record {
+          live = bit_or (gone n) s.reads;
+          tokens = bit_or (lifted n) s.ins;
+          kept = bit_or kept (placed n);
+        }))
 
-    passed_over : t ≡ false → sweep_from l vars (i - 1) ≡ record { live = live; kept = kept }
+    passed_over : t ≡ false → sweep_from l vars (i - 1) ≡ record { live = live; tokens = tokens; kept = kept }
     passed_over not-kept = rw (one-back, not-kept)
 
-  all-swept : i ≤ 0 → sweep_from l vars i ≡ record { live = live; kept = kept } → kept ≡ kept_mask l vars
+  all-swept : i ≤ 0 → sweep_from l vars i ≡ record { live = live; tokens = tokens; kept = kept }
+      → kept ≡ kept_mask l vars
   unfolding kept_mask
   all-swept h inv = sym (ap (λ (w : Sweep). w.kept) (ap (sweep_from l vars) start ∙ inv))
     where

@@ -8,4 +8,5 @@ use Rattle.slice.proofs.sweeping.keep.Given as goal
 
 abbrev pub invariant-loop-i : goal.invariant-loop-i
 invariant-loop-i l =
-    (l.i ≤ length (steps_in l.occurrences)) × (sweep_from (steps_in l.occurrences) l.vars l.i ≡ record { live = l.live; kept = l.kept })
+    (l.i ≤ length (steps_in l.occurrences))
+    × (sweep_from (steps_in l.occurrences) l.vars l.i ≡ record { live = l.live; tokens = l.tokens; kept = l.kept })

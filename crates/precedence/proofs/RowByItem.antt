@@ -1,5 +1,6 @@
--- A row of the table from the occurrences by variable, and those that cut cloth: the earlier writers of what the
--- occurrence reads, the earlier users of what it writes, and where it cuts the earlier that cut.
+-- A row of the table from the occurrences by variable and by place, and those that cut cloth: the earlier writers of
+-- what the occurrence reads, the earlier users of what it writes, where it cuts the earlier that cut, and the last
+-- putters of the tokens that it took.
 use mathlib.Core.Path.{◌≡◌, refl, sym, ap, ap₂, ◌∙◌}
 use mathlib.Core.Bool.{Bool, true, false, cond, ◌&&◌, ◌||◌, and-true, and-false, or_comm}
 use mathlib.Core.List.{List}
@@ -15,8 +16,8 @@ use Rattle.mask.proofs.Laws.{collect-hit, collect-miss}
 use Rattle.mask.proofs.Sets.{meets-comm, or-meets}
 use Rattle.route.specs.Steps.{blank}
 use Rattle.route.specs.declared.Step.{Step}
-use Rattle.precedence.specs.Precedence.{clash, tied, comes_after, row}
-use Rattle.precedence.specs.inner.ByVariable.{meeting}
+use Rattle.precedence.specs.Precedence.{clash, tied, puts_until, put_for, comes_after, row}
+use Rattle.precedence.specs.inner.ByItem.{meeting}
 use Rattle.precedence.proofs.Rows.{row-exact}
 
 -- what each occurrence reads, what it writes, and both
@@ -66,16 +67,18 @@ cut-more l i s own cut b is e inv gives = ap (bit_or cut) gives ∙ go s.cloth (
 
 -- its own bit is taken off, since it has written when its sources are gathered
 pub row_by :
-    (l : List Step) (i : ℕ) (s : Step) (own cut a b c : ℕ)
+    (l : List Step) (i : ℕ) (s : Step) (own cut a b c d : ℕ)
     → s ≡ get_or l i blank
     → own ≡ bit i
     → cut ≡ collect (cut_by l) i
     → a ≡ meeting (used_by l) s.writes i
     → b ≡ meeting (written_by l) s.reads (i + 1)
     → c ≡ cond s.cloth cut 0
-    → bit_and (bit_or (bit_or a b) c) (own - 1) ≡ row l i
-unfolding meeting comes_after tied
-row_by l i s own cut a b c is e inv p q o = has-ext (bit_and (bit_or (bit_or a b) c) (own - 1)) (row l i) each
+    → d ≡ meeting (puts_until l i) s.ins i
+    → bit_and (bit_or (bit_or (bit_or a b) c) d) (own - 1) ≡ row l i
+unfolding meeting comes_after tied put_for
+row_by l i s own cut a b c d is e inv p q o r =
+    has-ext (bit_and (bit_or (bit_or (bit_or a b) c) d) (own - 1)) (row l i) each
   where
     first : (j : ℕ) → has a j ≡ (ltb j i && meets (used_by l j) s.writes)
     first j = ap (λ (x : ℕ). has x j) p ∙ has-collect (λ (j : ℕ). meets (used_by l j) s.writes) i j
@@ -90,25 +93,30 @@ row_by l i s own cut a b c is e inv p q o = has-ext (bit_and (bit_or (bit_or a b
         go true = ap (λ (x : ℕ). has x j) inv ∙ has-collect (cut_by l) i j
         go false = has-zero j ∙ sym (and-false (ltb j i))
 
+    fourth : (j : ℕ) → has d j ≡ (ltb j i && meets (puts_until l i j) s.ins)
+    fourth j = ap (λ (x : ℕ). has x j) r ∙ has-collect (λ (j : ℕ). meets (puts_until l i j) s.ins) i j
+
     earlier : (j : ℕ) → has (own - 1) j ≡ ltb j i
     earlier j = ap (λ (x : ℕ). has (x - 1) j) e ∙ has-below i j
 
-    table : (t u x y z : Bool) → (t ≡ true → u ≡ true)
-        → ((((t && x) || (u && y)) || (t && z)) && t) ≡ (t && ((y || x) || z))
-    table true u x y z h = rw (h refl) (swap x y z)
+    table : (t u x y z w : Bool) → (t ≡ true → u ≡ true)
+        → (((((t && x) || (u && y)) || (t && z)) || (t && w)) && t) ≡ (t && (((y || x) || z) || w))
+    table true u x y z w h = rw (h refl) (swap x y)
       where
-        swap : (x y z : Bool) → (((x || y) || z) && true) ≡ ((y || x) || z)
-        swap x y z = and-true ((x || y) || z) ∙ ap (λ (t : Bool). t || z) (or_comm x y)
-    table false u x y z h = and-false ((u && y) || false)
+        swap : (x y : Bool) → ((((x || y) || z) || w) && true) ≡ (((y || x) || z) || w)
+        swap x y = and-true (((x || y) || z) || w) ∙ ap (λ (t : Bool). (t || z) || w) (or_comm x y)
+    table false u x y z w h = and-false (((u && y) || false) || false)
 
-    each : (j : ℕ) → has (bit_and (bit_or (bit_or a b) c) (own - 1)) j ≡ has (row l i) j
+    each : (j : ℕ) → has (bit_and (bit_or (bit_or (bit_or a b) c) d) (own - 1)) j ≡ has (row l i) j
     each j =
-        has-and (bit_or (bit_or a b) c) (own - 1) j
+        has-and (bit_or (bit_or (bit_or a b) c) d) (own - 1) j
         ∙ ap₂ (λ (x y : Bool). x && y)
+        (has-or (bit_or (bit_or a b) c) d j ∙ ap₂ (λ (x y : Bool). x || y)
         (has-or (bit_or a b) c j ∙ ap₂ (λ (x y : Bool). x || y)
-        (has-or a b j ∙ ap₂ (λ (x y : Bool). x || y) (first j) (second j)) (third j)) (earlier j)
+        (has-or a b j ∙ ap₂ (λ (x y : Bool). x || y) (first j) (second j)) (third j)) (fourth j)) (earlier j)
         ∙ table (ltb j i) (ltb j (i + 1)) (meets (used_by l j) s.writes) (meets (written_by l j) s.reads)
-        (s.cloth && cut_by l j) (λ h. lt-ltb j (i + 1) (omega (arith, ltb-true j i h)))
-        ∙ ap (λ (t : Bool). ltb j i && (t || (s.cloth && cut_by l j))) (sym (clash-by s (get_or l j blank)))
-        ∙ ap (λ (x : Step). ltb j i && tied x (get_or l j blank)) is
+        (s.cloth && cut_by l j) (meets (puts_until l i j) s.ins) (λ h. lt-ltb j (i + 1) (omega (arith, ltb-true j i h)))
+        ∙ ap₂ (λ (t u : Bool). ltb j i && ((t || (s.cloth && cut_by l j)) || u)) (sym (clash-by s (get_or l j blank)))
+        (meets-comm (puts_until l i j) s.ins)
+        ∙ ap (λ (x : Step). ltb j i && (tied x (get_or l j blank) || meets x.ins (puts_until l i j))) is
         ∙ sym (row-exact l i j)

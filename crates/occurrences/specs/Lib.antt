@@ -1,0 +1,2 @@
+-- The steps done as occurrences.
+pub mod Occurrences
