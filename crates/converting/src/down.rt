@@ -84,7 +84,7 @@ pub fn down(sheet: &[u8], out: &mut [u8]) -> Result<usize, Refusal>
     ensures value { wrote_of result ≡ lowered sheet.now (length out.old) }
     ensures out_after { out.new ≡ out_lowered sheet.now out.old }
 {
-    let mut lists = Lists::empty();
+    let mut lists = Lists::EMPTY;
     let c = read_lists(sheet, &mut lists)?;
     let job = lists.job(c);
     check_nets(Version::PRESENT.numbers, job)?;

@@ -29,7 +29,7 @@ pub fn up(sheet: &[u8], out: &mut [u8]) -> Result<usize, Refusal>
     ensures value { wrote_of result ≡ raised sheet.now (length out.old) }
     ensures out_after { out.new ≡ out_raised sheet.now out.old }
 {
-    let mut lists = Lists::empty();
+    let mut lists = Lists::EMPTY;
     let c = read_lists_by(Version::SCOPE, sheet, &mut lists)?;
     let job = with_implied(lists.job(c));
     check_nets(Version::SCOPE.numbers, job)?;

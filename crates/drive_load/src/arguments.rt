@@ -1,5 +1,5 @@
 // What an argument is made of, each kind by its numbers.
-use crate::{Routes, Script, Stop};
+use crate::{LENT, Routes, Script, Stop};
 use route::{Places, Route, Step};
 
 pub trait Argument: Drop {
@@ -63,10 +63,18 @@ impl Argument for Route {
 
 impl Argument for Routes {
     fn take(script: &mut Script<'_>) -> Result<Routes, Stop> {
+        let old = Route::take(script)?;
+        let new = Route::take(script)?;
+        let len = script.count(LENT)?;
+        let mut done = [0; LENT];
+        for name in done.iter_mut().take(len) {
+            *name = u32::take(script)?;
+        }
         Ok(Routes {
-            old: Route::take(script)?,
-            new: Route::take(script)?,
-            done: script.names()?,
+            old,
+            new,
+            len,
+            done,
         })
     }
 }

@@ -2,7 +2,7 @@
 // are two: a struct of both would be made to be taken apart.
 #![tactic(auto)]
 
-ghost use Rattle.std.specs.Prelude.{◌≤◌, length, IfOk};
+ghost use Rattle.std.specs.Prelude.{◌≡◌, ◌≤◌, length, take, IfOk};
 
 pub mod arguments;
 pub mod stop;
@@ -94,10 +94,20 @@ impl Script<'_> {
     }
 }
 
-// Both routes by value and the done names.
-#[derive(Drop)]
+// Both routes by value and the first `len` of the done names.
+#[derive(Clone, Copy)]
 pub struct Routes {
     pub old: Route,
     pub new: Route,
-    pub done: Vec<u32>,
+    pub len: usize,
+    pub done: [u32; LENT],
+}
+
+impl Routes {
+    // The first `len` names, or all where `len` is more.
+    pub fn done_names(&self) -> &[u32]
+        ensures { result.now ≡ take self.now.len self.now.done }
+    {
+        &self.done[..self.len.min(LENT)]
+    }
 }

@@ -35,7 +35,7 @@ pub fn compare(script: &mut Script<'_>, out: &mut Answer) -> Result<(), Stop> {
     let job = RouteJob {
         old: &r.old,
         new: &r.new,
-        done: &r.done,
+        done: r.done_names(),
     };
     let r = Compared::from(finding::routes::compare(&job));
     Ok(out.list(&[

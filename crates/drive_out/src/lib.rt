@@ -1,27 +1,37 @@
-// What an operation answers, as numbers: a line of the output.
+// What an operation answers, as the text of its numbers: a line of the output. (As numbers the longest answers would
+// take half a mebibyte.)
 #![tactic(auto)]
 
+use itoa::Buffer;
 use std::alloc::{AllocError, Global};
 use std::fmt;
 
+// The numbers with a space between.
 #[derive(Drop)]
 pub struct Answer {
-    numbers: Vec<u64>,
+    text: String,
 }
 
 impl Answer {
     pub fn new(alloc: Global) -> Answer {
         Answer {
-            numbers: Vec::new(alloc),
+            text: String::new(alloc),
         }
     }
 
     pub fn number(&mut self, number: u64) -> Result<(), AllocError> {
-        Ok(self.numbers.push(number)?)
+        if !self.text.is_empty() {
+            self.text.push(' ')?;
+        }
+        let mut digits = Buffer::new();
+        self.text.push_str(digits.format(number))
     }
 
     pub fn list<T: Copy + Into<u64>>(&mut self, list: &[T]) -> Result<(), AllocError> {
-        self.numbers.extend(list.iter().map(|x| (*x).into()))
+        for x in list {
+            self.number((*x).into())?;
+        }
+        Ok(())
     }
 
     // A lent slice afterwards: its length, then runs of the same number, each a count and the number.
@@ -37,15 +47,8 @@ impl Answer {
     }
 }
 
-// The numbers with a space between.
 impl fmt::Display for Answer {
     fn fmt<W: fmt::Write>(&self, f: &mut fmt::Formatter<W>) -> fmt::Result {
-        for (i, number) in self.numbers.iter().enumerate() {
-            if i > 0 {
-                write!(f, " ")?;
-            }
-            write!(f, "{number}")?;
-        }
-        Ok(())
+        f.write_str(&self.text)
     }
 }

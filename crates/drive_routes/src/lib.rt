@@ -22,7 +22,7 @@ pub fn over_routes(op: OverJob, script: &mut Script<'_>, out: &mut Answer) -> Re
     let job = RouteJob {
         old: &r.old,
         new: &r.new,
-        done: &r.done,
+        done: r.done_names(),
     };
     answer(op, &job, script, out)
 }

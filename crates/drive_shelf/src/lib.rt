@@ -35,7 +35,10 @@ fn entry(out: &mut Answer, e: &Edition) -> Result<(), AllocError> {
     let r = &e.route;
     out.number(u64::from(e.number))?;
     out.list(&drive_answers::head(r.places, r.len))?;
-    let records = r.steps.map(|s| drive_answers::record(&s));
+    let mut records = [[0; 6]; Route::STEPS];
+    for (numbers, s) in records.iter_mut().zip(&r.steps) {
+        *numbers = drive_answers::record(s);
+    }
     out.runs(records.as_flattened())
 }
 

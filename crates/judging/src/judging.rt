@@ -83,7 +83,8 @@ pub fn judge_checked(job: FlatJob, work: &mut [u8]) -> Result<Moved, Refusal>
 {
     let mut occurrences = [0u64; 256];
     let mut matches = [0u64; 256];
-    let p = prepare(job, &mut occurrences, &mut matches)?;
+    let p = prepare(job, &mut occurrences, &mut matches);
+    p.rows?;
     let pairs = pairs_of(job, &occurrences, &matches);
     judge_prepared(p, pairs, work)
 }

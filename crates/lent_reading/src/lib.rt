@@ -62,7 +62,7 @@ pub fn read(
     ensures new_list { new.new ≡ overlaid (counts_of result).new_len (read_of sheet.now).new.steps new.old }
     ensures done_list { done.new ≡ overlaid (counts_of result).done_len (read_of sheet.now).done done.old }
 {
-    let mut lists = Lists::empty();
+    let mut lists = Lists::EMPTY;
     let c = read_counted(sheet, &mut lists, old.len(), new.len(), done.len())?;
     fill(old, c.old_len, &lists.old_steps);
     fill(new, c.new_len, &lists.new_steps);

@@ -1,53 +1,44 @@
 -- The whole text in the parts that calls write, and the room that it takes.
 -- Assumes nothing.
-use mathlib.Core.Path.{◌≡◌, refl, sym, ap, ◌∙◌}
+use mathlib.Core.Path.{◌≡◌, sym, ap}
 use mathlib.Core.List.{List, [], ◌∷◌, ◌++◌, append-nil}
 use Prim.Native.Nat.{ℕ, ◌≤◌}
 use native.Mathlib.Omega.{arith}
 use lib.ListN.{length}
-use Rattle.std.specs.Prelude.{Result, Ok, Err}
-use Rattle.refusal.specs.Refusal.{number_of}
-use Rattle.refusal.specs.declared.Refusal.{Refusal}
-use Rattle.refusal.proofs.Answered.{number-some}
-use Rattle.answering.specs.Answer.{judged_of}
-use Rattle.answering.specs.declared.Moved.{Moved}
+use borrow.Author.Tests.{eq-eqb, ne_eqb}
 use Rattle.answering.specs.declared.Judged.{Judged}
 use Rattle.emit.proofs.Chains.{parts, First, Second, Third, Two, Three, first-room, second-room, third-room, two-emits}
 use Rattle.emit.proofs.Chains.{three-emits, room_as}
 use Rattle.listing_lines.specs.Lines.{moved_line, after_lines, order_line, marking_line, value_lines, refused_line}
 use Rattle.listing.specs.Listing.{moved_text, listing}
 
-abbrev pub first_lines : Moved → List ℕ
-first_lines m = moved_line m.kept m.dropped ++ after_lines m.kept m.after
+abbrev pub first_lines : Judged → List ℕ
+first_lines a = moved_line a.kept a.dropped ++ after_lines a.kept a.after
 
-abbrev pub last_lines : Moved → List ℕ
-last_lines m = order_line m.len m.order ++ (marking_line m.marking.tokens ++ value_lines m.writers)
+abbrev pub last_lines : Judged → List ℕ
+last_lines a = order_line a.len a.order ++ (marking_line a.marking.tokens ++ value_lines a.writers)
 
--- a refusal
-module _ (a : Result Moved Refusal) (e : Refusal) (is : a ≡ Err e) (n : ℕ) (own : n ≡ number_of e.row) where
-  pub refusal_is : listing (judged_of a) ≡ refused_line n e.second
+module _ (a : Judged) where
+  pub refusal_is : (a.number ≡ 0 → ⊥) → listing a ≡ refused_line a.number a.second
   unfolding listing
-  refusal_is = rw own (ap (λ (x : Result Moved Refusal). listing (judged_of x)) is ∙ rw (number-some e.row) refl)
+  refusal_is some = rw (ne_eqb a.number 0 some)
 
-  pub refusal-room : First (listing (judged_of a)) (refused_line n e.second)
-  refusal-room o k r = room_as r refusal_is
-
--- a job that moves
-module _ (a : Result Moved Refusal) (m : Moved) (is : a ≡ Ok m) where
-  success-parts : listing (judged_of a) ≡ parts (first_lines m ∷ last_lines m ∷ [])
+  success-parts : a.number ≡ 0 → listing a ≡ parts (first_lines a ∷ last_lines a ∷ [])
   unfolding listing moved_text parts
-  success-parts =
-      ap (λ (x : Result Moved Refusal). listing (judged_of x)) is
-      ∙ ap (λ (t : List ℕ). first_lines m ++ t) (sym (append-nil (last_lines m)))
+  success-parts none = rw (eq-eqb a.number 0 none)
+      (ap (λ (t : List ℕ). first_lines a ++ t) (sym (append-nil (last_lines a))))
 
-  pub success-first : First (listing (judged_of a)) (first_lines m)
-  success-first = first-room _ _ _ success-parts
+  pub refusal-room : (a.number ≡ 0 → ⊥) → First (listing a) (refused_line a.number a.second)
+  refusal-room some o n r = room_as r (refusal_is some)
 
-  pub success-second : Second (listing (judged_of a)) (first_lines m) (last_lines m)
-  success-second = second-room _ _ _ _ success-parts
+  pub success-first : a.number ≡ 0 → First (listing a) (first_lines a)
+  success-first none = first-room _ _ _ (success-parts none)
 
-  pub success-whole : Two (listing (judged_of a)) (first_lines m) (last_lines m)
-  success-whole = two-emits _ _ _ success-parts
+  pub success-second : a.number ≡ 0 → Second (listing a) (first_lines a) (last_lines a)
+  success-second none = second-room _ _ _ _ (success-parts none)
+
+  pub success-whole : a.number ≡ 0 → Two (listing a) (first_lines a) (last_lines a)
+  success-whole none = two-emits _ _ _ (success-parts none)
 
 -- the last lines, in three parts
 module _ (s t u : List ℕ) where

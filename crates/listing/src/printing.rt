@@ -3,10 +3,9 @@ ghost use Rattle.std.specs.Prelude.{◌≡◌, ◌++◌, length, ◌<◌, ◌≤
 ghost use Rattle.emit.specs.Emit.{Room, Emits};
 ghost use Rattle.listing_lines.specs.Lines.{moved_line, after_lines, order_line, marking_line, value_lines};
 ghost use Rattle.out_slice.specs.OutSlice.{wrote_of, wrote_text, out_with};
-ghost use Rattle.answering.specs.Answer.{judged_of};
 ghost use Rattle.listing.specs.Listing.{listing};
 
-use answering::Moved;
+use answering::Judged;
 use listing_lines::{marking_line, moved_line, order_line, refused_line};
 use listing_tables::{after_lines, value_lines};
 use refusal::Refusal;
@@ -14,7 +13,7 @@ use refusal::Refusal;
 // No answer of judge has a longer listing (proofs/Longest.antt).
 const ENOUGH: usize = 7053;
 
-fn first_lines(out: &mut [u8], at: usize, a: Moved) -> usize
+fn first_lines(out: &mut [u8], at: usize, a: Judged) -> usize
     requires { Room (moved_line a.kept a.dropped ++ after_lines a.kept a.after) out.old at }
     ensures { Emits (moved_line a.kept a.dropped ++ after_lines a.kept a.after) out.old at
         out.new result }
@@ -24,7 +23,7 @@ fn first_lines(out: &mut [u8], at: usize, a: Moved) -> usize
     after_lines(out, end, a.kept, &rows)
 }
 
-fn last_lines(out: &mut [u8], at: usize, a: Moved) -> usize
+fn last_lines(out: &mut [u8], at: usize, a: Judged) -> usize
     requires { Room (order_line a.len a.order ++ (marking_line a.marking.tokens ++ value_lines a.writers))
         out.old at }
     ensures { Emits
@@ -38,23 +37,21 @@ fn last_lines(out: &mut [u8], at: usize, a: Moved) -> usize
     value_lines(out, end, &writers)
 }
 
-fn text(out: &mut [u8], at: usize, a: Result<Moved, Refusal>) -> usize
-    requires { Room (listing (judged_of a)) out.old at }
-    ensures { Emits (listing (judged_of a)) out.old at out.new result }
+fn text(out: &mut [u8], at: usize, a: Judged) -> usize
+    requires { Room (listing a) out.old at }
+    ensures { Emits (listing a) out.old at out.new result }
 {
-    match a {
-        Err(e) => refused_line(out, at, e.row.number(), e.second),
-        Ok(m) => {
-            let middle = first_lines(out, at, m);
-            last_lines(out, middle, m)
-        }
+    if a.number != 0 {
+        return refused_line(out, at, a.number, a.second);
     }
+    let middle = first_lines(out, at, a);
+    last_lines(out, middle, a)
 }
 
-pub fn write_listing(a: Result<Moved, Refusal>, out: &mut [u8]) -> Result<usize, Refusal>
-    requires { length (listing (judged_of a)) ≤ 7053 }
-    ensures value { wrote_of result ≡ wrote_text (listing (judged_of a)) (length out.old) }
-    ensures out_after { out.new ≡ out_with (listing (judged_of a)) out.old }
+pub fn write_listing(a: Judged, out: &mut [u8]) -> Result<usize, Refusal>
+    requires { length (listing a) ≤ 7053 }
+    ensures value { wrote_of result ≡ wrote_text (listing a) (length out.old) }
+    ensures out_after { out.new ≡ out_with (listing a) out.old }
 {
     out_slice::write::<ENOUGH, _>(out, |out| text(out, 0, a))
 }

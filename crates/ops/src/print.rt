@@ -4,7 +4,7 @@ ghost use Rattle.answering.specs.Answer.{judged_of};
 ghost use Rattle.out_slice.specs.OutSlice.{wrote_of};
 ghost use Rattle.ops.specs.Print.{sheet_answer, printed, out_printed, work_printed};
 
-use answering::Moved;
+use answering::{Judged, Moved};
 use judging::judging::judge_checked;
 use listing::printing::write_listing;
 use reader::lists::{Lists, read_lists};
@@ -17,7 +17,7 @@ fn answer(sheet: &[u8], work: &mut [u8]) -> Result<Moved, Refusal>
     ensures value { judged_of result ≡ sheet_answer sheet.now }
     ensures work_after { work.new ≡ work_printed sheet.now work.old }
 {
-    let mut lists = Lists::empty();
+    let mut lists = Lists::EMPTY;
     let c = read_lists(sheet, &mut lists)?;
     judge_checked(lists.job(c), work)
 }
@@ -33,5 +33,5 @@ pub fn print(sheet: &[u8], work: &mut [u8], out: &mut [u8]) -> Result<usize, Ref
         return Err(Row::ShortWork.at(0));
     }
     let a = answer(sheet, work);
-    write_listing(a, out)
+    write_listing(Judged::from(a), out)
 }

@@ -13,7 +13,7 @@ use trying::trying::try_checked;
 pub fn try_sheet(sheet: &[u8], order: &[u8]) -> Result<Marking, Refusal>
     ensures { fired_of result ≡ tried_sheet sheet.now order.now }
 {
-    let mut lists = Lists::empty();
+    let mut lists = Lists::EMPTY;
     let c = read_lists(sheet, &mut lists)?;
     try_checked(lists.job(c), order)
 }

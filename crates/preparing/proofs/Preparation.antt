@@ -6,9 +6,9 @@ use Prim.Native.Nat.{ℕ, ◌≤◌, ◌<◌}
 use native.Mathlib.Omega.{arith}
 use lib.ListN.{length}
 use Rattle.mask.specs.Mask.{has}
-use Rattle.std.specs.Prelude.{Ok, Err}
+use Rattle.std.specs.Prelude.{⊤, Result, Ok, Err}
 use Rattle.refusal.specs.Rows.{pass, refuse, first}
-use Rattle.refusal.specs.Refusal.{number_of}
+use Rattle.refusal.specs.Refusal.{number_of, outcome_of}
 use Rattle.refusal.specs.declared.Refusal.{Refusal}
 use Rattle.refusal.specs.declared.Outcome.{Outcome}
 use Rattle.refusal.proofs.Rows.{cond-zero-elim}
@@ -108,16 +108,35 @@ module _ (j : Job) where
             weighed = rw (line-is, gathers.begins.start_is, pairs.done-are) at (weighs matches-of);
           }
 
+  -- the rows to 12 pass: those to 9 do, and it is 10 to 12 that are left
+  rows-parts : pass ≡ rows_to12 j → ((ran j).number ≡ 0) × (rows_to12 j ≡ job_rows)
+  unfolding rows_to12
+  rows-parts rows =
+      cond-zero-elim {R = Outcome} (λ (o : Outcome). o.number) (ran j).number job_rows
+      (refuse (ran j).number (ran j).second) refl (ap (λ (o : Outcome). o.number) (sym rows))
+
+  pub rows-pass : (r : Result ⊤ Refusal) → outcome_of r ≡ rows_to12 j → (u : ⊤) → r ≡ Ok u → pass ≡ rows_to12 j
+  rows-pass r is u ok = ap outcome_of (sym ok) ∙ is
+
+  -- no row to 12 refuses: the done list has run, and all is told
+  pub prepared-of :
+      (p : Prepared) (occurrences matches : List ℕ)
+      → pass ≡ rows_to12 j
+      → ((ran j).number ≡ 0 → Filled j occurrences matches)
+      → ((ran j).number ≡ 0 → Weighed (job_line j) (new_start j) j.new (occurrences_of j) p)
+      → PreparedOf j p occurrences matches
+  prepared-of p occurrences matches rows filled weighed =
+      let runs = (rows-parts rows).0 in
+      record {
+        ran-passes = runs;
+        filled = filled runs;
+        weighed = weighed runs;
+      }
+
   -- no row to 12 refuses
   module _ (p : Prepared) (rows : pass ≡ rows_to12 j) (occurrences matches : List ℕ) (is : PreparedOf j p occurrences matches) where
     pub prepared-rows : job_rows.number ≡ 0
-    unfolding rows_to12
-    prepared-rows =
-        let runs =
-        cond-zero-elim {R = Outcome} (λ (o : Outcome). o.number) (ran j).number job_rows (refuse (ran j).number (ran j).second)
-        refl (ap (λ (o : Outcome). o.number) (sym rows))
-        in
-        ap (λ (o : Outcome). o.number) (sym runs.1 ∙ sym rows)
+    prepared-rows = ap (λ (o : Outcome). o.number) (sym (rows-parts rows).1 ∙ sym rows)
 
     pub steps-few : length (occurrences_of j) ≤ 64
     steps-few = omega (arith, length-occurrences j, is.filled.few)

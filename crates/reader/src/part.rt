@@ -24,7 +24,7 @@ pub fn past_lines(s: &[u8], n: usize) -> usize
 pub fn job_part(sheet: &[u8]) -> &[u8]
     ensures { result.now ≡ job_part sheet.now }
 {
-    let mut lists = Lists::empty();
+    let mut lists = Lists::EMPTY;
     let Ok(c) = read_lists(sheet, &mut lists) else {
         return &sheet[..0];
     };

@@ -26,7 +26,7 @@ fn route_in(places: Places, len: usize, list: &[u64; 256]) -> Route
 fn read_by(v: Version, sheet: &[u8]) -> Result<Records, Refusal>
     ensures { sheet_told result ≡ read_by v sheet.now }
 {
-    let mut lists = Lists::empty();
+    let mut lists = Lists::EMPTY;
     let c = read_lists_by(v, sheet, &mut lists)?;
     let a = route_in(c.old_places, c.old_len, &lists.old_steps);
     let b = route_in(c.new_places, c.new_len, &lists.new_steps);

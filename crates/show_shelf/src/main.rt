@@ -1,6 +1,7 @@
 // Puts three editions of the loft's route on a shelf, and judges one job of the first edition against each later one.
 #![tactic(auto)]
 
+use answering::Judged;
 use refusal::Outcome;
 use route::Route;
 use samples::lines::{end, number};
@@ -21,7 +22,7 @@ fn put(rt: &impl Print, s: &mut Shelf, edition: u32, route: &Route) -> io::Resul
 fn judge(rt: &impl Print, s: &Shelf, edition: u32, target: u32) -> io::Result<()> {
     let done = [10, 20, 30, 40, 50, 55, 60];
     let mut work = [0u8; 8192];
-    let a = shelf::between::judge(s, edition, target, &done, &mut work);
+    let a = Judged::from(shelf::between::judge(s, edition, target, &done, &mut work));
     let mut out = [0u8; 7053];
     let n = listing::printing::write_listing(a, &mut out).unwrap_or(0);
     number(rt, b"judge ", edition as u64)?;

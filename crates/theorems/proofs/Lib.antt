@@ -41,5 +41,6 @@ pub mod StartLines
 pub mod Unwritten
 pub mod UnwrittenAnswers
 pub mod EditionsStored
+pub mod LaidLists
 pub mod Main
 pub mod BetweenEditions

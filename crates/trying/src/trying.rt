@@ -58,7 +58,8 @@ pub fn try_checked(job: FlatJob, order: &[u8]) -> Result<Marking, Refusal>
 {
     let mut occurrences = [0u64; 256];
     let mut matches = [0u64; 256];
-    let p = prepare(job, &mut occurrences, &mut matches)?;
+    let p = prepare(job, &mut occurrences, &mut matches);
+    p.rows?;
     let pairs = pairs_of(job, &occurrences, &matches);
     try_prepared(p, pairs, order)
 }

@@ -5,7 +5,6 @@ use mathlib.Core.List.{List}
 use Prim.Native.Nat.{ℕ, ◌<◌}
 use native.Mathlib.Omega.{arith}
 use lib.ListN.{length}
-use borrow.Author.Rules.{rules}
 use Rattle.mask.specs.Mask.{has}
 use Rattle.route.specs.declared.Step.{Step}
 use Rattle.slice.specs.Slice.{kept_mask}
@@ -16,19 +15,9 @@ use Rattle.preparing.proofs.weigh.Goals as goal
 kept-room : (l : List Step) (vars kept : ℕ) → kept ≡ kept_mask l vars → (i : ℕ) → has kept i ≡ true → i < length l
 kept-room l vars kept e i h = kept-below l vars i (ap (λ (m : ℕ). has m i) (sym e) ∙ h)
 
-pub kept_rows-requires-clause-by_index : goal.kept_rows-requires-clause-by_index
-kept_rows-requires-clause-by_index c =
+pub kept_rows-rows-requires-clause-by_index : goal.kept_rows-rows-requires-clause-by_index
+kept_rows-rows-requires-clause-by_index c =
     λ i h. let low = kept-room _ _ _ c.keep-kept.ensures i h in (omega arith, omega arith)
-
-pub returns-in_err-kept_rows-clause-rows : goal.returns-in_err-kept_rows-clause-rows
-unfolding kept_of
-returns-in_err-kept_rows-clause-rows c =
-    λ is.
-    let kept = c.keep-kept.ensures ∙ ap (kept_mask _) c.variables_of-vars.ensures in
-    let same = c.same_mask-same.ensures _ is in
-    let straight = c.straight_end-straight.ensures _ _ is same in
-    let refused = c.in_err-kept_rows.ensures _ _ _ is kept same straight in
-    search rules
 
 pub returns : goal.returns
 unfolding kept_of
@@ -37,7 +26,7 @@ returns c =
     record {
       rows = λ is.
           let same = c.same_mask-same.ensures _ is in
-          c.in_ok-kept_rows.ensures _ _ _ is kept same (c.straight_end-straight.ensures _ _ is same);
+          c.kept_rows-rows.ensures _ _ _ is kept same (c.straight_end-straight.ensures _ _ is same);
       weighed = λ is.
           record {
             line-is = refl;

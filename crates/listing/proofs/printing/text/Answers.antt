@@ -7,8 +7,8 @@ use Rattle.listing.proofs.printing.text.Goals as goal
 pub refused_line-requires : goal.refused_line-requires
 refused_line-requires c = search (rules, refusal-room)
 
-pub returns-in-Err : goal.returns-in-Err
-returns-in-Err c = search (rules, emits-as, refusal_is)
+pub returns-then-a-ne0 : goal.returns-then-a-ne0
+returns-then-a-ne0 c = search (rules, emits-as, refusal_is)
 
 pub first_lines-middle-requires : goal.first_lines-middle-requires
 first_lines-middle-requires c = search (rules, success-first)
@@ -16,5 +16,5 @@ first_lines-middle-requires c = search (rules, success-first)
 pub last_lines-requires : goal.last_lines-requires
 last_lines-requires c = search (rules, success-second)
 
-pub returns-in-Ok : goal.returns-in-Ok
-returns-in-Ok c = search (rules, success-whole)
+pub returns : goal.returns
+returns c = search (rules, success-whole)
