@@ -4,6 +4,14 @@ use std::fmt;
 use std::fs;
 use std::path::{Path, PathBuf};
 
+/// Edits of what no operation looks at: what `prepare` tells of a refused job, and the
+/// listing of a number that is no row's.
+const UNSEEN: [&str; 3] = [
+    "kept_untold_when_refused",
+    "line_untold_when_refused",
+    "number_of_no_row_cut",
+];
+
 /// The repository.
 pub fn root() -> PathBuf {
     Path::new(env!("CARGO_MANIFEST_DIR")).join("..")
@@ -51,7 +59,7 @@ impl Edit {
         }
     }
 
-    /// Changes code alone, and code that drive reaches: not the C form.
+    /// Changes code alone, and code whose answers drive shows: not the C form.
     pub fn is_driven(&self) -> bool {
         // a clause says one of these words, and no line of code does
         let clause = |text: &str| {
@@ -60,7 +68,9 @@ impl Edit {
                 .any(|word| text.contains(word))
         };
         let code = |change: &Change| change.file.starts_with("src/") && !clause(&change.old);
-        !["engine", "counts"].contains(&self.crate_name.as_str()) && self.changes.iter().all(code)
+        !["engine", "counts"].contains(&self.crate_name.as_str())
+            && !UNSEEN.contains(&self.label.as_str())
+            && self.changes.iter().all(code)
     }
 }
 
