@@ -9,7 +9,7 @@ use std::path::{Path, PathBuf};
 const UNSEEN: [&str; 3] = [
     "kept_untold_when_refused",
     "line_untold_when_refused",
-    "number_of_no_row_cut",
+    "number_of_no_row_not_listed",
 ];
 
 /// The repository.
@@ -22,6 +22,20 @@ pub struct Change {
     pub file: String,
     pub old: String,
     pub new: String,
+}
+
+impl Change {
+    /// Of a function or a constant; else of what is said of them.
+    pub fn is_code(&self) -> bool {
+        self.file.starts_with("src/")
+    }
+
+    /// Of a proof of a function, which names what its code has.
+    fn is_proof(&self) -> bool {
+        ["/Answers.antt", "/Invariants.antt"]
+            .iter()
+            .any(|end| self.file.ends_with(end))
+    }
 }
 
 pub struct Edit {
@@ -59,7 +73,8 @@ impl Edit {
         }
     }
 
-    /// Changes code alone, and code whose answers drive shows: not the C form.
+    /// Changes code, and code whose answers drive shows: not the C form. Lines of its
+    /// proof may come along.
     pub fn is_driven(&self) -> bool {
         // a clause says one of these words, and no line of code does
         let clause = |text: &str| {
@@ -67,10 +82,11 @@ impl Edit {
                 .iter()
                 .any(|word| text.contains(word))
         };
-        let code = |change: &Change| change.file.starts_with("src/") && !clause(&change.old);
+        let code = |change: &Change| change.is_code() && !clause(&change.old);
         !["engine", "counts"].contains(&self.crate_name.as_str())
             && !UNSEEN.contains(&self.label.as_str())
-            && self.changes.iter().all(code)
+            && self.changes.iter().any(code)
+            && self.changes.iter().all(|c| code(c) || c.is_proof())
     }
 }
 

@@ -66,6 +66,7 @@ impl Trial {
         let before: Vec<(PathBuf, String)> = edit
             .changes
             .iter()
+            .filter(|change| change.is_code())
             .map(|change| {
                 let path = own.join(&change.file);
                 let text = fs::read_to_string(&path).expect("an edit of no file");
